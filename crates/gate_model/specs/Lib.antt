@@ -1,2 +1,4 @@
 pub mod Names
 pub mod Table
+pub mod Key
+pub mod Draft

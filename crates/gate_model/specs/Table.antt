@@ -1,6 +1,6 @@
 -- The table of monitored objects: which object two names tell, and what a faulty table is told.
 -- Own rules: the limits, and the order of the faults.
-use Rattle.std.specs.Prelude.{◌≡◌, ℕ, ◌+◌, ◌<◌, ◌≤◌, Bool, true, false, not, ◌&&◌, nat_lt, List, take, length, count_by, slice_get, Option, Some, None, is_some, is_none, option_map, if◌then◌else◌}
+use Rattle.std.specs.Prelude.{◌≡◌, ℕ, ◌+◌, ◌<◌, ◌≤◌, ◌⊎◌, Bool, true, false, not, ◌&&◌, nat_lt, List, take, length, count_by, slice_get, Option, Some, None, is_some, is_none, option_map, if◌then◌else◌}
 use Rattle.std.specs.Str.{bytes_eq}
 use Rattle.std.specs.List.{position_from}
 use Rattle.gate_model.specs.declared.object.Kind.{Kind}
@@ -8,7 +8,7 @@ use Rattle.gate_model.specs.declared.object.Kind.TheVariants.{Host, Service}
 use Rattle.gate_model.specs.declared.object.ObjectId.{ObjectId}
 use Rattle.gate_model.specs.declared.object.ObjectLine.{ObjectLine}
 use Rattle.gate_model.specs.declared.table.TableFault.{TableFault}
-use Rattle.gate_model.specs.declared.table.TableFault.TheVariants.{BadName, NoSuchHost, DuplicateHost, DuplicateService, TooMany}
+use Rattle.gate_model.specs.declared.table.TableFault.TheVariants.{BadName, NoSuchHost, DuplicateHost, DuplicateService, TooMany, OutOfMemory}
 use Rattle.gate_model.specs.declared.table.TheConstants.{LINES, HOSTS, SERVICES_OF_HOST, HOST_NAME, SERVICE_NAME}
 use Rattle.gate_model.specs.Names.{is_name}
 
@@ -95,9 +95,19 @@ pub record IsFaultless (lines : List ObjectLine) : Type 0 where
   pub few : length lines ≤ LINES
   pub each : (i : ℕ) → fault_at lines i ≡ None
 
--- the first faulty line has this fault
+-- the first faulty line, of lines that aren't too many, has this fault
 pub record IsFirstFault (lines : List ObjectLine) (fault : TableFault) : Type 0 where
   pub place : ℕ
   pub few : length lines ≤ LINES
   pub there : fault_at lines place ≡ Some fault
   pub first : (i : ℕ) → i < place → fault_at lines i ≡ None
+
+-- there are too many lines
+pub record IsOverfull (lines : List ObjectLine) (fault : TableFault) : Type 0 where
+  pub many : LINES < length lines
+  pub told : fault ≡ TooMany 0
+
+-- why these lines are no table: there are too many, or the first faulty one tells; want of memory may come at any
+abbrev pub IsFaultOf : List ObjectLine → TableFault → Type 0
+IsFaultOf lines OutOfMemory = Unit {0}
+IsFaultOf lines fault = IsOverfull lines fault ⊎ IsFirstFault lines fault

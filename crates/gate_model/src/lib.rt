@@ -2,7 +2,11 @@
 //! objects, submissions, and records with their outcomes.
 #![tactic(auto)]
 
+mod draft;
+mod key;
 mod moment;
+mod names;
+mod naming;
 mod object;
 mod record;
 mod submission;

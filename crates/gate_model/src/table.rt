@@ -1,6 +1,11 @@
-ghost use Rattle.std.specs.Prelude.{◌≡◌, ◌<◌, ◌≤◌, length, slice_get, option_copied, IsOk, IfErr, IfOk, IfSome};
-ghost use Rattle.gate_model.specs.Table.{object_of, IsFaultless, IsFirstFault};
+//! The table of monitored objects.
 
+ghost use Rattle.std.specs.Prelude.{◌≡◌, ◌<◌, ◌≤◌, List, ℕ, length, slice_get, take, option_copied, IsOk, IfErr, IfOk, IfSome, OnOk, None, Some, ◌↔◌, IsTrue};
+ghost use Rattle.gate_model.specs.Key.{IsIndex};
+ghost use Rattle.gate_model.specs.Table.{object_of, place_of, IsFaultless, IsFaultOf};
+
+use crate::draft::Draft;
+use crate::names::Names;
 use crate::object::{Kind, ObjectId, ObjectLine};
 use std::alloc::Global;
 use std::marker::Model;
@@ -34,40 +39,115 @@ pub struct BuildFault {
     pub lines: Vec<ObjectLine>,
 }
 
-/// The monitored objects.
+/// The monitored objects: hosts and their services, each at its place, counted from 0.
 #[derive(Drop)]
 pub struct ObjectTable {
     lines: Vec<ObjectLine>,
+    names: Names,
 }
 
 impl Model for ObjectTable {
     ghost use Rattle.std.specs.Prelude.{List};
     ghost use Rattle.gate_model.specs.declared.object.ObjectLine.{ObjectLine};
+    ghost use Rattle.gate_model.specs.Key.{IsIndex};
 
     ghost Value = { List ObjectLine };
 
     ghost view = { λ table. table.lines.items };
+
+    ghost invariant = { λ table. IsIndex table.lines.items table.names };
 }
 
 impl ObjectTable {
+    /// The table of these lines. A service may stand anywhere behind its host. Refused are more than
+    /// 16,384 lines, as `TooMany(0)`, and else the first faulty line.
+    pub fn build(alloc: Global, lines: Vec<ObjectLine>) -> Result<ObjectTable, BuildFault>
+        ensures table { IfOk result (λ table. table ≡ lines.items) }
+        ensures faultless { OnOk result (IsFaultless lines.items) }
+
+        ensures kept { IfErr result (λ refused. refused.lines ≡ lines) }
+        ensures fault { IfErr result (λ refused. IsFaultOf lines.items refused.cause) }
+    {
+        match keys_of(alloc, &lines) {
+            Ok(names) => Ok(ObjectTable { lines, names }),
+            Err(cause) => Err(BuildFault { cause, lines }),
+        }
+    }
+
     /// The host of that name.
     pub fn find_host(&self, host: &[u8]) -> Option<ObjectId>
         ensures value { result ≡ object_of self.now host.now None }
-        ensures within { IfSome result (λ id. (id.place < length self.now) × (id.kind ≡ Kind.Host)) }
+        ensures within { IfSome result (λ id. id.place < length self.now) }
     {
-        let place = self
-            .lines
-            .iter()
-            .position(|line| line.service.is_none() && line.host.bytes() == host)?;
-        Some(ObjectId {
-            place: place as u32,
-            kind: Kind::Host,
-        })
+        match self.place(host, None) {
+            Some(place) => Some(ObjectId {
+                place,
+                kind: Kind::Host,
+            }),
+            None => None,
+        }
     }
 
+    /// The service of that name, of the host of that name.
+    pub fn find_service(&self, host: &[u8], service: &[u8]) -> Option<ObjectId>
+        ensures value { result ≡ object_of self.now host.now (Some service.now) }
+        ensures within { IfSome result (λ id. id.place < length self.now) }
+    {
+        match self.place(host, Some(service)) {
+            Some(place) => Some(ObjectId {
+                place,
+                kind: Kind::Service,
+            }),
+            None => None,
+        }
+    }
+
+    /// How many objects there are, 16,384 at most.
+    pub fn len(&self) -> usize
+        ensures len { result ≡ length self.now }
+        ensures faultless { IsFaultless self.now }
+    {
+        self.lines.len()
+    }
+
+    /// Whether there is no object.
+    pub fn is_empty(&self) -> bool
+        ensures { IsTrue result ↔ (length self.now ≡ 0) }
+    {
+        self.lines.is_empty()
+    }
+
+    /// The line of the object at that place.
     pub fn line(&self, place: u32) -> Option<&ObjectLine>
         ensures { option_copied result ≡ slice_get self.now place }
     {
         self.lines.get(place as usize)
     }
+
+    fn place(&self, host: &[u8], service: Option<&[u8]>) -> Option<u32>
+        ensures value { result ≡ place_of self.now host.now (option_copied service.entry) }
+        ensures within { IfSome result (λ place. place < length self.now) }
+    {
+        match self.names.find(host, service) {
+            Some(place) => Some(place as u32),
+            None => None,
+        }
+    }
+}
+
+/// The keys of the lines, or why these are no table.
+fn keys_of(alloc: Global, lines: &[ObjectLine]) -> Result<Names, TableFault>
+    ensures index { IfOk result (IsIndex lines.now) }
+    ensures fault { IfErr result (IsFaultOf lines.now) }
+{
+    if lines.len() > LINES {
+        return Err(TableFault::TooMany(0));
+    }
+    let mut draft = Draft::new(alloc);
+    for i in 0..lines.len() {
+        if let Err(fault) = draft.admit(alloc, lines, i) {
+            return Err(fault);
+        }
+    }
+    Ok(draft.into_names())
 }
