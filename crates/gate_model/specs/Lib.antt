@@ -1,4 +1,10 @@
 pub mod Names
+pub mod Numbers
 pub mod Table
 pub mod Key
 pub mod Draft
+pub mod Moments
+pub mod States
+pub mod Outcomes
+pub mod Objects
+pub mod Meaning

@@ -1,6 +1,7 @@
 //! The table of monitored objects.
 
-ghost use Rattle.std.specs.Prelude.{◌≡◌, ◌<◌, ◌≤◌, List, ℕ, length, slice_get, take, option_copied, IsOk, IfErr, IfOk, IfSome, OnOk, None, Some, ◌↔◌, IsTrue};
+ghost use Rattle.std.specs.Prelude.{◌≡◌, ◌≢◌, ◌<◌, ◌≤◌, List, ℕ, length, slice_get, take, option_copied, IsOk, IfErr, IfOk, IfSome, OnOk, None, Some, ◌↔◌, IsTrue};
+ghost use Rattle.gate_model.specs.declared.table.TableFault.TheVariants.{OutOfMemory};
 ghost use Rattle.gate_model.specs.Key.{IsIndex};
 ghost use Rattle.gate_model.specs.Table.{object_of, place_of, IsFaultless, IsFaultOf};
 
@@ -63,10 +64,11 @@ impl ObjectTable {
     /// 16,384 lines, as `TooMany(0)`, and else the first faulty line.
     pub fn build(alloc: Global, lines: Vec<ObjectLine>) -> Result<ObjectTable, BuildFault>
         ensures table { IfOk result (λ table. table ≡ lines.items) }
-        ensures faultless { OnOk result (IsFaultless lines.items) }
+        ensures faultless { IfOk result (λ table. IsFaultless table) }
 
         ensures kept { IfErr result (λ refused. refused.lines ≡ lines) }
         ensures fault { IfErr result (λ refused. IsFaultOf lines.items refused.cause) }
+        ensures faulty { IfErr result (λ refused. refused.cause ≢ OutOfMemory → ¬ IsFaultless refused.lines.items) }
     {
         match keys_of(alloc, &lines) {
             Ok(names) => Ok(ObjectTable { lines, names }),
@@ -139,6 +141,7 @@ impl ObjectTable {
 fn keys_of(alloc: Global, lines: &[ObjectLine]) -> Result<Names, TableFault>
     ensures index { IfOk result (IsIndex lines.now) }
     ensures fault { IfErr result (IsFaultOf lines.now) }
+    ensures faulty { IfErr result (λ fault. fault ≢ OutOfMemory → ¬ IsFaultless lines.now) }
 {
     if lines.len() > LINES {
         return Err(TableFault::TooMany(0));

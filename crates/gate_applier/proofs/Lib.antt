@@ -1,0 +1,6 @@
+mod ScriptRows
+pub mod BookSteps
+pub mod ScriptSteps
+pub mod ReplaySteps
+pub mod ReplayEnds
+pub mod ReplayTexts

@@ -1,0 +1,11 @@
+pub mod View
+pub mod Standing
+pub mod Parts
+pub mod LogPage
+pub mod Lines
+pub mod ScriptLine
+pub mod Script
+pub mod ScriptParts
+pub mod Faults
+pub mod Replay
+pub mod ReplayParts

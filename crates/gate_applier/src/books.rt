@@ -1,0 +1,96 @@
+ghost use Rattle.std.specs.Prelude.{◌≡◌, ℕ, ◌<◌, List, [], ◌∷◌, length, IfOk};
+ghost use Rattle.gate_model.specs.declared.moment.Moment.{Moment};
+ghost use Rattle.gate_model.specs.declared.submission.Body.TheVariants.{Result as ResultBody};
+ghost use Rattle.gate_model.specs.declared.record.Outcome.TheVariants.{Accepted};
+ghost use Rattle.gate_model.specs.declared.event.ObjectEvent.{ObjectEvent};
+ghost use Rattle.gate_model.specs.declared.event.ObjectEvent.TheVariants.{Result as ResultEvent};
+ghost use Rattle.gate_model.specs.Meaning.{Judged, judgement_of, outcome_for, outcome_at};
+ghost use Rattle.gate_applier.specs.Standing.{kept_state, BooksKeep, BooksStand, BooksFollow};
+
+use gate_model::{Body, ObjectId, ObjectTable, Outcome, Record, State, Text, find_object};
+use std::alloc::{AllocError, Global};
+
+/// What the judged records leave, kept so that it is answered and followed without a scan.
+#[derive(Drop)]
+pub struct Books {
+    /// The state of each object of the table, by its place.
+    pub states: Vec<State>,
+}
+
+impl Books {
+    /// The books of so many objects, before any record.
+    pub fn open(alloc: Global, objects: usize) -> Result<Books, AllocError>
+        ensures count { IfOk result (λ books. length books.states.items ≡ objects) }
+        ensures keep { IfOk result (λ books. BooksKeep [] books) }
+    {
+        Ok(Books {
+            states: vec![in alloc; State::Pending; objects]?,
+        })
+    }
+
+    /// The state of the object at this place, and PENDING where there is none.
+    pub fn state(&self, place: u32) -> State
+        ensures { result ≡ kept_state self.now place }
+    {
+        match self.states.get(place as usize) {
+            Some(state) => *state,
+            None => State::Pending,
+        }
+    }
+
+    /// Judges a record after those before it, and follows it where it is accepted.
+    pub fn judge(&mut self, table: &ObjectTable, applied: &Record) -> Outcome
+        requires { length self.old.states.items ≡ length table.now }
+        ensures outcome { (before : List Judged) → BooksStand table.now before self.old
+            → let body = applied.now.item.body in
+            result ≡ outcome_at table.now before applied.now.moment body }
+        ensures stands { (before : List Judged) → BooksStand table.now before self.old
+            → let after = judgement_of table.now before applied.now ∷ before in
+            BooksStand table.now after self.new }
+        ensures count { length self.new.states.items ≡ length self.old.states.items }
+    {
+        match &applied.item.body {
+            Body::Result {
+                host,
+                service,
+                code,
+                ..
+            } => self.judge_result(table, host, service, *code),
+        }
+    }
+
+    /// A passive check result.
+    fn judge_result(
+        &mut self,
+        table: &ObjectTable,
+        host: &Text,
+        service: &Option<Text>,
+        code: i16,
+    ) -> Outcome
+        requires { length self.old.states.items ≡ length table.now }
+        ensures outcome { result ≡ outcome_for table.now host.now service.now (λ place. Accepted) }
+        ensures follows { (output : List ℕ)
+            → let body = ResultBody host.now service.now code output in
+            BooksFollow table.now body result self.old self.new }
+        ensures count { length self.new.states.items ≡ length self.old.states.items }
+    {
+        match find_object(table, host, service) {
+            Err(refusal) => refusal,
+            Ok(object) => {
+                self.take_result(object, State::of_code(object.kind, code));
+                Outcome::Accepted
+            }
+        }
+    }
+
+    /// A result of an object of the table.
+    fn take_result(&mut self, object: ObjectId, state: State)
+        requires { object.place < length self.old.states.items }
+        ensures keeps { (history : List ObjectEvent) (moment : Moment) (log_place : ℕ)
+            → BooksKeep history self.old
+            → BooksKeep (ResultEvent object.place state moment log_place ∷ history) self.new }
+        ensures count { length self.new.states.items ≡ length self.old.states.items }
+    {
+        self.states[object.place as usize] = state;
+    }
+}

@@ -1,0 +1,188 @@
+use crate::{Applier, OpenCause, PrepareCause};
+use gate_model::{
+    Body, Kind, Moment, Numbered, ObjectId, ObjectLine, ObjectTable, Outcome, State, Text,
+    plain_outcomes, plain_state,
+};
+use std::alloc::{AllocError, Global};
+use std::test::Fail;
+
+const WEB1: ObjectId = ObjectId {
+    place: 0,
+    kind: Kind::Host,
+};
+
+const HTTP: ObjectId = ObjectId {
+    place: 1,
+    kind: Kind::Service,
+};
+
+fn text(alloc: Global, name: &str) -> Result<Text, AllocError> {
+    Text::copied(alloc, name.as_bytes())
+}
+
+fn optional(alloc: Global, name: Option<&str>) -> Result<Option<Text>, AllocError> {
+    match name {
+        None => Ok(None),
+        Some(name) => Ok(Some(text(alloc, name)?)),
+    }
+}
+
+fn line(alloc: Global, service: Option<&str>) -> Result<ObjectLine, AllocError> {
+    Ok(ObjectLine {
+        host: text(alloc, "web1")?,
+        service: optional(alloc, service)?,
+        threshold: 300,
+    })
+}
+
+/// The host `web1` at place 0 and its service `HTTP` at place 1.
+fn table(alloc: Global) -> Result<ObjectTable, Fail> {
+    let mut lines = Vec::new(alloc);
+    lines.push(line(alloc, None)?)?;
+    lines.push(line(alloc, Some("HTTP"))?)?;
+    Ok(ObjectTable::build(alloc, lines)?)
+}
+
+fn result(
+    alloc: Global,
+    host: &str,
+    service: Option<&str>,
+    code: i16,
+) -> Result<Numbered, AllocError> {
+    Ok(Numbered {
+        client: 1,
+        number: 1,
+        body: Body::Result {
+            host: text(alloc, host)?,
+            service: optional(alloc, service)?,
+            code,
+            output: text(alloc, "")?,
+        },
+    })
+}
+
+/// A result: its host, its service, its code and the clock's moment.
+type Told<'a> = (&'a str, Option<&'a str>, i16, u32);
+
+/// An applier that was opened at 1000, with these results applied.
+fn applied(alloc: Global, limit: u32, results: &[Told]) -> Result<Applier, Fail> {
+    let opened = Applier::open(alloc, table(alloc)?, Moment(1000), limit);
+    let mut applier = opened.map_err(|fault| fault.cause)?;
+    for (host, service, code, now) in results {
+        let ready = applier.prepare().map_err(|fault| fault.cause)?;
+        let item = result(alloc, host, *service, *code)?;
+        applier = ready.apply(item, Moment(*now)).0;
+    }
+    Ok(applier)
+}
+
+#[test]
+fn a_service_code_below_0_is_unknown_and_a_host_code_of_3_is_down(
+    rt: HostRuntime,
+) -> Result<(), Fail> {
+    let none = applied(rt.alloc(), 10, &[])?;
+    assert_eq!(rt; none.state(HTTP), State::Pending);
+    let results = [("web1", Some("HTTP"), -1, 1100), ("web1", None, 3, 1100)];
+    let applier = applied(rt.alloc(), 10, &results)?;
+    assert_eq!(rt;
+        applier.outcomes(),
+        [Outcome::Accepted, Outcome::Accepted].as_slice()
+    );
+    assert_eq!(rt; applier.state(HTTP), State::Unknown);
+    assert_eq!(rt; applier.state(WEB1), State::Down);
+    Ok(())
+}
+
+#[test]
+fn a_clock_that_goes_back_records_at_the_latest_moment(rt: HostRuntime) -> Result<(), Fail> {
+    let results = [
+        ("web1", Some("HTTP"), 0, 1400),
+        ("web1", Some("HTTP"), 0, 1390),
+    ];
+    let applier = applied(rt.alloc(), 10, &results)?;
+    for applied in applier.records() {
+        assert_eq!(rt; applied.moment, Moment(1400));
+    }
+    assert_eq!(rt; applier.moment(), Moment(1400));
+    assert_eq!(rt; applier.opening(), Moment(1000));
+    Ok(())
+}
+
+#[test]
+fn a_full_log_hands_the_applier_back(rt: HostRuntime) -> Result<(), Fail> {
+    let results = [("web1", None, 0, 1100), ("web1", None, 1, 1100)];
+    let Err(fault) = applied(rt.alloc(), 2, &results)?.prepare() else {
+        return Err(Fail::new("a third record was prepared"));
+    };
+    assert_eq!(rt; fault.cause, PrepareCause::LogFull);
+    assert_eq!(rt; fault.applier.records().len(), 2);
+    assert_eq!(rt; fault.applier.state(WEB1), State::Down);
+    Ok(())
+}
+
+#[test]
+fn a_log_is_limited_to_1_to_1000000_records(rt: HostRuntime) -> Result<(), Fail> {
+    for limit in [0, 1_000_001, u32::MAX] {
+        let table = table(rt.alloc())?;
+        let Err(fault) = Applier::open(rt.alloc(), table, Moment(1000), limit) else {
+            return Err(Fail::new("a bad limit was taken"));
+        };
+        assert_eq!(rt; fault.cause, OpenCause::BadLimit, "at {limit}");
+        assert_eq!(rt; fault.table.len(), 2, "at {limit}");
+    }
+    for limit in [1, 1_000_000] {
+        assert_eq!(rt; applied(rt.alloc(), limit, &[])?.limit(), limit);
+    }
+    Ok(())
+}
+
+#[test]
+fn room_that_is_given_back_changes_nothing(rt: HostRuntime) -> Result<(), Fail> {
+    let applier = applied(rt.alloc(), 2, &[("web1", None, 2, 1100)])?;
+    let applier = applier.prepare().map_err(|fault| fault.cause)?.give_back();
+    assert_eq!(rt; applier.records().len(), 1);
+    assert_eq!(rt; applier.table().len(), 2);
+    assert_eq!(rt; applier.state(WEB1), State::Unreachable);
+    Ok(())
+}
+
+#[rattlefmt::skip]
+const HISTORY: [Told; 12] = [
+    // host   service       code   clock
+    ("web1",  None,            0,  1001),
+    ("web1",  Some("HTTP"),    2,  1002),
+    ("db1",   None,            1,  1003),
+    ("web1",  Some("FTP"),     0,  1004),
+    ("web1",  Some("HTTP"),   -1,   990),
+    ("web1",  None,            2,  1010),
+    ("db1",   Some("HTTP"),    0,  1009),
+    ("web1",  Some("HTTP"),    1,  1020),
+    ("web1",  None,        32767,  1020),
+    ("",      None,            0,  1021),
+    ("web1",  Some(""),        2,  1022),
+    ("web1",  Some("HTTP"),    0,  1023),
+];
+
+/// Whether the applier answers what plain scans of its records find, also beside the table.
+fn agrees(alloc: Global, applier: &Applier) -> Result<bool, AllocError> {
+    let (table, records) = (applier.table(), applier.records());
+    let outcomes = plain_outcomes(alloc, table, records)?;
+    let mut same = applier.outcomes() == outcomes.as_slice();
+    for place in 0..3 {
+        let object = ObjectId {
+            place,
+            kind: Kind::Host,
+        };
+        same = same && applier.state(object) == plain_state(table, records, object);
+    }
+    Ok(same)
+}
+
+#[test]
+fn the_applier_answers_what_plain_scans_find(rt: HostRuntime) -> Result<(), Fail> {
+    for count in 0..=HISTORY.len() {
+        let applier = applied(rt.alloc(), 100, &HISTORY[..count])?;
+        assert!(rt; agrees(rt.alloc(), &applier)?, "after {count} records");
+    }
+    Ok(())
+}

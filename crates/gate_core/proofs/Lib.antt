@@ -1,0 +1,10 @@
+pub mod Merges
+pub mod Counts
+pub mod Places
+pub mod Runs
+pub mod Endings
+pub mod Standing
+pub mod Steps
+pub mod Calls
+pub mod Pairs
+pub mod Taken

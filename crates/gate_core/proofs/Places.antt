@@ -1,0 +1,37 @@
+-- Lists by place: after a write, and behind their first elements.
+use Rattle.std.proofs.Common.{◌≡◌, ◌≢◌, ℕ, zero, suc, List, [], ◌∷◌, ◌++◌, length, drop, Some, None, refl, ap}
+use Rattle.std.specs.Prelude.{slice_get, slice_set}
+
+-- the place of a write has what was written
+pub slice_get-set_same : {X : Type 0} (xs : List X) (place : ℕ) (x y : X) → slice_get xs place ≡ Some x → slice_get (slice_set xs place y) place ≡ Some y
+slice_get-set_same [] place x y e = absurd (cc)
+slice_get-set_same (z ∷ zs) zero x y e = refl
+slice_get-set_same (z ∷ zs) (suc place) x y e = slice_get-set_same zs place x y e
+
+-- each other place has what it had
+pub slice_get-set_other : {X : Type 0} (xs : List X) (place other : ℕ) (y : X) → other ≢ place → slice_get (slice_set xs place y) other ≡ slice_get xs other
+slice_get-set_other [] place other y ne = refl
+slice_get-set_other (z ∷ zs) zero zero y ne = absurd (ne refl)
+slice_get-set_other (z ∷ zs) zero (suc other) y ne = refl
+slice_get-set_other (z ∷ zs) (suc place) zero y ne = refl
+slice_get-set_other (z ∷ zs) (suc place) (suc other) y ne = slice_get-set_other zs place other y (λ e. ne (ap suc e))
+
+-- behind a front there is the rest
+pub drop-front : {X : Type 0} (xs ys : List X) → drop (length xs) (xs ++ ys) ≡ ys
+drop-front [] ys = refl
+drop-front (x ∷ xs) ys = drop-front xs ys
+
+-- the first element of the rest is at the front's length
+pub slice_get-front : {X : Type 0} (xs ys : List X) → slice_get (xs ++ ys) (length xs) ≡ slice_get ys 0
+slice_get-front [] ys = refl
+slice_get-front (x ∷ xs) ys = slice_get-front xs ys
+
+-- a list that has a first element has a rest too
+pub first_and_rest : {X : Type 0} (xs : List X) (x : X) → slice_get xs 0 ≡ Some x → xs ≡ x ∷ drop 1 xs
+first_and_rest [] x e = absurd (cc)
+first_and_rest (z ∷ zs) x e = let same : z ≡ x = cc in ap (λ y. y ∷ zs) same
+
+-- a list without a first element is empty
+pub no_first : {X : Type 0} (xs : List X) → slice_get xs 0 ≡ None → xs ≡ []
+no_first [] e = refl
+no_first (z ∷ zs) e = absurd (cc)

@@ -1,0 +1,22 @@
+-- What holds of every legal run.
+use Rattle.std.specs.Prelude.{◌≡◌, ℕ, ◌∷◌, ◌++◌, None, true, false}
+use Rattle.std.specs.List.{list_any}
+use Rattle.gate_core.specs.declared.event.Event.TheVariants.{Look, Take}
+use Rattle.gate_core.specs.declared.event.Reply.TheVariants.{Open, Empty}
+use Rattle.gate_core.specs.Merge.{IsClient}
+use Rattle.gate_core.specs.Legal.{Run, first_close, has_joined, is_own}
+
+-- the run has a look of the client, answered Open, which stands before every close, and no own event of the client since
+pub record FollowsOpenLook (client : ℕ) (run : Run) : Type 0 where
+  pub since : Run
+  pub before : Run
+  pub parts : run ≡ since ++ (Look client, Open) ∷ before
+  pub no_close_before : first_close before ≡ None
+  pub no_own_event_since : list_any (λ pair. is_own client pair.0) since ≡ false
+
+-- the run has a take answered Empty, before which every client was taken in
+pub record IsDrained (clients : ℕ) (run : Run) : Type 0 where
+  pub since : Run
+  pub before : Run
+  pub parts : run ≡ since ++ (Take, Empty) ∷ before
+  pub all_joined : (client : ℕ) → IsClient clients client → has_joined client before ≡ true

@@ -1,0 +1,27 @@
+ghost use Rattle.std.specs.Prelude.{◌≡◌, ◌++◌, ◌∷◌, ℕ, length};
+ghost use Rattle.gate_model.specs.declared.submission.Body.{Body};
+ghost use Rattle.gate_core.specs.declared.event.Event.TheVariants.{Push};
+ghost use Rattle.gate_core.specs.declared.event.Reply.TheVariants.{Queued};
+ghost use Rattle.gate_core.specs.Merge.{IsMerge, IsCoreState};
+ghost use Rattle.gate_core.specs.Legal.{Run, Limits, IsLegal, queued, taken, waiting};
+ghost use Rattle.gate_core.specs.Law.{FollowsOpenLook, IsDrained};
+ghost use Rattle.gate_core.specs.State.{WorldState, StandsAfter, number_taken};
+
+/// What holds of every legal run, and so of every run that a World plays: nothing is lost, made or
+/// put out of order, whatever the events are.
+pub fn conservation()
+    // What was taken, followed by what waits, is a merge of what each client was told is queued.
+    ensures merge { (limits : Limits) (run : Run) → IsLegal limits run →
+        IsCoreState limits.clients limits.quota limits.capacity (λ client. queued client run) (taken run) (waiting run) }
+
+    // A client whose push is queued had looked before every close, and did nothing else since.
+    ensures looked { (limits : Limits) (later run : Run) (client number : ℕ) (body : Body) →
+        IsLegal limits (later ++ (Push client body, Queued number) ∷ run) → FollowsOpenLook client run }
+
+    // Once all clients were taken in and the queue was found empty, nothing is left to take.
+    ensures drained { (limits : Limits) (run : Run) → IsLegal limits run → IsDrained limits.clients run →
+        IsMerge limits.clients (λ client. queued client run) (taken run) }
+
+    // What a World shows as taken is what its run says.
+    ensures counted { (world : WorldState) (run : Run) → StandsAfter world run → number_taken world ≡ length (taken run) }
+{}

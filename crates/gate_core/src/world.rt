@@ -1,0 +1,284 @@
+ghost use Rattle.std.specs.Prelude.{◌≡◌, ◌<◌, [], ◌∷◌, ◌++◌, length, slice_get, drop, true, Some, unwrap_or, IsSome, IfSome, IfNone, IfOk};
+ghost use Rattle.gate_core.specs.State.{Extends};
+ghost use Rattle.gate_core.specs.Calls.{seat_of, with_seat, with_queue, with_close, is_open_seat, is_ready_seat, is_leaving_seat, after_look, after_end, after_taking_in, PushGives, reply_of_push};
+ghost use Rattle.gate_core.specs.Opening.{limits, new_world};
+ghost use Rattle.gate_core.specs.Legal.{look_reply, take_reply, close_reply};
+
+use crate::event::{Event, PushFault, Reply};
+use crate::seat::{NEW_SEAT, Seat};
+use gate_model::{Body, Moment, Numbered};
+use std::alloc::{AllocError, Global};
+use std::collections::VecDeque;
+use std::marker::Model;
+
+/// The queue, its clients and its close. Contracts see what it was opened with, the queue, the
+/// moment of the first close and a seat for each client.
+#[derive(Drop)]
+pub struct World {
+    clients: u32,
+    capacity: usize,
+    quota: u32,
+    seats: Vec<Seat>,
+    queue: VecDeque<Numbered>,
+    closed: Option<Moment>,
+}
+
+impl Model for World {
+    ghost use Rattle.std.specs.Prelude.{◌≡◌, ◌≤◌, length};
+    ghost use Rattle.std.specs.VecDeque.{deque_capacity};
+    ghost use Rattle.gate_core.specs.State.{WorldState};
+
+    ghost Value = { WorldState };
+
+    ghost view = { λ w. record {
+      limits = record { clients = w.clients; quota = w.quota; capacity = w.capacity };
+      queue = w.queue.items;
+      closed = w.closed;
+      seats = w.seats.items;
+    } };
+
+    ghost invariant = { λ w. (length w.seats.items ≡ w.clients) × (w.capacity ≤ deque_capacity w.queue) };
+}
+
+impl World {
+    /// A World in which nothing has happened, with all the room that it will need.
+    pub(crate) fn empty(
+        alloc: Global,
+        clients: u32,
+        capacity: usize,
+        quota: u32,
+    ) -> Result<World, AllocError>
+        ensures { IfOk result (λ world. world ≡ new_world (limits clients quota capacity)) }
+    {
+        Ok(World {
+            clients,
+            capacity,
+            quota,
+            seats: Vec::from_elem(alloc, NEW_SEAT, clients as usize)?,
+            queue: VecDeque::with_capacity(alloc, capacity)?,
+            closed: None,
+        })
+    }
+
+    // The client's seat, if the World has one for it.
+    fn seat(&self, client: u32) -> Option<Seat>
+        ensures { result ≡ seat_of self.now client }
+    {
+        let place = client.checked_sub(1)?;
+        self.seats.get(place as usize).copied()
+    }
+
+    // Gives a client another seat.
+    fn put_seat(&mut self, client: u32, seat: Seat)
+        requires { IsSome (seat_of self.old client) }
+        ensures new { self.new ≡ with_seat self.old client seat }
+        ensures there { seat_of self.new client ≡ Some seat }
+    {
+        self.seats[client as usize - 1] = seat;
+    }
+
+    // Puts an item behind those of the queue. Its room was taken at the opening.
+    fn put_last(&mut self, item: Numbered)
+        requires { length self.old.queue < self.old.limits.capacity }
+        ensures { self.new ≡ with_queue self.old (self.old.queue ++ item ∷ []) }
+    {
+        self.queue.push_back_reserved(item);
+    }
+
+    /// Whether the client is one of the World's, and hasn't ended.
+    pub(crate) fn is_open(&self, client: u32) -> bool
+        ensures { result ≡ is_open_seat (seat_of self.now client) }
+    {
+        self.seat(client).is_some_and(|seat| !seat.ended)
+    }
+
+    /// Whether the client hasn't ended, and its last own event is a look answered Open.
+    pub(crate) fn is_ready(&self, client: u32) -> bool
+        ensures { result ≡ is_ready_seat (seat_of self.now client) }
+    {
+        self.seat(client)
+            .is_some_and(|seat| !seat.ended && seat.looked)
+    }
+
+    /// A look of an open client: the moment of the first close, if there was one.
+    pub(crate) fn look(&mut self, client: u32) -> Option<Moment>
+        requires { is_open_seat (seat_of self.old client) ≡ true }
+        ensures tells { result ≡ self.old.closed }
+        ensures after { IfSome (seat_of self.old client) (λ seat.
+            self.new ≡ with_seat self.old client (after_look self.old.closed seat)) }
+        ensures open { is_open_seat (seat_of self.new client) ≡ true }
+        ensures ready { IfNone result (is_ready_seat (seat_of self.new client) ≡ true) }
+        ensures stands { Extends self.old (Event.Look client) (look_reply result) self.new }
+    {
+        let seat = self.seat(client).unwrap();
+        let first = self.closed;
+        let looked = first.is_none();
+        self.put_seat(client, Seat { looked, ..seat });
+        first
+    }
+
+    /// A push of a client that has looked: the number of its item.
+    pub(crate) fn push(&mut self, client: u32, body: Body) -> Result<u64, PushFault>
+        requires { is_ready_seat (seat_of self.old client) ≡ true }
+        ensures gives { IfSome (seat_of self.old client) (λ seat.
+            PushGives self.old client seat body result self.new) }
+        ensures open { is_open_seat (seat_of self.new client) ≡ true }
+        ensures stands { Extends self.old (Event.Push client body) (reply_of_push result) self.new }
+    {
+        let seat = self.seat(client).unwrap();
+        let seen = Seat {
+            looked: false,
+            ..seat
+        };
+        if seat.count >= self.quota {
+            self.put_seat(client, seen);
+            return Err(PushFault::Spent(body));
+        }
+        if self.queue.len() >= self.capacity {
+            self.put_seat(client, seen);
+            return Err(PushFault::Full(body));
+        }
+        let count = seat.count + 1;
+        let number = u64::from(count);
+        self.put_seat(client, Seat { count, ..seen });
+        self.put_last(Numbered {
+            client,
+            number,
+            body,
+        });
+        Ok(number)
+    }
+
+    /// The oldest item of the queue, which leaves it.
+    pub(crate) fn take(&mut self) -> Option<Numbered>
+        ensures oldest { result ≡ slice_get self.old.queue 0 }
+        ensures after { self.new ≡ with_queue self.old (drop 1 self.old.queue) }
+        ensures stands { Extends self.old Event.Take (take_reply result) self.new }
+    {
+        self.queue.pop_front()
+    }
+
+    /// A close: the moment of the first one, if there was one before.
+    pub(crate) fn close(&mut self, moment: Moment) -> Option<Moment>
+        ensures first { result ≡ self.old.closed }
+        ensures after { self.new ≡ with_close self.old (Some (unwrap_or self.old.closed moment)) }
+        ensures stands { Extends self.old (Event.Close moment) (close_reply result) self.new }
+    {
+        let first = self.closed;
+        self.closed = Some(first.unwrap_or(moment));
+        first
+    }
+
+    /// The end of an open client.
+    pub(crate) fn end(&mut self, client: u32)
+        requires { is_open_seat (seat_of self.old client) ≡ true }
+        ensures after { IfSome (seat_of self.old client) (λ seat.
+            self.new ≡ with_seat self.old client (after_end seat)) }
+        ensures stands { Extends self.old (Event.End client) Reply.Ended self.new }
+    {
+        let seat = self.seat(client).unwrap();
+        self.put_seat(
+            client,
+            Seat {
+                looked: false,
+                ended: true,
+                ..seat
+            },
+        );
+    }
+
+    /// Whether the client has ended, and wasn't taken in.
+    pub(crate) fn is_leaving(&self, client: u32) -> bool
+        ensures { result ≡ is_leaving_seat (seat_of self.now client) }
+    {
+        self.seat(client)
+            .is_some_and(|seat| seat.ended && !seat.joined)
+    }
+
+    /// The taking in of a client that has ended.
+    pub(crate) fn take_in(&mut self, client: u32)
+        requires { is_leaving_seat (seat_of self.old client) ≡ true }
+        ensures after { IfSome (seat_of self.old client) (λ seat.
+            self.new ≡ with_seat self.old client (after_taking_in seat)) }
+        ensures stands { Extends self.old (Event.TakeIn client) Reply.Joined self.new }
+    {
+        let seat = self.seat(client).unwrap();
+        self.put_seat(
+            client,
+            Seat {
+                joined: true,
+                ..seat
+            },
+        );
+    }
+
+    /// Plays one event. It takes no memory.
+    pub fn play(&mut self, event: Event) -> Reply
+        ensures stands { Extends self.old event result self.new }
+        ensures limits { self.new.limits ≡ self.old.limits }
+    {
+        match event {
+            Event::Look(client) => self.reply_to_look(client),
+            Event::Push(client, body) => self.reply_to_push(client, body),
+            Event::Take => match self.take() {
+                Some(item) => Reply::Taken(item),
+                None => Reply::Empty,
+            },
+            Event::Close(moment) => match self.close(moment) {
+                None => Reply::Begun,
+                Some(first) => Reply::AlreadyClosing(first),
+            },
+            Event::End(client) => self.reply_to_end(client),
+            Event::TakeIn(client) => self.reply_to_taking_in(client),
+        }
+    }
+
+    fn reply_to_look(&mut self, client: u32) -> Reply
+        ensures stands { Extends self.old (Event.Look client) result self.new }
+        ensures limits { self.new.limits ≡ self.old.limits }
+    {
+        if !self.is_open(client) {
+            return Reply::Ignored(None);
+        }
+        match self.look(client) {
+            None => Reply::Open,
+            Some(first) => Reply::Closing(first),
+        }
+    }
+
+    fn reply_to_push(&mut self, client: u32, body: Body) -> Reply
+        ensures stands { Extends self.old (Event.Push client body) result self.new }
+        ensures limits { self.new.limits ≡ self.old.limits }
+    {
+        if !self.is_ready(client) {
+            return Reply::Ignored(Some(body));
+        }
+        match self.push(client, body) {
+            Ok(number) => Reply::Queued(number),
+            Err(PushFault::Spent(body)) => Reply::Spent(body),
+            Err(PushFault::Full(body)) => Reply::Full(body),
+        }
+    }
+
+    fn reply_to_end(&mut self, client: u32) -> Reply
+        ensures stands { Extends self.old (Event.End client) result self.new }
+        ensures limits { self.new.limits ≡ self.old.limits }
+    {
+        if !self.is_open(client) {
+            return Reply::Ignored(None);
+        }
+        self.end(client);
+        Reply::Ended
+    }
+
+    fn reply_to_taking_in(&mut self, client: u32) -> Reply
+        ensures stands { Extends self.old (Event.TakeIn client) result self.new }
+        ensures limits { self.new.limits ≡ self.old.limits }
+    {
+        if !self.is_leaving(client) {
+            return Reply::Ignored(None);
+        }
+        self.take_in(client);
+        Reply::Joined
+    }
+}

@@ -1,0 +1,4 @@
+pub mod CheckWord
+pub mod Layout
+pub mod Content
+pub mod Packet

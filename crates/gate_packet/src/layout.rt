@@ -1,0 +1,30 @@
+//! Where the members of a packet stand: `data_packet` of NSCA 2.9, `common.h`. Places are counted
+//! from 0, and sizes are in bytes.
+
+/// The bytes of a packet.
+pub const PACKET_SIZE: usize = 4304;
+
+/// The one `packet_version` that is read and written.
+pub(crate) const VERSION: u16 = 3;
+
+pub(crate) const VERSION_PLACE: usize = 0;
+
+pub(crate) const CHECK_WORD_PLACE: usize = 4;
+
+pub(crate) const CHECK_WORD_SIZE: usize = 4;
+
+pub(crate) const TIMESTAMP_PLACE: usize = 8;
+
+pub(crate) const CODE_PLACE: usize = 12;
+
+pub(crate) const HOST_PLACE: usize = 14;
+
+pub(crate) const HOST_SIZE: usize = 64;
+
+pub(crate) const SERVICE_PLACE: usize = 78;
+
+pub(crate) const SERVICE_SIZE: usize = 128;
+
+pub(crate) const OUTPUT_PLACE: usize = 206;
+
+pub(crate) const OUTPUT_SIZE: usize = 4096;

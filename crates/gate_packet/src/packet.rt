@@ -1,0 +1,196 @@
+ghost use Rattle.std.specs.Prelude.{◌≡◌, ◌↔◌, ◌<◌, ◌-◌, IsOk, IfOk, IfErr};
+ghost use Rattle.gate_packet.specs.Content.{content, IsContent, text_fault, content_fault, body_of};
+
+use crate::layout::{HOST_SIZE, OUTPUT_SIZE, SERVICE_SIZE};
+use gate_model::{Body, Moment, Text};
+use std::marker::Model;
+
+/// A text of a packet.
+#[derive(Clone, Copy, Debug, PartialEq, Eq)]
+pub enum Field {
+    Host,
+    Service,
+    Output,
+}
+
+/// Why no packet says what it was asked to. The first that applies is told: `EmptyHost`, then for
+/// the host, the service and the output in this order `TooLong` before `HasNul`.
+#[derive(Clone, Copy, Debug, PartialEq, Eq)]
+pub enum ContentFault {
+    /// The host has no name.
+    EmptyHost,
+    /// The text leaves no room for the NUL that ends it: 63 bytes fit for a host, 127 for a
+    /// service, 4095 for an output.
+    TooLong(Field),
+    /// A NUL stands in the text, which would end there.
+    HasNul(Field),
+}
+
+/// A packet that was refused: the first cause, and the texts as they were given.
+#[derive(Debug, Drop)]
+pub struct RefusedPacket {
+    pub cause: ContentFault,
+    pub host: Vec<u8>,
+    pub service: Vec<u8>,
+    pub output: Vec<u8>,
+}
+
+/// Why bytes are not read as a packet. The first that applies is told, in the order given here.
+#[derive(Clone, Copy, Debug, PartialEq, Eq)]
+pub enum PacketFault {
+    /// The version is another than 3.
+    BadVersion,
+    /// The check word isn't that of the bytes.
+    BadCheckWord,
+    /// The packet is older than the greatest age.
+    Stale,
+    /// The packet names no host.
+    EmptyHost,
+    /// Nothing is wrong with the bytes, but there is no memory for the texts.
+    OutOfMemory,
+}
+
+/// What a sender reports: a data packet without its version, its check word and its padding. Each
+/// such value can be written: it names a host, and each text has room in its field and no NUL.
+#[derive(Debug, Drop, PartialEq)]
+pub struct Packet {
+    pub(crate) timestamp: Moment,
+    pub(crate) code: i16,
+    pub(crate) host: Text,
+    pub(crate) service: Text,
+    pub(crate) output: Text,
+}
+
+impl Model for Packet {
+    ghost use Rattle.gate_packet.specs.Content.{Content, content, IsContent};
+
+    ghost Value = { Content };
+
+    ghost view = { λ p. content p.timestamp.0 p.code p.host p.service p.output };
+
+    ghost invariant = { λ p. IsContent (content p.timestamp.0 p.code p.host p.service p.output) };
+
+    ghost inverse = { λ c. record { timestamp = record { 0 = c.timestamp }; code = c.code; host = c.host; service = c.service; output = c.output } };
+}
+
+fn text_fault(field: Field, size: usize, text: &[u8]) -> Option<ContentFault>
+    requires { 0 < size }
+    ensures { result ≡ text_fault field (size - 1) text.now }
+{
+    if text.len() >= size {
+        return Some(ContentFault::TooLong(field));
+    }
+    if text.contains(&0) {
+        return Some(ContentFault::HasNul(field));
+    }
+    None
+}
+
+fn content_fault(host: &[u8], service: &[u8], output: &[u8]) -> Option<ContentFault>
+    ensures { result ≡ content_fault host.now service.now output.now }
+{
+    if host.is_empty() {
+        return Some(ContentFault::EmptyHost);
+    }
+    if let Some(fault) = text_fault(Field::Host, HOST_SIZE, host) {
+        return Some(fault);
+    }
+    if let Some(fault) = text_fault(Field::Service, SERVICE_SIZE, service) {
+        return Some(fault);
+    }
+    text_fault(Field::Output, OUTPUT_SIZE, output)
+}
+
+impl Packet {
+    /// The packet of this content: the moment of sending, the return code, the host's name, the
+    /// service's name or nothing for a result of the host itself, and the plugin's output.
+    pub fn new(
+        timestamp: Moment,
+        code: i16,
+        host: Vec<u8>,
+        service: Vec<u8>,
+        output: Vec<u8>,
+    ) -> Result<Packet, RefusedPacket>
+        ensures accepted { IsOk result ↔ IsContent (content timestamp.0 code host.items service.items output.items) }
+        ensures packet { IfOk result (λ p. p ≡ content timestamp.0 code host.items service.items output.items) }
+
+        ensures cause { IfErr result (λ r. content_fault host.items service.items output.items ≡ Some r.cause) }
+        ensures given_back { IfErr result (λ r. (r.host ≡ host) × (r.service ≡ service) × (r.output ≡ output)) }
+    {
+        if let Some(cause) = content_fault(&host, &service, &output) {
+            return Err(RefusedPacket {
+                cause,
+                host,
+                service,
+                output,
+            });
+        }
+        Ok(Packet {
+            timestamp,
+            code,
+            host: Text::new(host),
+            service: Text::new(service),
+            output: Text::new(output),
+        })
+    }
+
+    /// The moment of sending, by the sender's account.
+    pub fn timestamp(&self) -> Moment
+        ensures { result.0 ≡ self.now.timestamp }
+    {
+        self.timestamp
+    }
+
+    /// The return code as it was sent.
+    pub fn code(&self) -> i16
+        ensures { result ≡ self.now.code }
+    {
+        self.code
+    }
+
+    /// The host's name, which is never empty.
+    pub fn host(&self) -> &Text
+        ensures { result.now ≡ self.now.host }
+    {
+        &self.host
+    }
+
+    /// The service's name, which is empty in a result of the host itself.
+    pub fn service(&self) -> &Text
+        ensures { result.now ≡ self.now.service }
+    {
+        &self.service
+    }
+
+    /// The plugin's output.
+    pub fn output(&self) -> &Text
+        ensures { result.now ≡ self.now.output }
+    {
+        &self.output
+    }
+
+    /// The check result that the packet reports.
+    pub fn into_body(self) -> Body
+        ensures body { result ≡ body_of self }
+        ensures content { IsContent self }
+    {
+        let Packet {
+            timestamp: _,
+            code,
+            host,
+            service,
+            output,
+        } = self;
+        let service = if service.bytes().is_empty() {
+            None
+        } else {
+            Some(service)
+        };
+        Body::Result {
+            host,
+            service,
+            code,
+            output,
+        }
+    }
+}
