@@ -1,3 +1,4 @@
+pub mod Taken
 pub mod View
 pub mod Standing
 pub mod Parts

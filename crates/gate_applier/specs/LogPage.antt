@@ -1,12 +1,10 @@
 -- The log page: what was recorded, in order, and what came of each record. A body is shown as its
--- external command (External Command List, PROCESS_HOST_CHECK_RESULT and PROCESS_SERVICE_CHECK_RESULT)
--- without the time in front.
+-- canonical external command (External Command List), without the time in front.
 -- Own rules: the lines of the page, and how a text is escaped.
-use Rattle.std.specs.Prelude.{ℕ, ℤ, ◌/◌, ◌%◌, ◌==◌, ◌||◌, nat_lt, if◌then◌else◌, List, [], ◌∷◌, ◌++◌, length, slice_index, codes, Option, Some, None}
+use Rattle.std.specs.Prelude.{ℕ, ◌/◌, ◌%◌, ◌==◌, ◌||◌, nat_lt, if◌then◌else◌, List, [], ◌∷◌, ◌++◌, length, slice_index, codes}
 use Rattle.std.specs.List.{flat_map, zip}
-use Rattle.std.specs.Fmt.{decimal, signed_decimal}
-use Rattle.gate_model.specs.declared.submission.Body.{Body}
-use Rattle.gate_model.specs.declared.submission.Body.TheVariants.{Result}
+use Rattle.std.specs.Fmt.{decimal}
+use Rattle.gate_grammar.specs.Canonical.{body_text}
 use Rattle.gate_model.specs.declared.record.Record.{Record}
 use Rattle.gate_model.specs.declared.record.Outcome.{Outcome}
 use Rattle.gate_model.specs.declared.record.Outcome.TheVariants.{Accepted, NoSuchHost, NoSuchService, NoSuchComment, NoSuchDowntime, WrongKind, NoProblem, NotAcknowledged, BadWindow, WindowPast, NoSuchTrigger}
@@ -24,24 +22,6 @@ name_of NotAcknowledged = codes "NotAcknowledged"
 name_of BadWindow = codes "BadWindow"
 name_of WindowPast = codes "WindowPast"
 name_of NoSuchTrigger = codes "NoSuchTrigger"
-
--- the external command of a result, for a host or for a service
-abbrev pub command_of : Option (List ℕ) → List ℕ
-command_of None = codes "PROCESS_HOST_CHECK_RESULT"
-command_of (Some service) = codes "PROCESS_SERVICE_CHECK_RESULT"
-
--- the arguments that name an object, each behind a semicolon
-abbrev pub object_text : List ℕ → Option (List ℕ) → List ℕ
-object_text host None = codes ";" ++ host
-object_text host (Some service) = codes ";" ++ host ++ codes ";" ++ service
-
--- the arguments that tell how the object is
-abbrev pub report_text : ℤ → List ℕ → List ℕ
-report_text code output = codes ";" ++ signed_decimal code ++ codes ";" ++ output
-
--- the external command that says a body, from its name on
-abbrev pub body_text : Body → List ℕ
-body_text (Result host service code output) = command_of service ++ object_text host service ++ report_text code output
 
 -- the lower-case hexadecimal digit of a number below 16
 abbrev pub hex_digit : ℕ → ℕ

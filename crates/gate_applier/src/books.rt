@@ -56,6 +56,7 @@ impl Books {
                 code,
                 ..
             } => self.judge_result(table, host, service, *code),
+            _ => Outcome::Accepted,
         }
     }
 

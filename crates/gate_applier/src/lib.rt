@@ -14,6 +14,7 @@ mod reading;
 mod ready;
 mod replay;
 mod script_line;
+mod taking;
 
 pub use applier::{Applier, MOST_RECORDS, OpenCause, OpenFault, PrepareCause, PrepareFault};
 pub use fault::ReplayFault;
@@ -22,6 +23,7 @@ pub use reading::{Opening, Script, ScriptFault, Step, read_script};
 pub use ready::Ready;
 pub use replay::{SCRIPT_BYTES, replay_script, run_replay};
 pub use script_line::{ScriptLine, read_script_line};
+pub use taking::takes;
 
 #[cfg(test)]
 mod replay_tests;

@@ -1,8 +1,9 @@
 ghost use Rattle.std.specs.Prelude.{◌≡◌, ◌++◌, ◌<◌, length, IfOk, OnOk};
 ghost use Rattle.std.specs.List.{flat_map};
-ghost use Rattle.gate_applier.specs.LogPage.{name_of, command_of, object_text, report_text, body_text, escaped_byte, stamp_of, line_of, page_of};
+ghost use Rattle.gate_applier.specs.LogPage.{name_of, escaped_byte, stamp_of, line_of, page_of};
 
-use gate_model::{Body, Outcome, Record, Text, push_code, push_number};
+use gate_grammar::write_body;
+use gate_model::{Outcome, Record, push_number};
 use std::alloc::{AllocError, Global};
 
 const HEX: [u8; 16] = *b"0123456789abcdef";
@@ -24,56 +25,6 @@ pub fn outcome_name(outcome: Outcome) -> &'static [u8]
         Outcome::WindowPast => b"WindowPast",
         Outcome::NoSuchTrigger => b"NoSuchTrigger",
     }
-}
-
-/// The external command of a result for a host, or for a service.
-fn command(service: &Option<Text>) -> &'static [u8]
-    ensures { result.now ≡ command_of service.now }
-{
-    match service {
-        None => b"PROCESS_HOST_CHECK_RESULT",
-        Some(_) => b"PROCESS_SERVICE_CHECK_RESULT",
-    }
-}
-
-fn push_object(out: &mut Vec<u8>, host: &Text, service: &Option<Text>) -> Result<(), AllocError>
-    ensures { OnOk result (out.new.items ≡ out.old.items ++ object_text host.now service.now) }
-{
-    out.extend_from_slice(b";")?;
-    out.extend_from_slice(host.bytes())?;
-    if let Some(service) = service {
-        out.extend_from_slice(b";")?;
-        out.extend_from_slice(service.bytes())?;
-    }
-    Ok(())
-}
-
-/// Appends the text of a body's external command, from its name on.
-fn push_body(out: &mut Vec<u8>, body: &Body) -> Result<(), AllocError>
-    ensures { OnOk result (out.new.items ≡ out.old.items ++ body_text body.now) }
-{
-    match body {
-        Body::Result {
-            host,
-            service,
-            code,
-            output,
-        } => {
-            out.extend_from_slice(command(service))?;
-            push_object(out, host, service)?;
-            push_report(out, *code, output.bytes())?;
-        }
-    }
-    Ok(())
-}
-
-fn push_report(out: &mut Vec<u8>, code: i16, output: &[u8]) -> Result<(), AllocError>
-    ensures { OnOk result (out.new.items ≡ out.old.items ++ report_text code output.now) }
-{
-    out.extend_from_slice(b";")?;
-    push_code(out, code)?;
-    out.extend_from_slice(b";")?;
-    out.extend_from_slice(output)
 }
 
 fn push_escaped_byte(out: &mut Vec<u8>, byte: u8) -> Result<(), AllocError>
@@ -108,8 +59,7 @@ fn push_line(
 ) -> Result<(), AllocError>
     ensures { OnOk result (out.new.items ≡ out.old.items ++ line_of («record».now, outcome)) }
 {
-    let mut text = Vec::new(alloc);
-    push_body(&mut text, &record.item.body)?;
+    let text = write_body(alloc, &record.item.body)?;
     push_stamp(out, record)?;
     push_escaped(out, &text)?;
     out.extend_from_slice(b" -> ")?;

@@ -1,8 +1,9 @@
-ghost use Rattle.std.specs.Prelude.{◌≡◌, ◌≤◌, [], ◌∷◌, false, length, if◌then◌else◌, None, Some, List, codes, IfOk, IfErr, OnOk};
+ghost use Rattle.std.specs.Prelude.{◌≡◌, ◌≤◌, [], ◌∷◌, false, length, if◌then◌else◌, None, Some, List, codes, IfOk, IfErr, IfSome, IsTrue, OnOk};
 ghost use Rattle.std.specs.Bool.{MatchBool};
 ghost use Rattle.std.specs.Io.KnownBytes.{Appends};
 ghost use Rattle.gate_packet.specs.Content.{body_of};
 ghost use Rattle.gate_packet.specs.Packet.{is_stale};
+ghost use Rattle.gate_applier.specs.Taken.{is_taken};
 ghost use Rattle.gate_applier.specs.View.{opened};
 ghost use Rattle.gate_applier.specs.declared.reading.Step.{Step};
 ghost use Rattle.gate_applier.specs.Replay.{queued_line};
@@ -42,7 +43,8 @@ fn received(
     now: Moment,
     greatest_age: u32,
 ) -> Result<Option<Body>, AllocError>
-    ensures { IfOk result (λ body. body ≡ (if is_stale packet.now.timestamp now.0 greatest_age then None else Some (body_of packet.now))) }
+    ensures body { IfOk result (λ body. body ≡ (if is_stale packet.now.timestamp now.0 greatest_age then None else Some (body_of packet.now))) }
+    ensures taken { IfOk result (λ body. IfSome body (λ b. IsTrue (is_taken b))) }
 {
     match round_trip(alloc, packet, now, greatest_age) {
         Ok(packet) => Ok(Some(packet.into_body())),
@@ -100,6 +102,7 @@ impl Player {
     fn apply(self, body: Body, number: u64) -> Result<Player, Stopped>
         requires number { number ≡ next_of self }
         requires few { length self.applier.records ≤ self.applier.limit }
+        requires taken { IsTrue (is_taken body) }
         ensures item { IfOk result (λ now. TakesItem self now body) }
         ensures stopped { IfErr result (λ stop. StopsAt stop.cause ((length self.applier.records ≡ self.applier.limit) × (stop.applier ≡ self.applier))) }
     {
@@ -144,6 +147,7 @@ impl Player {
     }
 
     fn queue<W: Write>(self, body: Body, output: &mut W) -> Result<Player, Stopped>
+        requires { IsTrue (is_taken body) }
         ensures item { IfOk result (λ now. TakesItem self now body) }
         ensures printed { OnOk result (Appends (W.contents output.old) (W.contents output.new) (queued_line (next_of self))) }
         ensures stopped { IfErr result (λ stop. StopsAt stop.cause ((length self.applier.records ≡ self.applier.limit) × (stop.applier ≡ self.applier)

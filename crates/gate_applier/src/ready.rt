@@ -1,6 +1,7 @@
-ghost use Rattle.std.specs.Prelude.{◌≡◌, [], ◌∷◌, ◌++◌};
+ghost use Rattle.std.specs.Prelude.{◌≡◌, [], ◌∷◌, ◌++◌, IsTrue};
 ghost use Rattle.gate_model.specs.Moments.{later};
 ghost use Rattle.gate_model.specs.Meaning.{outcome_after};
+ghost use Rattle.gate_applier.specs.Taken.{is_taken};
 ghost use Rattle.gate_applier.specs.Parts.{view_of, IsSound, HasRoom};
 
 use crate::applier::Applier;
@@ -38,8 +39,11 @@ impl Ready {
     }
 
     /// Applies the item, at the clock's moment or the applier's, whichever is later, and answers
-    /// what came of it. A refused item is recorded as well.
+    /// what came of it. A refused item is recorded as well. So far only check results and shutdowns
+    /// are taken.
     pub fn apply(self, item: Numbered, now: Moment) -> (Applier, Outcome)
+        requires { IsTrue (is_taken item.body) }
+
         ensures outcome { let moment = later self.moment now in
             result.1 ≡ outcome_after self.table self.records moment item.body }
         ensures records { let moment = later self.moment now in

@@ -1,4 +1,7 @@
-use crate::{Applier, OpenCause, PrepareCause};
+ghost use Rattle.std.specs.Prelude.{IfOk, IsTrue};
+ghost use Rattle.gate_applier.specs.Taken.{is_taken};
+
+use crate::{Applier, OpenCause, PrepareCause, takes};
 use gate_model::{
     Body, Kind, Moment, Numbered, ObjectId, ObjectLine, ObjectTable, Outcome, State, Text,
     plain_outcomes, plain_state,
@@ -48,7 +51,9 @@ fn result(
     host: &str,
     service: Option<&str>,
     code: i16,
-) -> Result<Numbered, AllocError> {
+) -> Result<Numbered, AllocError>
+    ensures { IfOk result (λ item. IsTrue (is_taken item.body)) }
+{
     Ok(Numbered {
         client: 1,
         number: 1,
@@ -90,6 +95,23 @@ fn a_service_code_below_0_is_unknown_and_a_host_code_of_3_is_down(
     );
     assert_eq!(rt; applier.state(HTTP), State::Unknown);
     assert_eq!(rt; applier.state(WEB1), State::Down);
+    Ok(())
+}
+
+#[test]
+fn a_shutdown_is_accepted_and_changes_no_state(rt: HostRuntime) -> Result<(), Fail> {
+    let applier = applied(rt.alloc(), 10, &[("web1", None, 1, 1100)])?;
+    let ready = applier.prepare().map_err(|fault| fault.cause)?;
+    assert!(rt; takes(&Body::Shutdown));
+    let item = Numbered {
+        client: 2,
+        number: 1,
+        body: Body::Shutdown,
+    };
+    let (applier, outcome) = ready.apply(item, Moment(1200));
+    assert_eq!(rt; outcome, Outcome::Accepted);
+    assert_eq!(rt; applier.state(WEB1), State::Down);
+    assert_eq!(rt; applier.moment(), Moment(1200));
     Ok(())
 }
 

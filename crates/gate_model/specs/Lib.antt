@@ -3,6 +3,7 @@ pub mod Numbers
 pub mod Table
 pub mod Key
 pub mod Draft
+pub mod Submission
 pub mod Moments
 pub mod States
 pub mod Outcomes

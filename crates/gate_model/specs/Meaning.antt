@@ -33,6 +33,7 @@ object_event_of table moment log_place (Result host service code output) =
     option_map
     (λ place. ResultEvent place (state_of_code (kind_of service) code) moment log_place)
     (place_of table host service)
+object_event_of table moment log_place _ = None
 
 -- what a judged record is to the objects: nothing, if it was refused
 abbrev pub object_event : List ObjectLine → Judged → Option ObjectEvent
@@ -57,10 +58,11 @@ abbrev pub outcome_for : List ObjectLine → List ℕ → Option (List ℕ) → 
 outcome_for table host service judge =
     if has_object table host None then outcome_at_place judge (place_of table host service) else NoSuchHost
 
--- the outcome of a body at this moment, after these judged records
+-- the outcome of a body at this moment, after these judged records; of all but results only a shutdown is taken so far, and has no effect
 abbrev pub outcome_at : List ObjectLine → List Judged → Moment → Body → Outcome
 outcome_at table before moment (Result host service code output) =
     outcome_for table host service (λ place. Accepted)
+outcome_at table before moment _ = Accepted
 
 -- ---- lists of records
 

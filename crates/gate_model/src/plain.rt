@@ -50,6 +50,7 @@ fn plain_outcome(table: &ObjectTable, body: &Body) -> Outcome
             Ok(_) => Outcome::Accepted,
             Err(refusal) => refusal,
         },
+        _ => Outcome::Accepted,
     }
 }
 
@@ -70,5 +71,6 @@ fn plain_state_after(table: &ObjectTable, applied: &Record, object: ObjectId, st
             Ok(found) if found.place == object.place => State::of_code(found.kind, *code),
             _ => state,
         },
+        _ => state,
     }
 }

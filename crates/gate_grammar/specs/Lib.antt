@@ -1,0 +1,11 @@
+pub mod Arguments
+pub mod Commands
+pub mod Spelling
+pub mod Faults
+pub mod Canonical
+pub mod Writable
+pub mod Bodies
+pub mod Reading
+pub mod Answers
+pub mod RoundTrip
+pub mod Examples

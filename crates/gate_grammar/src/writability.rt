@@ -1,0 +1,112 @@
+ghost use Rattle.std.specs.Prelude.{◌≡◌, ◌↔◌, ◌≤◌, ◌<◌, length, IsTrue, map};
+ghost use Rattle.gate_grammar.specs.Arguments.{value_of};
+ghost use Rattle.gate_grammar.specs.Spelling.{joined, holds, is_blank, ends_in_blank};
+ghost use Rattle.gate_grammar.specs.Canonical.{shown};
+ghost use Rattle.gate_grammar.specs.Writable.{IsWritable, AreWritable, IsClean, HoldsNoSemicolon, EndsInNoBlank};
+
+use crate::argument::Argument;
+use crate::body_arguments::{arguments_of, name_of};
+use crate::command::{Command, LINE_LENGTH};
+use crate::scanning::is_barred_in;
+use itoa::Buffer;
+
+/// Whether a command has a line: of at most 8192 bytes, with no NUL or LF in a text, no semicolon in
+/// an argument but the last, no empty name, and no blank at the end of the last argument.
+pub fn writable(command: &Command) -> bool
+    ensures { IsTrue result ↔ IsWritable command.now }
+{
+    let mut time = Buffer::new();
+    let front = time.format(command.entered.0).len() + name_of(&command.body).text().len() + 3;
+    let arguments = arguments_of(&command.body);
+    fit(LINE_LENGTH - front, arguments.as_slice()) && are_writable(arguments.as_slice())
+}
+
+/// Whether the arguments, each behind a semicolon, take at most `room` bytes.
+fn fit(room: usize, arguments: &[Argument<'_>]) -> bool
+    ensures { IsTrue result ↔ (length (joined (map shown (map value_of arguments.now))) ≤ room) }
+{
+    match arguments {
+        [] => true,
+        [first, rest @ ..] => {
+            let length = shown_length(*first);
+            length < room && fit(room - length - 1, rest)
+        }
+    }
+}
+
+/// How many bytes the argument takes.
+fn shown_length(argument: Argument<'_>) -> usize
+    ensures { result ≡ length (shown (value_of argument.entry)) }
+{
+    match argument {
+        Argument::Name(text) | Argument::Text(text) => text.len(),
+        Argument::Number(number) => {
+            let mut digits = Buffer::new();
+            digits.format(number).len()
+        }
+        Argument::Code(code) => {
+            let mut digits = Buffer::new();
+            digits.format(code).len()
+        }
+    }
+}
+
+fn are_writable(arguments: &[Argument<'_>]) -> bool
+    ensures { IsTrue result ↔ AreWritable (map value_of arguments.now) }
+{
+    match arguments {
+        [] => true,
+        [last] => is_clean(*last) && ends_in_no_blank(*last),
+        [first, rest @ ..] => is_clean(*first) && holds_no_semicolon(*first) && are_writable(rest),
+    }
+}
+
+fn is_clean(argument: Argument<'_>) -> bool
+    ensures { IsTrue result ↔ IsClean (value_of argument.entry) }
+{
+    match argument {
+        Argument::Name(text) => !text.is_empty() && !is_barred_in(text),
+        Argument::Text(text) => !is_barred_in(text),
+        Argument::Number(_) | Argument::Code(_) => true,
+    }
+}
+
+fn holds_no_semicolon(argument: Argument<'_>) -> bool
+    ensures { IsTrue result ↔ HoldsNoSemicolon (value_of argument.entry) }
+{
+    match argument {
+        Argument::Name(text) | Argument::Text(text) => !holds_semicolon(text),
+        Argument::Number(_) | Argument::Code(_) => true,
+    }
+}
+
+fn holds_semicolon(text: &[u8]) -> bool
+    ensures { result ≡ holds 59 text.now }
+{
+    text.iter().any(|byte| *byte == b';')
+}
+
+fn ends_in_no_blank(argument: Argument<'_>) -> bool
+    ensures { IsTrue result ↔ EndsInNoBlank (value_of argument.entry) }
+{
+    match argument {
+        Argument::Name(text) | Argument::Text(text) => !ends_in_blank(text),
+        Argument::Number(_) | Argument::Code(_) => true,
+    }
+}
+
+#[tactic(auto, using(crate::proofs::Cuts::ends_in_blank_last))]
+fn ends_in_blank(text: &[u8]) -> bool
+    ensures { result ≡ ends_in_blank text.now }
+{
+    if text.is_empty() {
+        return false;
+    }
+    is_blank(text[text.len() - 1])
+}
+
+fn is_blank(byte: u8) -> bool
+    ensures { result ≡ is_blank byte }
+{
+    byte == b' ' || byte == b'\t' || byte == b'\r'
+}
