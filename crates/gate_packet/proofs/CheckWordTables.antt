@@ -18,23 +18,23 @@ TABLES-rows : TABLES ≡ after_zeros 16 first_row
 unfolding after_zeros after_byte after_bits after_bit
 TABLES-rows = refl
 
-after_zeros-entry : (rows row place : ℕ) (words none : List ℕ) → row < rows → place < length words
-    → get_or (get_or (after_zeros rows words) row none) place 0 ≡ after_bytes (get_or words place 0) (replicate row 0)
+after_zeros-entry : (rows level place : ℕ) (words none : List ℕ) → level < rows → place < length words
+    → get_or (get_or (after_zeros rows words) level none) place 0 ≡ after_bytes (get_or words place 0) (replicate level 0)
 unfolding after_zeros after_bytes
-after_zeros-entry zero row place words none few inside = absurd (not-suc-le-zero few)
+after_zeros-entry zero level place words none few inside = absurd (not-suc-le-zero few)
 after_zeros-entry (suc rows) zero place words none few inside = refl
-after_zeros-entry (suc rows) (suc row) place words none few inside =
+after_zeros-entry (suc rows) (suc level) place words none few inside =
     let next = map (λ (word : ℕ). after_byte word 0) words in
     let longer : place < length next = simp length-map inside in
-    after_zeros-entry rows row place next none (le_of_suc-le-suc few) longer
-    ∙ ap (λ (word : ℕ). after_bytes word (replicate row 0)) (get_or-map (λ (word : ℕ). after_byte word 0) words place 0 0 inside)
+    after_zeros-entry rows level place next none (le_of_suc-le-suc few) longer
+    ∙ ap (λ (word : ℕ). after_bytes word (replicate level 0)) (get_or-map (λ (word : ℕ). after_byte word 0) words place 0 0 inside)
 
-pub TABLES-entry : (row byte : ℕ) (none : List ℕ) → row < 16 → byte < 256
-    → get_or (get_or TABLES row none) byte 0 ≡ after_bytes 0 (byte ∷ replicate row 0)
+pub TABLES-entry : (level byte : ℕ) (none : List ℕ) → level < 16 → byte < 256
+    → get_or (get_or TABLES level none) byte 0 ≡ after_bytes 0 (byte ∷ replicate level 0)
 unfolding after_bytes
-TABLES-entry row byte none few h =
+TABLES-entry level byte none few h =
     let first = λ (b : ℕ). after_byte 0 b in
     let inside : byte < length first_row = rw (length-map-range_with_len first 0 256) h in
-    ap (λ (tables : List (List ℕ)). get_or (get_or tables row none) byte 0) TABLES-rows
-    ∙ after_zeros-entry 16 row byte first_row none few inside
-    ∙ ap (λ (word : ℕ). after_bytes word (replicate row 0)) (get_or-map-range_with_len first 0 256 byte byte 0 h (zero-add byte))
+    ap (λ (tables : List (List ℕ)). get_or (get_or tables level none) byte 0) TABLES-rows
+    ∙ after_zeros-entry 16 level byte first_row none few inside
+    ∙ ap (λ (word : ℕ). after_bytes word (replicate level 0)) (get_or-map-range_with_len first 0 256 byte byte 0 h (zero-add byte))
