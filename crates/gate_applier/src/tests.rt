@@ -6,6 +6,7 @@ use gate_model::{
     Body, Kind, Moment, Numbered, ObjectId, ObjectLine, ObjectTable, Outcome, State, Text,
     plain_outcomes, plain_state,
 };
+use gate_packet::{PACKET_SIZE, Packet, crc32, decode, encode};
 use std::alloc::{AllocError, Global};
 use std::test::Fail;
 
@@ -112,6 +113,37 @@ fn a_shutdown_is_accepted_and_changes_no_state(rt: HostRuntime) -> Result<(), Fa
     assert_eq!(rt; outcome, Outcome::Accepted);
     assert_eq!(rt; applier.state(WEB1), State::Down);
     assert_eq!(rt; applier.moment(), Moment(1200));
+    Ok(())
+}
+
+// Makes the check word anew.
+fn sign(bytes: &mut [u8; PACKET_SIZE]) {
+    bytes[4..8].fill(0);
+    let word = crc32(&*bytes);
+    bytes[4..8].copy_from_slice(&word.to_be_bytes());
+}
+
+#[test]
+fn a_host_of_64_bytes_in_a_packet_is_no_host_of_the_table(rt: HostRuntime) -> Result<(), Fail> {
+    let alloc = rt.alloc();
+    let long = vec![in alloc; b'a'; 63]?;
+    let packet = Packet::new(Moment(1000), 2, long, Vec::new(alloc), Vec::new(alloc)).map_err(
+        |refused| refused.cause,
+    )?;
+    let mut bytes = encode(&packet);
+    bytes[77] = b'a';
+    sign(&mut bytes);
+    let read = decode(alloc, &bytes, Moment(1005), 30)?;
+    assert_eq!(rt; read.host().bytes().len(), 63);
+    let item = Numbered {
+        client: 1,
+        number: 1,
+        body: read.into_body(),
+    };
+    let ready = applied(alloc, 10, &[])?
+        .prepare()
+        .map_err(|fault| fault.cause)?;
+    assert_eq!(rt; ready.apply(item, Moment(1005)).1, Outcome::NoSuchHost);
     Ok(())
 }
 

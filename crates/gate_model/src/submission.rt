@@ -5,7 +5,9 @@ use crate::moment::Moment;
 use crate::object::Kind;
 use crate::text::Text;
 
-/// What a client hands in.
+/// What a client hands in: one variant for each external command, or pair of commands for a host and
+/// a service (External Command List). A host's form names no service. Numbers are kept as they were
+/// sent.
 #[derive(Debug, Drop, PartialEq)]
 pub enum Body {
     /// A passive check result (Nagios Core 4 manual, Passive Checks).
@@ -18,49 +20,66 @@ pub enum Body {
         /// The plugin's output, performance data included.
         output: Text,
     },
+    /// ADD_HOST_COMMENT, ADD_SVC_COMMENT.
     AddComment {
         host: Text,
         service: Option<Text>,
+        /// Any number but 0 means persistent.
         persistent: u32,
         author: Text,
         text: Text,
     },
+    /// DEL_HOST_COMMENT, DEL_SVC_COMMENT.
     DelComment {
         kind: Kind,
+        /// The comment's number, from 1.
         id: u32,
     },
+    /// DEL_ALL_HOST_COMMENTS, DEL_ALL_SVC_COMMENTS.
     DelAllComments {
         host: Text,
         service: Option<Text>,
     },
+    /// ACKNOWLEDGE_HOST_PROBLEM, ACKNOWLEDGE_SVC_PROBLEM.
     Acknowledge {
         host: Text,
         service: Option<Text>,
+        /// 2 means sticky, any other number normal.
         sticky: u32,
+        /// Read, and of no effect: nobody is notified.
         notify: u32,
+        /// Any number but 0 means that the comment is persistent.
         persistent: u32,
         author: Text,
         text: Text,
     },
+    /// REMOVE_HOST_ACKNOWLEDGEMENT, REMOVE_SVC_ACKNOWLEDGEMENT.
     RemoveAck {
         host: Text,
         service: Option<Text>,
     },
+    /// SCHEDULE_HOST_DOWNTIME, SCHEDULE_SVC_DOWNTIME.
     Schedule {
         host: Text,
         service: Option<Text>,
         starts: Moment,
         ends: Moment,
+        /// 1 means fixed, any other number flexible.
         fixed: u32,
+        /// The number of the entry that starts this one, or 0.
         trigger: u32,
+        /// How many seconds a flexible entry lasts.
         lasts: u32,
         author: Text,
         text: Text,
     },
+    /// DEL_HOST_DOWNTIME, DEL_SVC_DOWNTIME.
     DelDowntime {
         kind: Kind,
+        /// The downtime entry's number, from 1.
         id: u32,
     },
+    /// SHUTDOWN_PROGRAM.
     Shutdown,
 }
 

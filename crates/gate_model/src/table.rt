@@ -22,13 +22,19 @@ pub const HOST_NAME: usize = 63;
 /// The most bytes of a service's name.
 pub const SERVICE_NAME: usize = 127;
 
-/// Why lines are no table: the first faulty line, by its number from 1.
+/// Why lines are no table: the first faulty line, by its number from 1. Of one line the faults are
+/// tested in this order.
 #[derive(Clone, Copy, Debug, PartialEq, Eq)]
 pub enum TableFault {
+    /// A name is empty or too long, begins or ends with a space, or holds `;` or a control byte.
     BadName(u32),
+    /// The service's host doesn't stand before it.
     NoSuchHost(u32),
+    /// A host of that name stands before it.
     DuplicateHost(u32),
+    /// A service of that name, of the same host, stands before it.
     DuplicateService(u32),
+    /// It is the 1,025th host, or service of its host. At line 0: there are more than 16,384 lines.
     TooMany(u32),
     OutOfMemory,
 }
@@ -60,8 +66,9 @@ impl Model for ObjectTable {
 }
 
 impl ObjectTable {
-    /// The table of these lines. A service may stand anywhere behind its host. Refused are more than
-    /// 16,384 lines, as `TooMany(0)`, and else the first faulty line.
+    /// The table of these lines. A service may stand anywhere behind its host. More than 16,384 lines
+    /// are refused as `TooMany(0)`, and else the first faulty line is told. A refusal, also for want of
+    /// memory, hands the lines back.
     pub fn build(alloc: Global, lines: Vec<ObjectLine>) -> Result<ObjectTable, BuildFault>
         ensures table { IfOk result (λ table. table ≡ lines.items) }
         ensures faultless { IfOk result (λ table. IsFaultless table) }
