@@ -45,6 +45,7 @@ fn body(alloc: Global, byte: u8) -> Result<Body, AllocError> {
 fn byte_of(body: &Body) -> u8 {
     match body {
         Body::Result { output, .. } => output.bytes().first().copied().unwrap_or(0),
+        _ => 0,
     }
 }
 
