@@ -71,10 +71,10 @@ pub length_beside : (n quota capacity : ℕ) (S : ℕ → List Numbered) (taken 
 length_beside n quota capacity S taken queue d h i =
     let low = i.0 in let high = i.1 in
     let f : ℕ → ℕ = λ c. length (S c) in
-    let parts : length (taken ++ queue) ≡ total f n = length_by_client n (taken ++ queue) h.merge.clients ∙ total_same (λ c. length (of_client c (taken ++ queue))) f n (λ c j. ap length (h.merge.each c j)) in
+    let whole : length (taken ++ queue) ≡ total f n = length_by_client n (taken ++ queue) h.merge.clients ∙ total_same (λ c. length (of_client c (taken ++ queue))) f n (λ c j. ap length (h.merge.each c j)) in
     let b : total f n + quota ≤ f d + n * quota = total_beside f quota n d h.within_quota i in
     let m : n * quota ≡ (n - 1) * quota + quota = times n quota (omega arith) in
-    omega (arith, parts, b, m)
+    omega (arith, whole, b, m)
   where
     times : (n q : ℕ) → 1 ≤ n → n * q ≡ (n - 1) * q + q
     times zero q h = absurd (omega arith)

@@ -11,10 +11,11 @@ use Rattle.gate_core.specs.declared.event.Event.TheVariants.{Look, Push, Take, C
 use Rattle.gate_core.specs.declared.event.Reply.{Reply}
 use Rattle.gate_core.specs.declared.event.Reply.TheVariants.{Open, Ignored, Queued, Taken, Empty, Ended, Joined}
 use Rattle.gate_core.specs.Merge.{IsClient, IsMerge}
-use Rattle.gate_core.specs.Legal.{Run, Limits, all_queued, queued, taken, waiting, first_close, is_end_of, has_ended, has_joined, is_open, is_own, last_own, is_open_look, has_looked, look_reply, reply_after, IsLegal}
+use Rattle.gate_core.specs.Limits.{Limits}
+use Rattle.gate_core.specs.Legal.{Run, all_queued, queued, taken, waiting, first_close, is_end_of, has_ended, has_joined, is_open, is_own, last_own, is_open_look, has_looked, look_reply, reply_after, IsLegal}
 use Rattle.gate_core.specs.Law.{FollowsOpenLook, IsDrained}
 use Rattle.gate_core.proofs.Runs.{open_client, sound, front_is, was_queued, was_taken, was_empty}
-use Rattle.gate_core.proofs.Places.{no_first}
+use Rattle.gate_core.proofs.Indexes.{no_first}
 
 -- ---- who has ended
 
@@ -150,7 +151,7 @@ over limits ((TakeIn client, reply) ∷ since) before h joined = over_from limit
 -- once drained, what was taken is what was queued
 pub drained_merge : (limits : Limits) (run : Run) → IsLegal limits run → IsDrained limits.clients run → IsMerge limits.clients (λ client. queued client run) (taken run)
 drained_merge limits run h d =
-    let is_over : IsOver limits run = subst (λ r. IsOver limits r) (sym d.parts) (over limits d.since d.before (subst (λ r. IsLegal limits r) d.parts h) d.all_joined) in
+    let is_over : IsOver limits run = subst (λ r. IsOver limits r) (sym d.run_is) (over limits d.since d.before (subst (λ r. IsLegal limits r) d.run_is h) d.all_joined) in
     let all : taken run ++ waiting run ≡ taken run = ap (λ l. taken run ++ l) is_over.nothing_waits ∙ append-nil (taken run) in
     subst (λ l. IsMerge limits.clients (λ client. queued client run) l) all (sound limits run h).state.merge
 
@@ -164,12 +165,12 @@ open_look limits client run e = go (is_open limits client run) (first_close run)
     go true (Some first) f = absurd (cc)
     go false closed f = absurd (cc)
 
--- the pair is not the client's own, so the look stands behind it
-behind : (client : ℕ) (pair : Event × Reply) (run : Run) → is_own client pair.0 ≡ false → FollowsOpenLook client run → FollowsOpenLook client (pair ∷ run)
-behind client pair run other h = record {
+-- the pair is not the client's own, so the look still serves
+looked_earlier : (client : ℕ) (pair : Event × Reply) (run : Run) → is_own client pair.0 ≡ false → FollowsOpenLook client run → FollowsOpenLook client (pair ∷ run)
+looked_earlier client pair run other h = record {
   since = pair ∷ h.since;
   before = h.before;
-  parts = ap (λ r. pair ∷ r) h.parts;
+  run_is = ap (λ r. pair ∷ r) h.run_is;
   no_close_before = h.no_close_before;
   no_own_event_since = ap (λ b. b || list_any (λ (p : Event × Reply). is_own client p.0) h.since) other ∙ h.no_own_event_since;
 }
@@ -178,7 +179,7 @@ here : (client looking : ℕ) (run : Run) → looking ≡ client → first_close
 here client looking run same unclosed = record {
   since = [];
   before = run;
-  parts = ap (λ (c : ℕ). (Look c, Open) ∷ run) same;
+  run_is = ap (λ (c : ℕ). (Look c, Open) ∷ run) same;
   no_close_before = unclosed;
   no_own_event_since = refl;
 }
@@ -186,22 +187,22 @@ here client looking run same unclosed = record {
 looked_on_look : (limits : Limits) (client looking : ℕ) (reply : Reply) (run : Run) → reply ≡ reply_after limits run (Look looking) → (has_looked client run ≡ true → FollowsOpenLook client run) → (b : Bool) → eqb looking client ≡ b → is_open_look (cond b (Some (Look looking, reply)) (last_own client run)) ≡ true → FollowsOpenLook client ((Look looking, reply) ∷ run)
 looked_on_look limits client looking Open run e below true own looked = here client looking run (eqb-true looking client own) (open_look limits looking run e)
 looked_on_look limits client looking reply run e below true own looked = absurd (cc)
-looked_on_look limits client looking reply run e below false own looked = behind client (Look looking, reply) run own (below looked)
+looked_on_look limits client looking reply run e below false own looked = looked_earlier client (Look looking, reply) run own (below looked)
 
 -- an own event that is no look
 looked_on_other : (client : ℕ) (pair : Event × Reply) (run : Run) → is_open_look (Some pair) ≡ false → (has_looked client run ≡ true → FollowsOpenLook client run) → (b : Bool) → is_own client pair.0 ≡ b → is_open_look (cond b (Some pair) (last_own client run)) ≡ true → FollowsOpenLook client (pair ∷ run)
 looked_on_other client pair run unlooked below true own looked = absurd (cc)
-looked_on_other client pair run unlooked below false own looked = behind client pair run own (below looked)
+looked_on_other client pair run unlooked below false own looked = looked_earlier client pair run own (below looked)
 
 -- a client whose last own event is a look answered Open looked before every close
 pub looked_before : (limits : Limits) (client : ℕ) (run : Run) → IsLegal limits run → has_looked client run ≡ true → FollowsOpenLook client run
 looked_before limits client [] h looked = absurd (cc)
 looked_before limits client ((Look looking, reply) ∷ run) h looked = looked_on_look limits client looking reply run h.0 (looked_before limits client run h.1) (eqb looking client) refl looked
 looked_before limits client ((Push pushing body, reply) ∷ run) h looked = looked_on_other client (Push pushing body, reply) run refl (looked_before limits client run h.1) (eqb pushing client) refl looked
-looked_before limits client ((Take, reply) ∷ run) h looked = behind client (Take, reply) run refl (looked_before limits client run h.1 looked)
-looked_before limits client ((Close moment, reply) ∷ run) h looked = behind client (Close moment, reply) run refl (looked_before limits client run h.1 looked)
+looked_before limits client ((Take, reply) ∷ run) h looked = looked_earlier client (Take, reply) run refl (looked_before limits client run h.1 looked)
+looked_before limits client ((Close moment, reply) ∷ run) h looked = looked_earlier client (Close moment, reply) run refl (looked_before limits client run h.1 looked)
 looked_before limits client ((End ending, reply) ∷ run) h looked = looked_on_other client (End ending, reply) run refl (looked_before limits client run h.1) (eqb ending client) refl looked
-looked_before limits client ((TakeIn joining, reply) ∷ run) h looked = behind client (TakeIn joining, reply) run refl (looked_before limits client run h.1 looked)
+looked_before limits client ((TakeIn joining, reply) ∷ run) h looked = looked_earlier client (TakeIn joining, reply) run refl (looked_before limits client run h.1 looked)
 
 -- what came before in a legal run is legal
 pub legal_before : (limits : Limits) (later run : Run) → IsLegal limits (later ++ run) → IsLegal limits run

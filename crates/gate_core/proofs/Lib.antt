@@ -1,6 +1,6 @@
 pub mod Merges
 pub mod Counts
-pub mod Places
+pub mod Indexes
 pub mod Runs
 pub mod Endings
 pub mod Standing

@@ -7,7 +7,11 @@ use mathlib.Core.Logic.{dite}
 use native.Mathlib.Decide.{ℕ_discrete}
 use Rattle.gate_model.specs.declared.submission.Numbered.{Numbered}
 use Rattle.gate_model.specs.declared.submission.Body.{Body}
-use Rattle.gate_core.specs.Merge.{numbered, IsClient, IsNumbered, of_client, IsMerge, IsCoreState, put}
+use Rattle.gate_core.specs.Merge.{numbered, IsClient, IsNumbered, of_client, IsMerge, IsCoreState}
+
+-- the lists, with s for client c's
+abbrev pub put : (ℕ → List Numbered) → ℕ → List Numbered → ℕ → List Numbered
+put sent c s d = cond (eqb d c) s (sent d)
 
 pub put_same : (S : ℕ → List Numbered) (c : ℕ) (s : List Numbered) → put S c s c ≡ s
 put_same S c s = ap (λ b. cond b s (S c)) (eq-eqb c c refl)
@@ -77,7 +81,7 @@ takes n quota capacity S taken x queue h = record {
   merge = subst (λ l. IsMerge n S l) (sym (append_assoc taken (x ∷ []) queue)) h.merge;
 }
 
--- the same lists, told by another function
+-- the same lists, by another function
 pub same_sent : (n quota capacity : ℕ) (S T : ℕ → List Numbered) (taken queue : List Numbered) → ((c : ℕ) → IsClient n c → S c ≡ T c) → IsCoreState n quota capacity S taken queue → IsCoreState n quota capacity T taken queue
 same_sent n quota capacity S T taken queue same h = record {
   numbers = λ c i. subst (λ l. IsNumbered c l) (same c i) (h.numbers c i);

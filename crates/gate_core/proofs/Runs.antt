@@ -8,14 +8,15 @@ use Rattle.gate_model.specs.declared.submission.Body.{Body}
 use Rattle.gate_core.specs.declared.event.Event.TheVariants.{Look, Push, Take, Close, End, TakeIn}
 use Rattle.gate_core.specs.declared.event.Reply.{Reply}
 use Rattle.gate_core.specs.declared.event.Reply.TheVariants.{Ignored, Spent, Full, Queued, Taken, Empty}
-use Rattle.gate_core.specs.Merge.{numbered, IsClient, of_client, IsCoreState, put}
-use Rattle.gate_core.specs.Legal.{Run, Limits, all_queued, queued, taken, waiting, has_ended, is_open, has_looked, take_reply, reply_after, IsLegal}
-use Rattle.gate_core.proofs.Merges.{begins, queues, takes, same_sent, put_each, of_client-append, of_client_mine, of_client_other}
-use Rattle.gate_core.proofs.Places.{drop-front, slice_get-front, first_and_rest}
+use Rattle.gate_core.specs.Merge.{numbered, IsClient, of_client, IsCoreState}
+use Rattle.gate_core.specs.Limits.{Limits}
+use Rattle.gate_core.specs.Legal.{Run, all_queued, queued, taken, waiting, has_ended, is_open, has_looked, take_reply, reply_after, IsLegal}
+use Rattle.gate_core.proofs.Merges.{put, begins, queues, takes, same_sent, put_each, of_client-append, of_client_mine, of_client_other}
+use Rattle.gate_core.proofs.Indexes.{drop-front, slice_get-front, first_and_rest}
 
--- ---- what a reply tells
+-- ---- what follows from a reply
 
--- the tests behind a push's answer Queued
+-- the tests of a push that was answered Queued
 push_rule : (ready spent full : Bool) (body : Body) (n k : ℕ) → Queued k ≡ cond ready (cond spent (Spent body) (cond full (Full body) (Queued n))) (Ignored (Some body)) → (ready ≡ true) × (spent ≡ false) × (full ≡ false) × (k ≡ n)
 push_rule true false false body n k e = (refl, refl, refl, cc)
 push_rule true false true body n k e = absurd (cc)
@@ -37,11 +38,11 @@ not_true false e = refl
 -- an open client is one of the World's, and hasn't ended
 pub open_client : (limits : Limits) (client : ℕ) (run : Run) → is_open limits client run ≡ true → IsClient limits.clients client × (has_ended client run ≡ false)
 open_client limits client run e =
-    let parts = both (nat_le 1 client && nat_le client limits.clients) (not (has_ended client run)) e in
-    let bounds = both (nat_le 1 client) (nat_le client limits.clients) parts.0 in
-    ((leb-true 1 client bounds.0, leb-true client limits.clients bounds.1), not_true (has_ended client run) parts.1)
+    let bounds_and_end = both (nat_le 1 client && nat_le client limits.clients) (not (has_ended client run)) e in
+    let bounds = both (nat_le 1 client) (nat_le client limits.clients) bounds_and_end.0 in
+    ((leb-true 1 client bounds.0, leb-true client limits.clients bounds.1), not_true (has_ended client run) bounds_and_end.1)
 
--- what stands behind a push that was answered Queued
+-- what holds of a push that was answered Queued
 pub record WasQueued (limits : Limits) (client : ℕ) (number : ℕ) (run : Run) : Type 0 where
   pub client_is : IsClient limits.clients client
   pub not_ended : has_ended client run ≡ false
@@ -91,7 +92,7 @@ sound_with limits run queue whole state =
 pub queued-own : (client number : ℕ) (body : Body) (run : Run) → queued client ((Push client body, Queued number) ∷ run) ≡ queued client run ++ numbered client number body ∷ []
 queued-own client number body run = of_client-append client (all_queued run) (numbered client number body ∷ []) ∙ ap (λ l. queued client run ++ l) (of_client_mine client number body)
 
--- the lists that clients were told, after one more item
+-- the clients' lists after one more item
 pub queued-more : (run : Run) (client : ℕ) (number : ℕ) (body : Body) (d : ℕ) → put (λ c. queued c run) client (queued client run ++ numbered client number body ∷ []) d ≡ of_client d (all_queued run ++ numbered client number body ∷ [])
 queued-more run client number body d =
     put_each (λ c l. l ≡ of_client c (all_queued run ++ numbered client number body ∷ [])) (λ c. queued c run) client (queued client run ++ numbered client number body ∷ []) d
@@ -118,11 +119,11 @@ front_is limits run h = ap (λ l. slice_get l (length (taken run))) (sym h.whole
 sound_take : (limits : Limits) (item : Numbered) (run : Run) → slice_get (all_queued run) (length (taken run)) ≡ Some item → IsSound limits run → IsSound limits ((Take, Taken item) ∷ run)
 sound_take limits item run e h =
     let rest : List Numbered = drop 1 (waiting run) in
-    let parts : waiting run ≡ item ∷ rest = first_and_rest (waiting run) item (sym (front_is limits run h) ∙ e) in
+    let front : waiting run ≡ item ∷ rest = first_and_rest (waiting run) item (sym (front_is limits run h) ∙ e) in
     sound_with limits ((Take, Taken item) ∷ run) rest
-    (append_assoc (taken run) (item ∷ []) rest ∙ ap (λ l. taken run ++ l) (sym parts) ∙ h.whole)
+    (append_assoc (taken run) (item ∷ []) rest ∙ ap (λ l. taken run ++ l) (sym front) ∙ h.whole)
     (takes limits.clients limits.quota limits.capacity (λ c. queued c run) (taken run) item rest
-    (subst (λ l. IsCoreState limits.clients limits.quota limits.capacity (λ c. queued c run) (taken run) l) parts h.state))
+    (subst (λ l. IsCoreState limits.clients limits.quota limits.capacity (λ c. queued c run) (taken run) l) front h.state))
 
 sound_on_push : (limits : Limits) (client : ℕ) (body : Body) (reply : Reply) (run : Run) → reply ≡ reply_after limits run (Push client body) → IsSound limits run → IsSound limits ((Push client body, reply) ∷ run)
 sound_on_push limits client body (Queued number) run e h = sound_push limits client number body run (was_queued limits client number body run e) h

@@ -6,11 +6,11 @@ use Rattle.std.proofs.Math.Dec.{leb}
 use Rattle.std.proofs.lemmas.Option.{slice_get_past}
 use mathlib.Core.Logic.{dite}
 use native.Mathlib.Decide.{ℕ_discrete}
-use Rattle.gate_core.specs.declared.seat.Seat.{Seat}
+use Rattle.gate_core.specs.declared.world.Seat.{Seat}
 use Rattle.gate_core.specs.Merge.{IsClient}
 use Rattle.gate_core.specs.Legal.{Run, has_ended, has_joined, is_open, has_looked}
 use Rattle.gate_core.specs.State.{WorldState, seat_after, StandsAfter}
-use Rattle.gate_core.specs.Calls.{seat_of, is_open_seat, is_ready_seat, is_leaving_seat}
+use Rattle.gate_core.specs.inner.Calls.{seat_of, is_open_seat, is_ready_seat, is_leaving_seat}
 use Rattle.gate_core.proofs.Endings.{past}
 
 -- ---- seats
@@ -29,7 +29,7 @@ has_seat world client seat e = go (eqb client 0) refl
         let there : slice_get world.seats (client - 1) ≡ Some seat = sym (ap (λ b. cond b None (slice_get world.seats (client - 1))) is) ∙ e in
         record { low = dite (ℕ_discrete client 0) (λ zero_is. absurd (let t = eq-eqb client 0 zero_is in cc)) (λ ne. omega arith); there = there }
 
--- the client is one of the World's, with the seat that the run gives it, or the World has no seat for it
+-- the client is one of the World's, with its seat after the run, or the World has no seat for it
 record IsSeated (world : WorldState) (client : ℕ) (run : Run) : Type 0 where
   client_is : IsClient world.limits.clients client
   seat_is : seat_of world client ≡ Some (seat_after client run)
@@ -50,14 +50,14 @@ seated world client run h =
     go : client ≢ 0 → (b : Bool) → leb client world.limits.clients ≡ b → IsSeated world client run ⊎ IsUnknown world client
     go ne true is =
         let high : client ≤ world.limits.clients = leb-true client world.limits.clients is in
-        let back : client - 1 + 1 ≡ client = omega arith in
+        let same : client - 1 + 1 ≡ client = omega arith in
         inl (record {
           client_is = (omega arith, high);
-          seat_is = seat_of_known world client ne ∙ h.seats_are (client - 1) (omega arith) ∙ ap (λ c. Some (seat_after c run)) back;
+          seat_is = seat_of_known world client ne ∙ h.seats_are (client - 1) (omega arith) ∙ ap (λ c. Some (seat_after c run)) same;
         })
     go ne false is =
         let high : world.limits.clients < client = leb-false client world.limits.clients is in
-        inr (record { no_client = λ i. let above = i.1 in omega arith; no_seat = seat_of_known world client ne ∙ slice_get_past world.seats (client - 1) (omega (arith, h.seats_number)) })
+        inr (record { no_client = λ i. let above = i.1 in omega arith; no_seat = seat_of_known world client ne ∙ slice_get_past world.seats (client - 1) (omega (arith, h.seat_count_is)) })
 
 pub among : (n client : ℕ) → IsClient n client → (nat_le 1 client && nat_le client n) ≡ true
 among n client i = ap (λ b. b && nat_le client n) (le-leb 1 client i.0) ∙ le-leb client n i.1
@@ -70,7 +70,7 @@ not_among n client no_client = go (nat_le 1 client) (nat_le client n) refl refl
     go true false low high = refl
     go false b low high = refl
 
--- the World knows who is open, who may push and who may be taken in
+-- by the seats it is decided who is open, who may push and who may be taken in
 pub open_is : (world : WorldState) (client : ℕ) (run : Run) → StandsAfter world run → is_open_seat (seat_of world client) ≡ is_open world.limits client run
 open_is world client run h =
     ⊎_elim
@@ -96,7 +96,7 @@ leaving_is world client run h =
     (λ (u : IsUnknown world client). ap is_leaving_seat u.no_seat ∙ sym (ap (λ b. b && not (has_joined client run)) (unended world client run h u.no_client (has_ended client run) refl)))
     (seated world client run h)
 
--- a seat that the World has is the one that the run gives
+-- a seat that the World has is its client's after the run
 pub seat_is_after : (world : WorldState) (client : ℕ) (seat : Seat) (run : Run) → StandsAfter world run → seat_of world client ≡ Some seat → seat_after client run ≡ seat
 seat_is_after world client seat run h e =
     ⊎_elim

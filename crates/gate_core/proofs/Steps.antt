@@ -8,17 +8,18 @@ use native.Mathlib.Decide.{ℕ_discrete}
 use Rattle.gate_model.specs.declared.moment.Moment.{Moment}
 use Rattle.gate_model.specs.declared.submission.Numbered.{Numbered}
 use Rattle.gate_model.specs.declared.submission.Body.{Body}
-use Rattle.gate_core.specs.declared.seat.Seat.{Seat}
+use Rattle.gate_core.specs.declared.world.Seat.{Seat}
 use Rattle.gate_core.specs.declared.event.Event.{Event}
 use Rattle.gate_core.specs.declared.event.Event.TheVariants.{Look, Push, Take, Close, End, TakeIn}
 use Rattle.gate_core.specs.declared.event.Reply.{Reply}
 use Rattle.gate_core.specs.declared.event.Reply.TheVariants.{Ignored, Spent, Full, Queued, Taken, Empty, Ended, Joined}
 use Rattle.gate_core.specs.Merge.{numbered, IsClient, of_client}
-use Rattle.gate_core.specs.Legal.{Run, Limits, all_queued, queued, taken, waiting, first_close, has_ended, has_joined, is_open, is_own, last_own, is_open_look, has_looked, look_reply, push_reply, take_reply, close_reply}
+use Rattle.gate_core.specs.Limits.{Limits}
+use Rattle.gate_core.specs.Legal.{Run, all_queued, queued, taken, waiting, first_close, has_ended, has_joined, is_open, is_own, last_own, is_open_look, has_looked, look_reply, push_reply, take_reply, close_reply}
 use Rattle.gate_core.specs.State.{WorldState, seat_after, StandsAfter}
-use Rattle.gate_core.specs.Calls.{seat_of, with_seat, with_queue, with_close, is_open_seat, is_ready_seat, is_leaving_seat, after_look, after_push, after_refusal, after_end, after_taking_in}
+use Rattle.gate_core.specs.inner.Calls.{seat_of, with_seat, with_queue, with_close, is_open_seat, is_ready_seat, is_leaving_seat, after_look, after_push, after_refusal, after_end, after_taking_in}
 use Rattle.gate_core.proofs.Merges.{of_client-append, of_client_mine, of_client_other}
-use Rattle.gate_core.proofs.Places.{slice_get-set_same, slice_get-set_other, drop-front, first_and_rest, no_first}
+use Rattle.gate_core.proofs.Indexes.{slice_get-set_same, slice_get-set_other, drop-front, first_and_rest, no_first}
 use Rattle.gate_core.proofs.Runs.{IsSound, sound, front_is, open_client}
 use Rattle.gate_core.proofs.Endings.{past}
 use Rattle.gate_core.proofs.Standing.{has_seat, among, open_is, ready_is, leaving_is, seat_is_after}
@@ -43,19 +44,19 @@ apart client d ne = ne_eqb client d (λ e. ne (sym e))
 
 pub seats_changed : (world : WorldState) (client : ℕ) (old new : Seat) (pair : Event × Reply) (run : Run) → StandsAfter world run → seat_of world client ≡ Some old → new ≡ seat_after client (pair ∷ run)
     → ((d : ℕ) → d ≢ client → seat_after d (pair ∷ run) ≡ seat_after d run)
-    → (place : ℕ) → place < world.limits.clients → slice_get (slice_set world.seats (client - 1) new) place ≡ Some (seat_after (place + 1) (pair ∷ run))
-seats_changed world client old new pair run h e here others place low =
+    → (index : ℕ) → index < world.limits.clients → slice_get (slice_set world.seats (client - 1) new) index ≡ Some (seat_after (index + 1) (pair ∷ run))
+seats_changed world client old new pair run h e here others index low =
     let has = has_seat world client old e in
     let least : 1 ≤ client = has.low in
-    dite (ℕ_discrete place (client - 1))
-    (λ is. let back : client ≡ place + 1 = omega arith in
-    ap (λ k. slice_get (slice_set world.seats (client - 1) new) k) is ∙ slice_get-set_same world.seats (client - 1) old new has.there ∙ ap Some here ∙ ap (λ c. Some (seat_after c (pair ∷ run))) back)
-    (λ ne. slice_get-set_other world.seats (client - 1) place new ne ∙ h.seats_are place low ∙ ap Some (sym (others (place + 1) (λ is. ne (omega arith)))))
+    dite (ℕ_discrete index (client - 1))
+    (λ is. let returned : client ≡ index + 1 = omega arith in
+    ap (λ k. slice_get (slice_set world.seats (client - 1) new) k) is ∙ slice_get-set_same world.seats (client - 1) old new has.there ∙ ap Some here ∙ ap (λ c. Some (seat_after c (pair ∷ run))) returned)
+    (λ ne. slice_get-set_other world.seats (client - 1) index new ne ∙ h.seats_are index low ∙ ap Some (sym (others (index + 1) (λ is. ne (omega arith)))))
 
 pub seats_unchanged : (world : WorldState) (pair : Event × Reply) (run : Run) → StandsAfter world run
     → ((d : ℕ) → IsClient world.limits.clients d → seat_after d (pair ∷ run) ≡ seat_after d run)
-    → (place : ℕ) → place < world.limits.clients → slice_get world.seats place ≡ Some (seat_after (place + 1) (pair ∷ run))
-seats_unchanged world pair run h same place low = h.seats_are place low ∙ ap Some (sym (same (place + 1) (omega arith, omega arith)))
+    → (index : ℕ) → index < world.limits.clients → slice_get world.seats index ≡ Some (seat_after (index + 1) (pair ∷ run))
+seats_unchanged world pair run h same index low = h.seats_are index low ∙ ap Some (sym (same (index + 1) (omega arith, omega arith)))
 
 -- ---- looks
 
@@ -63,30 +64,30 @@ look_others : (client : ℕ) (reply : Reply) (run : Run) (d : ℕ) → d ≢ cli
 look_others client reply run d ne = ap (λ b. seat (length (queued d run)) b (has_ended d run) (has_joined d run)) (other_looked d (Look client, reply) run (apart client d ne))
 
 look_here : (client : ℕ) (closed : Option Moment) (run : Run) → after_look closed (seat_after client run) ≡ seat_after client ((Look client, look_reply closed) ∷ run)
-look_here client closed run = ap (λ b. seat (length (queued client run)) b (has_ended client run) (has_joined client run)) (tells closed ∙ sym (own_looked client (Look client, look_reply closed) run (eq-eqb client client refl)))
+look_here client closed run = ap (λ b. seat (length (queued client run)) b (has_ended client run) (has_joined client run)) (agrees closed ∙ sym (own_looked client (Look client, look_reply closed) run (eq-eqb client client refl)))
   where
-    tells : (c : Option Moment) → is_none c ≡ is_open_look (Some (Look client, look_reply c))
-    tells None = refl
-    tells (Some first) = refl
+    agrees : (c : Option Moment) → is_none c ≡ is_open_look (Some (Look client, look_reply c))
+    agrees None = refl
+    agrees (Some first) = refl
 
 pub stands_look : (world : WorldState) (client : ℕ) (old : Seat) (run : Run) → seat_of world client ≡ Some old → is_open_seat (seat_of world client) ≡ true → StandsAfter world run → StandsAfter (with_seat world client (after_look world.closed old)) ((Look client, look_reply world.closed) ∷ run)
 stands_look world client old run e unended h = record {
   legal = (ap look_reply h.closed_is ∙ sym (ap (λ b. cond b (look_reply (first_close run)) (Ignored None)) (sym (open_is world client run h) ∙ unended)), h.legal);
   queue_is = h.queue_is;
   closed_is = h.closed_is;
-  seats_number = length-set world.seats (client - 1) (after_look world.closed old) ∙ h.seats_number;
+  seat_count_is = length-set world.seats (client - 1) (after_look world.closed old) ∙ h.seat_count_is;
   seats_are = seats_changed world client old (after_look world.closed old) (Look client, look_reply world.closed) run h e
       (ap (after_look world.closed) (sym (seat_is_after world client old run h e)) ∙ look_here client world.closed run)
       (look_others client (look_reply world.closed) run);
 }
 
 -- a look that was ignored changes nothing: its client had no open look before
-ignored_others : (world : WorldState) (client : ℕ) (event : Event) (back : Option Body) (run : Run) → StandsAfter world run → is_own client event ≡ true → ((d : ℕ) → d ≢ client → is_own d event ≡ false) → is_open_look (Some (event, Ignored back)) ≡ false
-    → (IsClient world.limits.clients client → has_looked client run ≡ false) → (d : ℕ) → IsClient world.limits.clients d → has_looked d ((event, Ignored back) ∷ run) ≡ has_looked d run
-ignored_others world client event back run h own apart_from no_look unlooked d i =
+ignored_others : (world : WorldState) (client : ℕ) (event : Event) (returned : Option Body) (run : Run) → StandsAfter world run → is_own client event ≡ true → ((d : ℕ) → d ≢ client → is_own d event ≡ false) → is_open_look (Some (event, Ignored returned)) ≡ false
+    → (IsClient world.limits.clients client → has_looked client run ≡ false) → (d : ℕ) → IsClient world.limits.clients d → has_looked d ((event, Ignored returned) ∷ run) ≡ has_looked d run
+ignored_others world client event returned run h own apart_from no_look unlooked d i =
     dite (ℕ_discrete d client)
-    (λ is. subst (λ c. has_looked c ((event, Ignored back) ∷ run) ≡ has_looked c run) (sym is) (own_looked client (event, Ignored back) run own ∙ no_look ∙ sym (unlooked (subst (λ c. IsClient world.limits.clients c) is i))))
-    (λ ne. other_looked d (event, Ignored back) run (apart_from d ne))
+    (λ is. subst (λ c. has_looked c ((event, Ignored returned) ∷ run) ≡ has_looked c run) (sym is) (own_looked client (event, Ignored returned) run own ∙ no_look ∙ sym (unlooked (subst (λ c. IsClient world.limits.clients c) is i))))
+    (λ ne. other_looked d (event, Ignored returned) run (apart_from d ne))
 
 -- a client of the World that isn't open has ended, and so has no open look
 unopened : (world : WorldState) (client : ℕ) (run : Run) → StandsAfter world run → is_open_seat (seat_of world client) ≡ false → IsClient world.limits.clients client → has_looked client run ≡ false
@@ -104,7 +105,7 @@ stands_ignored_look world client run unopen h = record {
   legal = (sym (ap (λ b. cond b (look_reply (first_close run)) (Ignored None)) (sym (open_is world client run h) ∙ unopen)), h.legal);
   queue_is = h.queue_is;
   closed_is = h.closed_is;
-  seats_number = h.seats_number;
+  seat_count_is = h.seat_count_is;
   seats_are = seats_unchanged world (Look client, Ignored None) run h
       (λ d i. ap (λ b. seat (length (queued d run)) b (has_ended d run) (has_joined d run))
       (ignored_others world client (Look client) None run h (eq-eqb client client refl) (apart client) refl (unopened world client run h unopen) d i));
@@ -169,7 +170,7 @@ stands_queued world client old body number run e ready next quota_left room h =
       queue_is = ap (λ l. l ++ item ∷ []) h.queue_is
           ∙ sym (ap (λ l. drop (length (taken run)) (l ++ item ∷ [])) (sym whole.whole) ∙ ap (drop (length (taken run))) (append_assoc (taken run) (waiting run) (item ∷ [])) ∙ drop-front (taken run) (waiting run ++ item ∷ []));
       closed_is = h.closed_is;
-      seats_number = length-set world.seats (client - 1) (after_push old) ∙ h.seats_number;
+      seat_count_is = length-set world.seats (client - 1) (after_push old) ∙ h.seat_count_is;
       seats_are = seats_changed world client old (after_push old) (Push client body, Queued number) run h e
           (ap after_push (sym (seat_is_after world client old run h e)) ∙ queued_here client number body run)
           (queued_others client number body run);
@@ -194,7 +195,7 @@ stands_spent world client old body run e ready no_quota h =
       );
       queue_is = h.queue_is;
       closed_is = h.closed_is;
-      seats_number = length-set world.seats (client - 1) (after_refusal old) ∙ h.seats_number;
+      seat_count_is = length-set world.seats (client - 1) (after_refusal old) ∙ h.seat_count_is;
       seats_are = seats_changed world client old (after_refusal old) (Push client body, Spent body) run h e
           (ap after_refusal (sym (seat_is_after world client old run h e)) ∙ ap (λ b. seat (length (queued client run)) b (has_ended client run) (has_joined client run)) (sym (own_looked client (Push client body, Spent body) run (eq-eqb client client refl))))
           (λ d ne. ap (λ b. seat (length (queued d run)) b (has_ended d run) (has_joined d run)) (refused_others client body (Spent body) run d ne));
@@ -220,7 +221,7 @@ stands_full world client old body run e ready quota_left no_room h =
       );
       queue_is = h.queue_is;
       closed_is = h.closed_is;
-      seats_number = length-set world.seats (client - 1) (after_refusal old) ∙ h.seats_number;
+      seat_count_is = length-set world.seats (client - 1) (after_refusal old) ∙ h.seat_count_is;
       seats_are = seats_changed world client old (after_refusal old) (Push client body, Full body) run h e
           (ap after_refusal (sym (seat_is_after world client old run h e)) ∙ ap (λ b. seat (length (queued client run)) b (has_ended client run) (has_joined client run)) (sym (own_looked client (Push client body, Full body) run (eq-eqb client client refl))))
           (λ d ne. ap (λ b. seat (length (queued d run)) b (has_ended d run) (has_joined d run)) (refused_others client body (Full body) run d ne));
@@ -243,7 +244,7 @@ stands_ignored_push world client body run e h = record {
   legal = (sym (ap (λ b. cond b (push_reply world.limits client body run) (Ignored (Some body))) (sym (ready_is world client run h) ∙ e)), h.legal);
   queue_is = h.queue_is;
   closed_is = h.closed_is;
-  seats_number = h.seats_number;
+  seat_count_is = h.seat_count_is;
   seats_are = seats_unchanged world (Push client body, Ignored (Some body)) run h
       (λ d i. ap (λ b. seat (length (queued d run)) b (has_ended d run) (has_joined d run))
       (ignored_others world client (Push client body) (Some body) run h (eq-eqb client client refl) (apart client) refl (unready world client run h e) d i));
@@ -255,13 +256,13 @@ stands_taken : (world : WorldState) (item : Numbered) (run : Run) → slice_get 
 stands_taken world item run e h =
     let whole = sound world.limits run h.legal in
     let first : slice_get (waiting run) 0 ≡ Some item = ap (λ l. slice_get l 0) (sym h.queue_is) ∙ e in
-    let parts : waiting run ≡ item ∷ drop 1 (waiting run) = first_and_rest (waiting run) item first in
-    let all : (taken run ++ item ∷ []) ++ drop 1 (waiting run) ≡ all_queued run = append_assoc (taken run) (item ∷ []) (drop 1 (waiting run)) ∙ ap (λ l. taken run ++ l) (sym parts) ∙ whole.whole in
+    let front : waiting run ≡ item ∷ drop 1 (waiting run) = first_and_rest (waiting run) item first in
+    let all : (taken run ++ item ∷ []) ++ drop 1 (waiting run) ≡ all_queued run = append_assoc (taken run) (item ∷ []) (drop 1 (waiting run)) ∙ ap (λ l. taken run ++ l) (sym front) ∙ whole.whole in
     record {
       legal = (ap take_reply (sym (front_is world.limits run whole ∙ first)), h.legal);
       queue_is = ap (drop 1) h.queue_is ∙ sym (ap (drop (length (taken run ++ item ∷ []))) (sym all) ∙ drop-front (taken run ++ item ∷ []) (drop 1 (waiting run)));
       closed_is = h.closed_is;
-      seats_number = h.seats_number;
+      seat_count_is = h.seat_count_is;
       seats_are = seats_unchanged world (Take, Taken item) run h (λ d i. refl);
     }
 
@@ -274,7 +275,7 @@ stands_empty world run e h =
       legal = (ap take_reply (sym (front_is world.limits run whole ∙ none)), h.legal);
       queue_is = ap (drop 1) nothing ∙ sym nothing ∙ h.queue_is;
       closed_is = h.closed_is;
-      seats_number = h.seats_number;
+      seat_count_is = h.seat_count_is;
       seats_are = seats_unchanged world (Take, Empty) run h (λ d i. refl);
     }
 
@@ -290,7 +291,7 @@ stands_close world moment run h = record {
   legal = (ap close_reply h.closed_is, h.legal);
   queue_is = h.queue_is;
   closed_is = ap (λ c. Some (unwrap_or c moment)) h.closed_is;
-  seats_number = h.seats_number;
+  seat_count_is = h.seat_count_is;
   seats_are = seats_unchanged world (Close moment, close_reply world.closed) run h (λ d i. refl);
 }
 
@@ -311,7 +312,7 @@ stands_end world client old run e unended h = record {
   legal = (sym (ap (λ b. cond b Ended (Ignored None)) (sym (open_is world client run h) ∙ unended)), h.legal);
   queue_is = h.queue_is;
   closed_is = h.closed_is;
-  seats_number = length-set world.seats (client - 1) (after_end old) ∙ h.seats_number;
+  seat_count_is = length-set world.seats (client - 1) (after_end old) ∙ h.seat_count_is;
   seats_are = seats_changed world client old (after_end old) (End client, Ended) run h e
       (ap after_end (sym (seat_is_after world client old run h e)) ∙ end_here client run)
       (end_others client run);
@@ -322,7 +323,7 @@ stands_ignored_end world client run unopen h = record {
   legal = (sym (ap (λ b. cond b Ended (Ignored None)) (sym (open_is world client run h) ∙ unopen)), h.legal);
   queue_is = h.queue_is;
   closed_is = h.closed_is;
-  seats_number = h.seats_number;
+  seat_count_is = h.seat_count_is;
   seats_are = seats_unchanged world (End client, Ignored None) run h
       (λ d i. ap (λ b. seat (length (queued d run)) b (has_ended d run) (has_joined d run))
       (ignored_others world client (End client) None run h (eq-eqb client client refl) (apart client) refl (unopened world client run h unopen) d i));
@@ -333,7 +334,7 @@ stands_joined world client old run e leaving h = record {
   legal = (sym (ap (λ b. cond b Joined (Ignored None)) (sym (leaving_is world client run h) ∙ leaving)), h.legal);
   queue_is = h.queue_is;
   closed_is = h.closed_is;
-  seats_number = length-set world.seats (client - 1) (after_taking_in old) ∙ h.seats_number;
+  seat_count_is = length-set world.seats (client - 1) (after_taking_in old) ∙ h.seat_count_is;
   seats_are = seats_changed world client old (after_taking_in old) (TakeIn client, Joined) run h e
       (ap after_taking_in (sym (seat_is_after world client old run h e))
       ∙ sym (ap (λ b. seat (length (queued client run)) (has_looked client run) (has_ended client run) (b || has_joined client run)) (eq-eqb client client refl)))
@@ -345,6 +346,6 @@ stands_ignored_taking_in world client run staying h = record {
   legal = (sym (ap (λ b. cond b Joined (Ignored None)) (sym (leaving_is world client run h) ∙ staying)), h.legal);
   queue_is = h.queue_is;
   closed_is = h.closed_is;
-  seats_number = h.seats_number;
+  seat_count_is = h.seat_count_is;
   seats_are = seats_unchanged world (TakeIn client, Ignored None) run h (λ d i. refl);
 }

@@ -10,7 +10,7 @@ use Rattle.gate_core.specs.Legal.{Run, first_close, has_joined, is_own}
 pub record FollowsOpenLook (client : ℕ) (run : Run) : Type 0 where
   pub since : Run
   pub before : Run
-  pub parts : run ≡ since ++ (Look client, Open) ∷ before
+  pub run_is : run ≡ since ++ (Look client, Open) ∷ before
   pub no_close_before : first_close before ≡ None
   pub no_own_event_since : list_any (λ pair. is_own client pair.0) since ≡ false
 
@@ -18,5 +18,5 @@ pub record FollowsOpenLook (client : ℕ) (run : Run) : Type 0 where
 pub record IsDrained (clients : ℕ) (run : Run) : Type 0 where
   pub since : Run
   pub before : Run
-  pub parts : run ≡ since ++ (Take, Empty) ∷ before
+  pub run_is : run ≡ since ++ (Take, Empty) ∷ before
   pub all_joined : (client : ℕ) → IsClient clients client → has_joined client before ≡ true

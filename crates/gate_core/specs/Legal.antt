@@ -1,5 +1,5 @@
 -- Legal runs: the one reply that each event gets, by what was answered before it. Own rules.
--- A run lists events with their replies, the newest first: what stands behind a pair came before it.
+-- A run lists events with their replies, the newest first: what stands after a pair in the list came before it.
 use Rattle.std.specs.Prelude.{◌≡◌, ℕ, ◌+◌, ◌-◌, ◌==◌, nat_le, if◌then◌else◌, List, [], ◌∷◌, ◌++◌, length, drop, find, slice_get, Option, Some, None, unwrap_or, Bool, true, false, not, ◌&&◌}
 use Rattle.std.specs.List.{list_any}
 use Rattle.gate_model.specs.declared.moment.Moment.{Moment}
@@ -9,16 +9,12 @@ use Rattle.gate_core.specs.declared.event.Event.{Event}
 use Rattle.gate_core.specs.declared.event.Event.TheVariants.{Look, Push, Take, Close, End, TakeIn}
 use Rattle.gate_core.specs.declared.event.Reply.{Reply}
 use Rattle.gate_core.specs.declared.event.Reply.TheVariants.{Open, Closing, Ignored, Spent, Full, Queued, Taken, Empty, Begun, AlreadyClosing, Ended, Joined}
+use Rattle.gate_core.specs.Limits.{Limits}
 use Rattle.gate_core.specs.Merge.{numbered, of_client}
 
+-- events with their replies, the newest first
 abbrev pub Run : Type 0
 Run = List (Event × Reply)
-
--- with how many clients, items per client and items in the queue a World was opened
-pub record Limits : Type 0 where
-  pub clients : ℕ
-  pub quota : ℕ
-  pub capacity : ℕ
 
 -- ---- what was queued and taken
 
@@ -28,7 +24,7 @@ all_queued [] = []
 all_queued ((Push client body, Queued number) ∷ run) = all_queued run ++ numbered client number body ∷ []
 all_queued (_ ∷ run) = all_queued run
 
--- the items that this client was told are queued, in order
+-- the items that this client was answered are queued, in order
 abbrev pub queued : ℕ → Run → List Numbered
 queued client run = of_client client (all_queued run)
 
@@ -38,7 +34,7 @@ taken [] = []
 taken ((Take, Taken item) ∷ run) = taken run ++ item ∷ []
 taken (_ ∷ run) = taken run
 
--- the items that were queued behind those taken
+-- the items that were queued after those taken
 abbrev pub waiting : Run → List Numbered
 waiting run = drop (length (taken run)) (all_queued run)
 
@@ -55,6 +51,7 @@ abbrev pub is_end_of : ℕ → Event × Reply → Bool
 is_end_of client (End ending, Ended) = ending == client
 is_end_of client _ = false
 
+-- the client has ended
 abbrev pub has_ended : ℕ → Run → Bool
 has_ended client run = list_any (is_end_of client) run
 
@@ -63,6 +60,7 @@ abbrev pub is_joining_of : ℕ → Event × Reply → Bool
 is_joining_of client (TakeIn joining, Joined) = joining == client
 is_joining_of client _ = false
 
+-- the client was taken in
 abbrev pub has_joined : ℕ → Run → Bool
 has_joined client run = list_any (is_joining_of client) run
 
@@ -83,6 +81,7 @@ is_own client _ = false
 abbrev pub last_own : ℕ → Run → Option (Event × Reply)
 last_own client run = find (λ pair. is_own client pair.0) run
 
+-- it is a look answered Open
 abbrev pub is_open_look : Option (Event × Reply) → Bool
 is_open_look (Some (Look client, Open)) = true
 is_open_look _ = false
@@ -93,21 +92,24 @@ has_looked client run = is_open_look (last_own client run)
 
 -- ---- the replies
 
+-- the reply to a look of an open client, by the first close
 abbrev pub look_reply : Option Moment → Reply
 look_reply None = Open
 look_reply (Some first) = Closing first
 
--- the push of a client that has looked
+-- the reply to a push of an open client that has looked
 abbrev pub push_reply : Limits → ℕ → Body → Run → Reply
 push_reply limits client body run =
     if length (queued client run) == limits.quota then Spent body
     else (if length (all_queued run) - length (taken run) == limits.capacity then Full body
     else Queued (length (queued client run) + 1))
 
+-- the reply to a take, by the oldest item that waits
 abbrev pub take_reply : Option Numbered → Reply
 take_reply None = Empty
 take_reply (Some item) = Taken item
 
+-- the reply to a close, by the first close
 abbrev pub close_reply : Option Moment → Reply
 close_reply None = Begun
 close_reply (Some first) = AlreadyClosing first

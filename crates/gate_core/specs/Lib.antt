@@ -1,6 +1,7 @@
+pub mod Limits
 pub mod Merge
 pub mod Legal
 pub mod Law
 pub mod State
-pub mod Calls
-pub mod Opening
+pub mod Event
+pub mod inner

@@ -30,7 +30,3 @@ pub record IsCoreState (n quota capacity : ℕ) (sent : ℕ → List Numbered) (
   pub within_quota : (c : ℕ) → IsClient n c → length (sent c) ≤ quota
   pub within_capacity : length queue ≤ capacity
   pub merge : IsMerge n sent (taken ++ queue)
-
--- the lists, with s for client c's
-abbrev pub put : (ℕ → List Numbered) → ℕ → List Numbered → ℕ → List Numbered
-put sent c s d = if d == c then s else sent d

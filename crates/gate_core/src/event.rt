@@ -1,6 +1,6 @@
 use gate_model::{Body, Moment, Numbered};
 
-/// What happens. Clients are told by their numbers, from 1.
+/// What happens. Clients are named by their numbers, from 1.
 #[derive(Debug, Drop, PartialEq)]
 pub enum Event {
     /// A client looks whether a close has begun.
@@ -24,12 +24,12 @@ pub enum Reply {
     Open,
     /// To a look: a close began, the first one at this moment.
     Closing(Moment),
-    /// The client may not do this now. A pushed body comes back.
+    /// The client may not do this now. A pushed body is returned.
     Ignored(Option<Body>),
-    /// To a push: as many items as the quota allows were queued for this client. The body comes
-    /// back.
+    /// To a push: as many items as the quota allows were queued for this client. The body is
+    /// returned.
     Spent(Body),
-    /// To a push: the queue holds as many items as it may. The body comes back.
+    /// To a push: the queue holds as many items as it may. The body is returned.
     Full(Body),
     /// To a push: the number of the item among those of its client, from 1.
     Queued(u64),
@@ -41,13 +41,13 @@ pub enum Reply {
     Begun,
     /// To a close: another one was first, at this moment.
     AlreadyClosing(Moment),
-    /// To an end.
+    /// To an end: the client has ended.
     Ended,
-    /// To a taking in.
+    /// To a taking in: the client was taken in.
     Joined,
 }
 
-/// Why a push of a client that may push is refused. The body comes back.
+/// Why a push of a client that may push is refused. The body is returned.
 #[derive(Debug, Drop, PartialEq)]
 pub(crate) enum PushFault {
     /// As many items as the quota allows were queued for this client.

@@ -3,14 +3,15 @@ ghost use Rattle.gate_model.specs.declared.submission.Body.{Body};
 ghost use Rattle.gate_core.specs.declared.event.Event.TheVariants.{Push};
 ghost use Rattle.gate_core.specs.declared.event.Reply.TheVariants.{Queued};
 ghost use Rattle.gate_core.specs.Merge.{IsMerge, IsCoreState};
-ghost use Rattle.gate_core.specs.Legal.{Run, Limits, IsLegal, queued, taken, waiting};
+ghost use Rattle.gate_core.specs.Limits.{Limits};
+ghost use Rattle.gate_core.specs.Legal.{Run, IsLegal, queued, taken, waiting};
 ghost use Rattle.gate_core.specs.Law.{FollowsOpenLook, IsDrained};
-ghost use Rattle.gate_core.specs.State.{WorldState, StandsAfter, number_taken};
+ghost use Rattle.gate_core.specs.State.{WorldState, StandsAfter, taken_count};
 
 /// What holds of every legal run, and so of every run that a World plays: nothing is lost, made or
 /// put out of order, whatever the events are.
 pub fn conservation()
-    // What was taken, followed by what waits, is a merge of what each client was told is queued.
+    // What was taken, followed by what waits, is a merge of what each client was answered is queued.
     ensures merge { (limits : Limits) (run : Run) → IsLegal limits run →
         IsCoreState limits.clients limits.quota limits.capacity (λ client. queued client run) (taken run) (waiting run) }
 
@@ -22,6 +23,6 @@ pub fn conservation()
     ensures drained { (limits : Limits) (run : Run) → IsLegal limits run → IsDrained limits.clients run →
         IsMerge limits.clients (λ client. queued client run) (taken run) }
 
-    // What a World shows as taken is what its run says.
-    ensures counted { (world : WorldState) (run : Run) → StandsAfter world run → number_taken world ≡ length (taken run) }
+    // As many items as a World shows as taken were taken in its run.
+    ensures counted { (world : WorldState) (run : Run) → StandsAfter world run → taken_count world ≡ length (taken run) }
 {}

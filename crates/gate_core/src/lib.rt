@@ -1,21 +1,17 @@
 //! The queue, its clients, its applier and its close as one machine over a list of events.
 //!
 //! Events go in, one reply to each comes out. For every list of events, what was taken followed by
-//! the queue is a merge of what each client was told is queued.
+//! the queue is a merge of what each client was answered is queued.
 #![tactic(auto)]
 
 mod event;
 mod law;
-mod opening;
+mod limits;
 mod playing;
-mod seat;
 mod world;
 
 pub use event::{Event, Reply};
 pub use law::conservation;
-pub use opening::{MOST_CAPACITY, MOST_CLIENTS, OpenFault};
+pub use limits::{MOST_CAPACITY, MOST_CLIENTS, OpenFault};
 pub use playing::{RefusedRun, run};
 pub use world::World;
-
-#[cfg(test)]
-mod tests;

@@ -1,19 +1,102 @@
 ghost use Rattle.std.specs.Prelude.{◌≡◌, length, IfOk, IfErr};
-ghost use Rattle.gate_core.specs.State.{ExtendsByAll};
+ghost use Rattle.gate_core.specs.State.{Extends, ExtendsByAll};
+ghost use Rattle.gate_core.specs.Event.{FitsEvent, FitEvents};
 
-use crate::event::{Event, Reply};
+use crate::event::{Event, PushFault, Reply};
 use crate::world::World;
+use gate_model::Body;
 use std::alloc::Global;
+use thiserror::Error;
 
-/// A run that was refused for want of memory: nothing was played.
-#[derive(Drop)]
+impl World {
+    /// Plays one event, and answers it by the events that were played before. It takes no memory.
+    pub fn play(&mut self, event: Event) -> Reply
+        ensures stands { Extends self.old event result self.new }
+        ensures fits { FitsEvent event result }
+        ensures limits { self.new.limits ≡ self.old.limits }
+    {
+        match event {
+            Event::Look(client) => self.reply_to_look(client),
+            Event::Push(client, body) => self.reply_to_push(client, body),
+            Event::Take => match self.take() {
+                Some(item) => Reply::Taken(item),
+                None => Reply::Empty,
+            },
+            Event::Close(moment) => match self.close(moment) {
+                None => Reply::Begun,
+                Some(first) => Reply::AlreadyClosing(first),
+            },
+            Event::End(client) => self.reply_to_end(client),
+            Event::TakeIn(client) => self.reply_to_taking_in(client),
+        }
+    }
+
+    fn reply_to_look(&mut self, client: u32) -> Reply
+        ensures stands { Extends self.old (Event.Look client) result self.new }
+        ensures fits { FitsEvent (Event.Look client) result }
+        ensures limits { self.new.limits ≡ self.old.limits }
+    {
+        if !self.is_open(client) {
+            return Reply::Ignored(None);
+        }
+        match self.look(client) {
+            None => Reply::Open,
+            Some(first) => Reply::Closing(first),
+        }
+    }
+
+    fn reply_to_push(&mut self, client: u32, body: Body) -> Reply
+        ensures stands { Extends self.old (Event.Push client body) result self.new }
+        ensures fits { FitsEvent (Event.Push client body) result }
+        ensures limits { self.new.limits ≡ self.old.limits }
+    {
+        if !self.is_ready(client) {
+            return Reply::Ignored(Some(body));
+        }
+        match self.push(client, body) {
+            Ok(number) => Reply::Queued(number),
+            Err(PushFault::Spent(body)) => Reply::Spent(body),
+            Err(PushFault::Full(body)) => Reply::Full(body),
+        }
+    }
+
+    fn reply_to_end(&mut self, client: u32) -> Reply
+        ensures stands { Extends self.old (Event.End client) result self.new }
+        ensures fits { FitsEvent (Event.End client) result }
+        ensures limits { self.new.limits ≡ self.old.limits }
+    {
+        if !self.is_open(client) {
+            return Reply::Ignored(None);
+        }
+        self.end(client);
+        Reply::Ended
+    }
+
+    fn reply_to_taking_in(&mut self, client: u32) -> Reply
+        ensures stands { Extends self.old (Event.TakeIn client) result self.new }
+        ensures fits { FitsEvent (Event.TakeIn client) result }
+        ensures limits { self.new.limits ≡ self.old.limits }
+    {
+        if !self.is_leaving(client) {
+            return Reply::Ignored(None);
+        }
+        self.take_in(client);
+        Reply::Joined
+    }
+}
+
+/// A run that was refused because memory ran out: nothing was played.
+#[derive(Debug, Drop, Error)]
+#[error("out of memory: no event was played")]
 pub struct RefusedRun {
     pub events: Vec<Event>,
     pub world: World,
 }
 
-/// Plays events one after another. The replies stand in the order of the events. For want of
-/// memory nothing is played, and both come back.
+/// Plays events one after another. The replies stand in the order of the events.
+///
+/// It fails only where memory runs out. Then nothing was played, and the events and the World are
+/// returned.
 pub fn run(
     alloc: Global,
     mut world: World,
@@ -21,6 +104,7 @@ pub fn run(
 ) -> Result<(Vec<Reply>, World), RefusedRun>
     ensures replies { IfOk result (λ played. length played.0.items ≡ length events.items) }
     ensures stands { IfOk result (λ played. ExtendsByAll world events.items played.0.items played.1) }
+    ensures fits { IfOk result (λ played. FitEvents events.items played.0.items) }
     ensures limits { IfOk result (λ played. played.1.limits ≡ world.limits) }
 
     ensures refused { IfErr result (λ refused. (refused.events.items ≡ events.items) × (refused.world ≡ world)) }

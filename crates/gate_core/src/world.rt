@@ -1,19 +1,39 @@
 ghost use Rattle.std.specs.Prelude.{◌≡◌, ◌<◌, [], ◌∷◌, ◌++◌, length, slice_get, drop, true, Some, unwrap_or, IsSome, IfSome, IfNone, IfOk};
 ghost use Rattle.gate_core.specs.State.{Extends};
-ghost use Rattle.gate_core.specs.Calls.{seat_of, with_seat, with_queue, with_close, is_open_seat, is_ready_seat, is_leaving_seat, after_look, after_end, after_taking_in, PushGives, reply_of_push};
-ghost use Rattle.gate_core.specs.Opening.{limits, new_world};
+ghost use Rattle.gate_core.specs.inner.Calls.{new_world, seat_of, with_seat, with_queue, with_close, is_open_seat, is_ready_seat, is_leaving_seat, after_look, after_end, after_taking_in, AnswersPush, reply_of_push};
+ghost use Rattle.gate_core.specs.Limits.{limits_of};
 ghost use Rattle.gate_core.specs.Legal.{look_reply, take_reply, close_reply};
 
 use crate::event::{Event, PushFault, Reply};
-use crate::seat::{NEW_SEAT, Seat};
 use gate_model::{Body, Moment, Numbered};
 use std::alloc::{AllocError, Global};
 use std::collections::VecDeque;
 use std::marker::Model;
 
+/// What is kept of a client.
+#[derive(Clone, Copy, Debug, PartialEq, Eq)]
+pub struct Seat {
+    /// How many items were queued for it.
+    pub count: u32,
+    /// Its last event is a look answered Open.
+    pub looked: bool,
+    /// It has ended.
+    pub ended: bool,
+    /// It was taken in.
+    pub joined: bool,
+}
+
+// A client that has done nothing yet.
+const NEW_SEAT: Seat = Seat {
+    count: 0,
+    looked: false,
+    ended: false,
+    joined: false,
+};
+
 /// The queue, its clients and its close. Contracts see what it was opened with, the queue, the
 /// moment of the first close and a seat for each client.
-#[derive(Drop)]
+#[derive(Debug, Drop)]
 pub struct World {
     clients: u32,
     capacity: usize,
@@ -48,7 +68,7 @@ impl World {
         capacity: usize,
         quota: u32,
     ) -> Result<World, AllocError>
-        ensures { IfOk result (λ world. world ≡ new_world (limits clients quota capacity)) }
+        ensures { IfOk result (λ world. world ≡ new_world (limits_of clients quota capacity)) }
     {
         Ok(World {
             clients,
@@ -64,11 +84,11 @@ impl World {
     fn seat(&self, client: u32) -> Option<Seat>
         ensures { result ≡ seat_of self.now client }
     {
-        let place = client.checked_sub(1)?;
-        self.seats.get(place as usize).copied()
+        let index = client.checked_sub(1)?;
+        self.seats.get(index as usize).copied()
     }
 
-    // Gives a client another seat.
+    // Changes the seat of a client.
     fn put_seat(&mut self, client: u32, seat: Seat)
         requires { IsSome (seat_of self.old client) }
         ensures new { self.new ≡ with_seat self.old client seat }
@@ -77,7 +97,7 @@ impl World {
         self.seats[client as usize - 1] = seat;
     }
 
-    // Puts an item behind those of the queue. Its room was taken at the opening.
+    // Puts an item after those of the queue. Its room was taken when the World was opened.
     fn put_last(&mut self, item: Numbered)
         requires { length self.old.queue < self.old.limits.capacity }
         ensures { self.new ≡ with_queue self.old (self.old.queue ++ item ∷ []) }
@@ -103,12 +123,13 @@ impl World {
     /// A look of an open client: the moment of the first close, if there was one.
     pub(crate) fn look(&mut self, client: u32) -> Option<Moment>
         requires { is_open_seat (seat_of self.old client) ≡ true }
-        ensures tells { result ≡ self.old.closed }
+        ensures first { result ≡ self.old.closed }
         ensures after { IfSome (seat_of self.old client) (λ seat.
             self.new ≡ with_seat self.old client (after_look self.old.closed seat)) }
         ensures open { is_open_seat (seat_of self.new client) ≡ true }
         ensures ready { IfNone result (is_ready_seat (seat_of self.new client) ≡ true) }
         ensures stands { Extends self.old (Event.Look client) (look_reply result) self.new }
+        ensures limits { self.new.limits ≡ self.old.limits }
     {
         let seat = self.seat(client).unwrap();
         let first = self.closed;
@@ -120,10 +141,11 @@ impl World {
     /// A push of a client that has looked: the number of its item.
     pub(crate) fn push(&mut self, client: u32, body: Body) -> Result<u64, PushFault>
         requires { is_ready_seat (seat_of self.old client) ≡ true }
-        ensures gives { IfSome (seat_of self.old client) (λ seat.
-            PushGives self.old client seat body result self.new) }
+        ensures answers { IfSome (seat_of self.old client) (λ seat.
+            AnswersPush self.old client seat body result self.new) }
         ensures open { is_open_seat (seat_of self.new client) ≡ true }
         ensures stands { Extends self.old (Event.Push client body) (reply_of_push result) self.new }
+        ensures limits { self.new.limits ≡ self.old.limits }
     {
         let seat = self.seat(client).unwrap();
         let seen = Seat {
@@ -154,6 +176,7 @@ impl World {
         ensures oldest { result ≡ slice_get self.old.queue 0 }
         ensures after { self.new ≡ with_queue self.old (drop 1 self.old.queue) }
         ensures stands { Extends self.old Event.Take (take_reply result) self.new }
+        ensures limits { self.new.limits ≡ self.old.limits }
     {
         self.queue.pop_front()
     }
@@ -163,6 +186,7 @@ impl World {
         ensures first { result ≡ self.old.closed }
         ensures after { self.new ≡ with_close self.old (Some (unwrap_or self.old.closed moment)) }
         ensures stands { Extends self.old (Event.Close moment) (close_reply result) self.new }
+        ensures limits { self.new.limits ≡ self.old.limits }
     {
         let first = self.closed;
         self.closed = Some(first.unwrap_or(moment));
@@ -210,75 +234,5 @@ impl World {
                 ..seat
             },
         );
-    }
-
-    /// Plays one event. It takes no memory.
-    pub fn play(&mut self, event: Event) -> Reply
-        ensures stands { Extends self.old event result self.new }
-        ensures limits { self.new.limits ≡ self.old.limits }
-    {
-        match event {
-            Event::Look(client) => self.reply_to_look(client),
-            Event::Push(client, body) => self.reply_to_push(client, body),
-            Event::Take => match self.take() {
-                Some(item) => Reply::Taken(item),
-                None => Reply::Empty,
-            },
-            Event::Close(moment) => match self.close(moment) {
-                None => Reply::Begun,
-                Some(first) => Reply::AlreadyClosing(first),
-            },
-            Event::End(client) => self.reply_to_end(client),
-            Event::TakeIn(client) => self.reply_to_taking_in(client),
-        }
-    }
-
-    fn reply_to_look(&mut self, client: u32) -> Reply
-        ensures stands { Extends self.old (Event.Look client) result self.new }
-        ensures limits { self.new.limits ≡ self.old.limits }
-    {
-        if !self.is_open(client) {
-            return Reply::Ignored(None);
-        }
-        match self.look(client) {
-            None => Reply::Open,
-            Some(first) => Reply::Closing(first),
-        }
-    }
-
-    fn reply_to_push(&mut self, client: u32, body: Body) -> Reply
-        ensures stands { Extends self.old (Event.Push client body) result self.new }
-        ensures limits { self.new.limits ≡ self.old.limits }
-    {
-        if !self.is_ready(client) {
-            return Reply::Ignored(Some(body));
-        }
-        match self.push(client, body) {
-            Ok(number) => Reply::Queued(number),
-            Err(PushFault::Spent(body)) => Reply::Spent(body),
-            Err(PushFault::Full(body)) => Reply::Full(body),
-        }
-    }
-
-    fn reply_to_end(&mut self, client: u32) -> Reply
-        ensures stands { Extends self.old (Event.End client) result self.new }
-        ensures limits { self.new.limits ≡ self.old.limits }
-    {
-        if !self.is_open(client) {
-            return Reply::Ignored(None);
-        }
-        self.end(client);
-        Reply::Ended
-    }
-
-    fn reply_to_taking_in(&mut self, client: u32) -> Reply
-        ensures stands { Extends self.old (Event.TakeIn client) result self.new }
-        ensures limits { self.new.limits ≡ self.old.limits }
-    {
-        if !self.is_leaving(client) {
-            return Reply::Ignored(None);
-        }
-        self.take_in(client);
-        Reply::Joined
     }
 }

@@ -1,6 +1,6 @@
 use Rattle.gate_core.proofs.Runs.{sound}
 use Rattle.gate_core.proofs.Endings.{queued_after_look, drained_merge}
-use Rattle.gate_core.proofs.Taken.{number_is_taken}
+use Rattle.gate_core.proofs.Taken.{taken_count_is}
 use Rattle.gate_core.proofs.law.conservation.Goals as goal
 
 pub returns-clause-merge : goal.returns-clause-merge
@@ -13,4 +13,4 @@ pub returns-clause-drained : goal.returns-clause-drained
 returns-clause-drained c = drained_merge
 
 pub returns-clause-counted : goal.returns-clause-counted
-returns-clause-counted c = number_is_taken
+returns-clause-counted c = taken_count_is

@@ -1,13 +1,14 @@
--- What single calls of a World change. Replies to whole runs are those of Legal.antt.
-use Rattle.std.specs.Prelude.{◌≡◌, ℕ, ◌+◌, ◌-◌, ◌<◌, ◌≤◌, ◌==◌, if◌then◌else◌, List, [], ◌∷◌, ◌++◌, length, slice_get, slice_set, Option, Some, None, is_none, Result, Ok, Err, Bool, true, false, not, ◌&&◌}
+-- Only proofs and private functions use this: what single calls of a World change.
+use Rattle.std.specs.Prelude.{◌≡◌, ℕ, ◌+◌, ◌-◌, ◌<◌, ◌≤◌, ◌==◌, if◌then◌else◌, List, [], ◌∷◌, ◌++◌, length, slice_get, slice_set, replicate, Option, Some, None, is_none, Result, Ok, Err, Bool, true, false, not, ◌&&◌}
 use Rattle.gate_model.specs.declared.moment.Moment.{Moment}
 use Rattle.gate_model.specs.declared.submission.Body.{Body}
 use Rattle.gate_model.specs.declared.submission.Numbered.{Numbered}
-use Rattle.gate_core.specs.declared.seat.Seat.{Seat}
+use Rattle.gate_core.specs.declared.world.Seat.{Seat}
 use Rattle.gate_core.specs.declared.event.Reply.{Reply}
 use Rattle.gate_core.specs.declared.event.Reply.TheVariants as reply
 use Rattle.gate_core.specs.declared.event.PushFault.{PushFault}
 use Rattle.gate_core.specs.declared.event.PushFault.TheVariants.{Spent, Full}
+use Rattle.gate_core.specs.Limits.{Limits}
 use Rattle.gate_core.specs.Merge.{numbered}
 use Rattle.gate_core.specs.State.{WorldState}
 
@@ -54,6 +55,14 @@ after_taking_in seat = record { count = seat.count; looked = seat.looked; ended 
 
 -- ---- Worlds
 
+-- a client that has done nothing yet
+abbrev pub new_seat : Seat
+new_seat = record { count = 0; looked = false; ended = false; joined = false }
+
+-- a World in which nothing has happened
+abbrev pub new_world : Limits → WorldState
+new_world limits = record { limits = limits; queue = []; closed = None; seats = replicate limits.clients new_seat }
+
 -- the World with this seat for the client
 abbrev pub with_seat : WorldState → ℕ → Seat → WorldState
 with_seat world client seat = record { limits = world.limits; queue = world.queue; closed = world.closed; seats = slice_set world.seats (client - 1) seat }
@@ -68,17 +77,17 @@ with_close world closed = record { limits = world.limits; queue = world.queue; c
 
 -- ---- pushes
 
--- the push of a client that may push: its item joins the queue, or the body comes back because the quota is used up or, if it isn't, because there is no room
-abbrev pub PushGives : WorldState → ℕ → Seat → Body → Result ℕ PushFault → WorldState → Type 0
-PushGives world client seat body (Ok number) after =
+-- the push of a client that may push: its item joins the queue, or the body is returned because the quota is used up or, if it isn't, because there is no room
+abbrev pub AnswersPush : WorldState → ℕ → Seat → Body → Result ℕ PushFault → WorldState → Type 0
+AnswersPush world client seat body (Ok number) after =
     (number ≡ seat.count + 1) × (seat.count < world.limits.quota) × (length world.queue < world.limits.capacity)
     × (after ≡ with_seat (with_queue world (world.queue ++ numbered client number body ∷ [])) client (after_push seat))
-PushGives world client seat body (Err (Spent back)) after =
-    (back ≡ body) × (world.limits.quota ≤ seat.count) × (after ≡ with_seat world client (after_refusal seat))
-PushGives world client seat body (Err (Full back)) after =
-    (back ≡ body) × (seat.count < world.limits.quota) × (world.limits.capacity ≤ length world.queue) × (after ≡ with_seat world client (after_refusal seat))
+AnswersPush world client seat body (Err (Spent returned)) after =
+    (returned ≡ body) × (world.limits.quota ≤ seat.count) × (after ≡ with_seat world client (after_refusal seat))
+AnswersPush world client seat body (Err (Full returned)) after =
+    (returned ≡ body) × (seat.count < world.limits.quota) × (world.limits.capacity ≤ length world.queue) × (after ≡ with_seat world client (after_refusal seat))
 
--- the reply that tells what a push gave
+-- the reply to a push
 abbrev pub reply_of_push : Result ℕ PushFault → Reply
 reply_of_push (Ok number) = reply.Queued number
 reply_of_push (Err (Spent body)) = reply.Spent body

@@ -1,22 +1,22 @@
--- Lists by place: after a write, and behind their first elements.
+-- Lists by index: after a write, and after their first elements.
 use Rattle.std.proofs.Common.{◌≡◌, ◌≢◌, ℕ, zero, suc, List, [], ◌∷◌, ◌++◌, length, drop, Some, None, refl, ap}
 use Rattle.std.specs.Prelude.{slice_get, slice_set}
 
--- the place of a write has what was written
-pub slice_get-set_same : {X : Type 0} (xs : List X) (place : ℕ) (x y : X) → slice_get xs place ≡ Some x → slice_get (slice_set xs place y) place ≡ Some y
-slice_get-set_same [] place x y e = absurd (cc)
+-- the index of a write has what was written
+pub slice_get-set_same : {X : Type 0} (xs : List X) (index : ℕ) (x y : X) → slice_get xs index ≡ Some x → slice_get (slice_set xs index y) index ≡ Some y
+slice_get-set_same [] index x y e = absurd (cc)
 slice_get-set_same (z ∷ zs) zero x y e = refl
-slice_get-set_same (z ∷ zs) (suc place) x y e = slice_get-set_same zs place x y e
+slice_get-set_same (z ∷ zs) (suc index) x y e = slice_get-set_same zs index x y e
 
--- each other place has what it had
-pub slice_get-set_other : {X : Type 0} (xs : List X) (place other : ℕ) (y : X) → other ≢ place → slice_get (slice_set xs place y) other ≡ slice_get xs other
-slice_get-set_other [] place other y ne = refl
+-- each other index has what it had
+pub slice_get-set_other : {X : Type 0} (xs : List X) (index other : ℕ) (y : X) → other ≢ index → slice_get (slice_set xs index y) other ≡ slice_get xs other
+slice_get-set_other [] index other y ne = refl
 slice_get-set_other (z ∷ zs) zero zero y ne = absurd (ne refl)
 slice_get-set_other (z ∷ zs) zero (suc other) y ne = refl
-slice_get-set_other (z ∷ zs) (suc place) zero y ne = refl
-slice_get-set_other (z ∷ zs) (suc place) (suc other) y ne = slice_get-set_other zs place other y (λ e. ne (ap suc e))
+slice_get-set_other (z ∷ zs) (suc index) zero y ne = refl
+slice_get-set_other (z ∷ zs) (suc index) (suc other) y ne = slice_get-set_other zs index other y (λ e. ne (ap suc e))
 
--- behind a front there is the rest
+-- after a front there is the rest
 pub drop-front : {X : Type 0} (xs ys : List X) → drop (length xs) (xs ++ ys) ≡ ys
 drop-front [] ys = refl
 drop-front (x ∷ xs) ys = drop-front xs ys

@@ -1,26 +1,31 @@
 ghost use Rattle.std.specs.Prelude.{◌≡◌, ◌≤◌, [], IfOk, IfErr, OnOk};
-ghost use Rattle.gate_core.specs.declared.opening.OpenFault.TheVariants.{OutOfMemory};
+ghost use Rattle.gate_core.specs.declared.limits.OpenFault.TheVariants.{OutOfMemory};
 ghost use Rattle.gate_core.specs.State.{StandsAfter};
-ghost use Rattle.gate_core.specs.Opening.{limits, IsGoodCount, IsGoodCapacity, IsOpenFault};
+ghost use Rattle.gate_core.specs.Limits.{limits_of, default_quota, IsGoodCount, IsGoodCapacity, IsOpenFault};
 
 use crate::world::World;
 use std::alloc::{AllocError, Global};
+use thiserror::Error;
 
 /// The most clients of a World.
 pub const MOST_CLIENTS: u32 = 64;
 /// The most items that a World's queue can be opened for.
 pub const MOST_CAPACITY: usize = 65_536;
 
-/// Why a World was not opened. The first that applies is told.
-#[derive(Clone, Copy, Debug, PartialEq, Eq)]
+/// Why a World was not opened. The first that applies is reported. Own rules.
+#[derive(Clone, Copy, Debug, Error, PartialEq, Eq)]
 pub enum OpenFault {
-    /// The number of clients is not from 1 to 64.
+    /// There are fewer than 1 or more than 64 clients.
+    #[error("not 1 to 64 clients")]
     BadCount,
-    /// The capacity is not from 1 to 65,536.
+    /// The capacity is not from 1 to 65,536 items.
+    #[error("the capacity is not from 1 to 65536 items")]
     BadCapacity,
-    /// The quota is 0.
+    /// The quota is 0 items.
+    #[error("the quota is 0 items")]
     BadQuota,
     /// There is no room for the queue and the seats.
+    #[error("out of memory")]
     OutOfMemory,
 }
 
@@ -33,27 +38,31 @@ impl From<AllocError> for OpenFault {
 }
 
 impl World {
-    /// A World of clients 1 to `clients`, with room for `capacity` items, in which each client may
-    /// queue 4,294,967,295 items.
+    /// Opens a World of clients 1 to `clients`, with room for `capacity` items, in which each client
+    /// may queue 4,294,967,295 items. It fails as `open_with` does.
     pub fn open(alloc: Global, clients: u32, capacity: usize) -> Result<World, OpenFault>
-        ensures limits { IfOk result (λ world. world.limits ≡ limits clients u32.MAX capacity) }
+        ensures limits { IfOk result (λ world. world.limits ≡ limits_of clients default_quota capacity) }
         ensures new { IfOk result (λ world. StandsAfter world []) }
 
         ensures good { OnOk result (IsGoodCount clients × IsGoodCapacity capacity) }
-        ensures fault { IfErr result (λ fault. IsOpenFault fault clients u32.MAX capacity) }
+        ensures fault { IfErr result (λ fault. IsOpenFault fault clients default_quota capacity) }
     {
         World::open_with(alloc, clients, capacity, u32::MAX)
     }
 
-    /// A World of clients 1 to `clients`, with room for `capacity` items, in which each client may
-    /// queue `quota` items.
+    /// Opens a World of clients 1 to `clients`, with room for `capacity` items, in which each client
+    /// may queue `quota` items.
+    ///
+    /// It fails with BadCount, BadCapacity or BadQuota, tested in this order, where an argument is
+    /// out of its limits, and then with OutOfMemory. All the memory that the World will need is
+    /// taken here. Own rule.
     pub fn open_with(
         alloc: Global,
         clients: u32,
         capacity: usize,
         quota: u32,
     ) -> Result<World, OpenFault>
-        ensures limits { IfOk result (λ world. world.limits ≡ limits clients quota capacity) }
+        ensures limits { IfOk result (λ world. world.limits ≡ limits_of clients quota capacity) }
         ensures new { IfOk result (λ world. StandsAfter world []) }
 
         ensures good { OnOk result (IsGoodCount clients × IsGoodCapacity capacity × (1 ≤ quota)) }
