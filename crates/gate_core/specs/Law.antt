@@ -1,10 +1,15 @@
--- What holds of every legal run.
+-- What holds of every legal run. Own rules.
 use Rattle.std.specs.Prelude.{◌≡◌, ℕ, ◌∷◌, ◌++◌, None, true, false}
 use Rattle.std.specs.List.{list_any}
 use Rattle.gate_core.specs.declared.event.Event.TheVariants.{Look, Take}
 use Rattle.gate_core.specs.declared.event.Reply.TheVariants.{Open, Empty}
-use Rattle.gate_core.specs.Merge.{IsClient}
-use Rattle.gate_core.specs.Legal.{Run, first_close, has_joined, is_own}
+use Rattle.gate_core.specs.Limits.{Limits}
+use Rattle.gate_core.specs.Merge.{IsClient, IsCoreState}
+use Rattle.gate_core.specs.Legal.{Run, queued, taken, waiting, first_close, has_joined, is_own}
+
+-- what was taken, followed by what waits, is a merge of what each client was answered is queued
+abbrev pub IsConserved : Limits → Run → Type 0
+IsConserved limits run = IsCoreState limits.clients limits.quota limits.capacity (λ client. queued client run) (taken run) (waiting run)
 
 -- the run has a look of the client, answered Open, which stands before every close, and no own event of the client since
 pub record FollowsOpenLook (client : ℕ) (run : Run) : Type 0 where

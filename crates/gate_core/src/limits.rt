@@ -38,10 +38,11 @@ impl From<AllocError> for OpenFault {
 }
 
 impl World {
-    /// Opens a World of clients 1 to `clients`, with room for `capacity` items, in which each client
-    /// may queue 4,294,967,295 items. It fails as `open_with` does.
+    /// Opens a World of clients 1 to `clients`, with room for `capacity` items. Each client may
+    /// queue 4,294,967,295 items. It fails as `open_with` does.
     pub fn open(alloc: Global, clients: u32, capacity: usize) -> Result<World, OpenFault>
-        ensures limits { IfOk result (λ world. world.limits ≡ limits_of clients default_quota capacity) }
+        ensures limits { IfOk result (λ world.
+            world.limits ≡ limits_of clients default_quota capacity) }
         ensures new { IfOk result (λ world. StandsAfter world []) }
 
         ensures good { OnOk result (IsGoodCount clients × IsGoodCapacity capacity) }
@@ -50,8 +51,8 @@ impl World {
         World::open_with(alloc, clients, capacity, u32::MAX)
     }
 
-    /// Opens a World of clients 1 to `clients`, with room for `capacity` items, in which each client
-    /// may queue `quota` items.
+    /// Opens a World of clients 1 to `clients`, with room for `capacity` items. Each client may
+    /// queue `quota` items.
     ///
     /// It fails with BadCount, BadCapacity or BadQuota, tested in this order, where an argument is
     /// out of its limits, and then with OutOfMemory. All the memory that the World will need is

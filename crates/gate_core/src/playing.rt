@@ -103,11 +103,13 @@ pub fn run(
     events: Vec<Event>,
 ) -> Result<(Vec<Reply>, World), RefusedRun>
     ensures replies { IfOk result (λ played. length played.0.items ≡ length events.items) }
-    ensures stands { IfOk result (λ played. ExtendsByAll world events.items played.0.items played.1) }
+    ensures stands { IfOk result (λ played.
+        ExtendsByAll world events.items played.0.items played.1) }
     ensures fits { IfOk result (λ played. FitEvents events.items played.0.items) }
     ensures limits { IfOk result (λ played. played.1.limits ≡ world.limits) }
 
-    ensures refused { IfErr result (λ refused. (refused.events.items ≡ events.items) × (refused.world ≡ world)) }
+    ensures refused { IfErr result (λ refused.
+        (refused.events.items ≡ events.items) × (refused.world ≡ world)) }
 {
     let Ok(mut replies) = Vec::with_capacity(alloc, events.len()) else {
         return Err(RefusedRun { events, world });

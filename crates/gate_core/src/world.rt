@@ -57,7 +57,8 @@ impl Model for World {
       seats = w.seats.items;
     } };
 
-    ghost invariant = { λ w. (length w.seats.items ≡ w.clients) × (w.capacity ≤ deque_capacity w.queue) };
+    ghost invariant = { λ w.
+        (length w.seats.items ≡ w.clients) × (w.capacity ≤ deque_capacity w.queue) };
 }
 
 impl World {
