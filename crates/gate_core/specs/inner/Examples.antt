@@ -24,6 +24,7 @@ played_is_legal limits run (event ∷ events) h = played_is_legal limits ((event
 abbrev replies_to : Limits → List Event → List Reply
 replies_to limits events = map (λ (pair : Event × Reply). pair.1) (reverse (played limits [] events))
 
+-- the moment of so many seconds
 abbrev moment : ℕ → Moment
 moment seconds = record { 0 = seconds }
 
@@ -47,10 +48,12 @@ one_push_after_the_close a b = refl
 
 -- ---- a close among the events of two clients
 
+-- it is an answer Queued
 abbrev is_queued : Reply → Bool
 is_queued (Queued number) = true
 is_queued _ = false
 
+-- two clients look and push, with takes between
 abbrev two_clients : Body → Body → Body → List Event
 two_clients a b c = Look 1 ∷ Push 1 a ∷ Look 2 ∷ Push 2 b ∷ Take ∷ Look 1 ∷ Push 1 c ∷ Take ∷ []
 

@@ -1,0 +1,5 @@
+//! Tests of the libraries that need no private item. The crate has no code of its own.
+#![tactic(auto)]
+
+#[cfg(test)]
+mod machine;
