@@ -11,9 +11,9 @@ numbered c k body = record { client = c; number = k; body = body }
 abbrev pub IsClient : ℕ → ℕ → Type 0
 IsClient n c = (1 ≤ c) × (c ≤ n)
 
--- the list is well numbered for client c: its k-th item carries client c and number k
+-- the list is well numbered for client c: its items carry client c and the numbers 1, 2, 3 and so on
 abbrev pub IsNumbered : ℕ → List Numbered → Type 0
-IsNumbered c xs = (k : ℕ) (x : Numbered) → slice_get xs k ≡ Some x → (x.client ≡ c) × (x.number ≡ k + 1)
+IsNumbered c xs = (index : ℕ) (x : Numbered) → slice_get xs index ≡ Some x → (x.client ≡ c) × (x.number ≡ index + 1)
 
 -- the items of client c, in order
 abbrev pub of_client : ℕ → List Numbered → List Numbered
@@ -24,7 +24,7 @@ pub record IsMerge (n : ℕ) (sent : ℕ → List Numbered) (xs : List Numbered)
   pub clients : All (λ x. IsClient n x.client) xs
   pub each : (c : ℕ) → IsClient n c → of_client c xs ≡ sent c
 
--- what n clients queued, what was taken and what the queue holds: nothing is lost, made or out of order
+-- of what n clients queued, what was taken and what the queue holds, nothing is lost, made or out of order
 pub record IsCoreState (n quota capacity : ℕ) (sent : ℕ → List Numbered) (taken queue : List Numbered) : Type 0 where
   pub numbers : (c : ℕ) → IsClient n c → IsNumbered c (sent c)
   pub within_quota : (c : ℕ) → IsClient n c → length (sent c) ≤ quota

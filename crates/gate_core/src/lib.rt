@@ -1,7 +1,7 @@
 //! The queue, its clients, its applier and its close as one machine over a list of events.
 //!
-//! Events go in, one reply to each comes out. For every list of events, what was taken followed by
-//! the queue is a merge of what each client was answered is queued.
+//! Each event gets one reply. For every list of events, what was taken followed by the queue is a
+//! merge of what each client was answered is queued.
 #![tactic(auto)]
 
 mod event;

@@ -10,6 +10,7 @@ use thiserror::Error;
 
 impl World {
     /// Plays one event, and answers it by the events that were played before. It takes no memory.
+    /// Own rule.
     pub fn play(&mut self, event: Event) -> Reply
         ensures stands { Extends self.old event result self.new }
         ensures fits { FitsEvent event result }
@@ -89,11 +90,13 @@ impl World {
 #[derive(Debug, Drop, Error)]
 #[error("out of memory: no event was played")]
 pub struct RefusedRun {
+    /// The events, in their order.
     pub events: Vec<Event>,
+    /// The World as it was.
     pub world: World,
 }
 
-/// Plays events one after another. The replies stand in the order of the events.
+/// Plays events one after another, and lists the replies in the order of the events.
 ///
 /// It fails only where memory runs out. Then nothing was played, and the events and the World are
 /// returned.

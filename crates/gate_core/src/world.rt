@@ -15,7 +15,7 @@ use std::marker::Model;
 pub struct Seat {
     /// How many items were queued for it.
     pub count: u32,
-    /// Its last event is a look answered Open.
+    /// Its last own event is a look answered Open.
     pub looked: bool,
     /// It has ended.
     pub ended: bool,
@@ -31,8 +31,8 @@ const NEW_SEAT: Seat = Seat {
     joined: false,
 };
 
-/// The queue, its clients and its close. Contracts see what it was opened with, the queue, the
-/// moment of the first close and a seat for each client.
+/// The queue, its clients and its close, as one value that answers events. Contracts see what it was
+/// opened with, the queue, the moment of the first close and a seat for each client.
 #[derive(Debug, Drop)]
 pub struct World {
     clients: u32,
