@@ -1,4 +1,4 @@
--- The word goes through exclusive or, bit by bit.
+-- The word after bits of an exclusive or is the exclusive or of the words, bit by bit.
 use Rattle.std.proofs.Common.{◌≡◌, ℕ, zero, suc, ◌*◌, ◌/◌, ◌%◌, ◌^◌, ◌<◌, ◌==◌, true, false, cond, if◌then◌else◌, bit_xor, refl, sym, ap, ◌∙◌, arith, pow-suc, mul_assoc, mul-one}
 use Rattle.std.proofs.lemmas.Nat.{xor_comm, xor_mod, xor_shr}
 use lib.Bits.{xor_assoc, xor_zero_r}
@@ -49,8 +49,8 @@ change-xor a b c ha hb hc =
     (either_bit (λ z. change 1 z ≡ bit_xor 0xEDB88320 (change 0 z)) refl refl c hc)
     (either_bit (λ z. change 0 z ≡ bit_xor 0xEDB88320 (change 1 z)) refl refl c hc) b hb) a ha
 
-change-taken_in : (a b : ℕ) → a < 2 → b < 2 → change (bit_xor a b) 0 ≡ change a b
-change-taken_in a b ha hb =
+change-mixed : (a b : ℕ) → a < 2 → b < 2 → change (bit_xor a b) 0 ≡ change a b
+change-mixed a b ha hb =
     either_bit (λ x. change (bit_xor x b) 0 ≡ change x b)
     (either_bit (λ y. change y 0 ≡ change 0 y) refl refl b hb)
     (either_bit (λ y. change (bit_xor 1 y) 0 ≡ change 1 y) refl refl b hb) a ha
@@ -63,10 +63,10 @@ after_bit-xor r s bit h =
     ∙ sym (ap (bit_xor (after_bit r 0)) (after_bit-change s bit)
     ∙ ap (λ (x : ℕ). bit_xor x (bit_xor (s / 2) (change (s % 2) bit))) (after_bit-change r 0))
 
-after_bit-taken_in : (word byte : ℕ) → after_bit (bit_xor word byte) 0 ≡ bit_xor (after_bit word (byte % 2)) (byte / 2)
-after_bit-taken_in word byte =
+after_bit-mixed : (word byte : ℕ) → after_bit (bit_xor word byte) 0 ≡ bit_xor (after_bit word (byte % 2)) (byte / 2)
+after_bit-mixed word byte =
     after_bit-xor_change word byte 0
-    ∙ ap (bit_xor (bit_xor (word / 2) (byte / 2))) (change-taken_in (word % 2) (byte % 2) (low_bit word) (low_bit byte))
+    ∙ ap (bit_xor (bit_xor (word / 2) (byte / 2))) (change-mixed (word % 2) (byte % 2) (low_bit word) (low_bit byte))
     ∙ xor_last (word / 2) (byte / 2) (change (word % 2) (byte % 2))
     ∙ ap (λ (x : ℕ). bit_xor x (byte / 2)) (sym (after_bit-change word (byte % 2)))
 
@@ -88,16 +88,16 @@ after_bits-xor (suc n) r s byte =
     ap (λ (word : ℕ). after_bits n word (byte / 2)) (after_bit-xor r s (byte % 2) (low_bit byte))
     ∙ after_bits-xor n (after_bit r 0) (after_bit s (byte % 2)) (byte / 2)
 
--- a byte may be taken into the word at once, and followed by zeros
-pub after_bits-taken_in : (n word byte : ℕ) → byte < 2 ^ n → after_bits n word byte ≡ after_bits n (bit_xor word byte) 0
+-- the word after a byte's bits is the word xored with the byte, after as many zero bits
+pub after_bits-mixed : (n word byte : ℕ) → byte < 2 ^ n → after_bits n word byte ≡ after_bits n (bit_xor word byte) 0
 unfolding after_bits
-after_bits-taken_in zero word byte h =
+after_bits-mixed zero word byte h =
     let none : byte ≡ 0 = omega arith in
     sym (ap (bit_xor word) none ∙ xor_zero_r word)
-after_bits-taken_in (suc n) word byte h =
+after_bits-mixed (suc n) word byte h =
     let half : byte / 2 < 2 ^ n = omega (arith, pow-suc 2 n) in
-    after_bits-taken_in n (after_bit word (byte % 2)) (byte / 2) half
-    ∙ ap (λ (x : ℕ). after_bits n x 0) (sym (after_bit-taken_in word byte))
+    after_bits-mixed n (after_bit word (byte % 2)) (byte / 2) half
+    ∙ ap (λ (x : ℕ). after_bits n x 0) (sym (after_bit-mixed word byte))
 
 -- zeros move the word down, as long as what it loses is zeros
 pub after_bits-shifted : (n high : ℕ) → after_bits n (high * 2 ^ n) 0 ≡ high

@@ -7,14 +7,14 @@ use Rattle.std.proofs.lemmas.Nat.{xor_comm, xor_lt}
 use Rattle.std.specs.List.{range_with_len}
 use lib.Bits.{xor_assoc, xor_shifted, xor_zero_r}
 use Rattle.gate_packet.specs.CheckWord.{after_bits, after_byte, after_bytes}
-use Rattle.gate_packet.proofs.CheckWordBits.{xor_last, after_bits-xor, after_bits-taken_in, after_bits-shifted}
+use Rattle.gate_packet.proofs.CheckWordBits.{xor_last, after_bits-xor, after_bits-mixed, after_bits-shifted}
 
 -- the numbers of a list of known length, written out
-pub spelled : (count : ℕ) (bytes : List ℕ) → length bytes ≡ count → map (λ place. get_or bytes place 0) (range_with_len 0 count) ≡ bytes
+pub spelled : (count : ℕ) (bytes : List ℕ) → length bytes ≡ count → map (λ index. get_or bytes index 0) (range_with_len 0 count) ≡ bytes
 spelled count bytes long =
-    let at = λ (place : ℕ). get_or bytes place 0 in
+    let at = λ (index : ℕ). get_or bytes index 0 in
     let many = length-map-range_with_len at 0 count in
-    ext_get_or 0 _ bytes (many ∙ sym long) (λ place h. get_or-map-range_with_len at 0 count place place 0 (omega arith) (omega arith))
+    ext_get_or 0 _ bytes (many ∙ sym long) (λ index h. get_or-map-range_with_len at 0 count index index 0 (omega arith) (omega arith))
 
 -- ---- from a word of zeros
 
@@ -40,49 +40,49 @@ after_bytes-shares first rest zeros long =
 
 -- ---- from any word
 
--- the lowest byte of a word goes into the next byte, and its other bytes into those after that
-after_bytes-met : (before word byte : ℕ) (bytes : List ℕ) → byte < 256
+-- the lowest byte of a word is xored with the next byte, and its other bytes with those after that
+after_bytes-mixed : (before word byte : ℕ) (bytes : List ℕ) → byte < 256
     → after_bytes (bit_xor before word) (byte ∷ bytes) ≡ after_bytes (bit_xor (after_byte before (bit_xor (word % 256) byte)) (word / 256)) bytes
 unfolding after_bytes after_byte
-after_bytes-met before word byte bytes h =
+after_bytes-mixed before word byte bytes h =
     let high = word / 256 in
     let low = word % 256 in
     let small : low < 256 = omega arith in
-    let met = bit_xor low byte in
-    let parts : word ≡ bit_xor (high * 2 ^ 8) low = sym (xor_shifted high 8 low small ∙ div-add-mod' word 256) in
-    let apart : bit_xor (bit_xor before word) byte ≡ bit_xor (bit_xor (high * 2 ^ 8) before) met =
-    ap (λ (x : ℕ). bit_xor (bit_xor before x) byte) parts
+    let mixed = bit_xor low byte in
+    let split : word ≡ bit_xor (high * 2 ^ 8) low = sym (xor_shifted high 8 low small ∙ div-add-mod' word 256) in
+    let apart : bit_xor (bit_xor before word) byte ≡ bit_xor (bit_xor (high * 2 ^ 8) before) mixed =
+    ap (λ (x : ℕ). bit_xor (bit_xor before x) byte) split
     ∙ ap (λ (x : ℕ). bit_xor x byte) (xor_comm before (bit_xor (high * 2 ^ 8) low) ∙ xor_last (high * 2 ^ 8) low before)
     ∙ xor_assoc (bit_xor (high * 2 ^ 8) before) low byte in
     ap (λ (x : ℕ). after_bytes x bytes)
-    (after_bits-taken_in 8 (bit_xor before word) byte h
+    (after_bits-mixed 8 (bit_xor before word) byte h
     ∙ ap (λ (x : ℕ). after_bits 8 x 0) apart
-    ∙ sym (after_bits-taken_in 8 (bit_xor (high * 2 ^ 8) before) met (xor_lt 8 low byte small h))
-    ∙ after_bits-xor 8 (high * 2 ^ 8) before met
-    ∙ ap (λ (x : ℕ). bit_xor x (after_bits 8 before met)) (after_bits-shifted 8 high)
-    ∙ xor_comm high (after_bits 8 before met))
+    ∙ sym (after_bits-mixed 8 (bit_xor (high * 2 ^ 8) before) mixed (xor_lt 8 low byte small h))
+    ∙ after_bits-xor 8 (high * 2 ^ 8) before mixed
+    ∙ ap (λ (x : ℕ). bit_xor x (after_bits 8 before mixed)) (after_bits-shifted 8 high)
+    ∙ xor_comm high (after_bits 8 before mixed))
 
-pub after_byte-met : (word byte : ℕ) → byte < 256 → after_byte word byte ≡ bit_xor (after_bytes 0 (bit_xor (word % 256) byte ∷ [])) (word / 256)
+pub after_byte-mixed : (word byte : ℕ) → byte < 256 → after_byte word byte ≡ bit_xor (after_bytes 0 (bit_xor (word % 256) byte ∷ [])) (word / 256)
 unfolding after_bytes
-after_byte-met word byte h = after_bytes-met 0 word byte [] h
+after_byte-mixed word byte h = after_bytes-mixed 0 word byte [] h
 
--- the four bytes of a word go into the next four bytes
-pub after_bytes-four_met : (word b0 b1 b2 b3 : ℕ) (bytes : List ℕ) → word < 2 ^ 32 → b0 < 256 → b1 < 256 → b2 < 256 → b3 < 256
+-- the four bytes of a word are xored with the next four bytes
+pub after_bytes-four_mixed : (word b0 b1 b2 b3 : ℕ) (bytes : List ℕ) → word < 2 ^ 32 → b0 < 256 → b1 < 256 → b2 < 256 → b3 < 256
     → after_bytes word (b0 ∷ b1 ∷ b2 ∷ b3 ∷ bytes)
     ≡ after_bytes 0 (bit_xor (word % 256) b0 ∷ bit_xor (word / 256 % 256) b1 ∷ bit_xor (word / 65536 % 256) b2 ∷ bit_xor (word / 16777216 % 256) b3 ∷ bytes)
 unfolding after_bytes
-after_bytes-four_met word b0 b1 b2 b3 bytes small h0 h1 h2 h3 =
+after_bytes-four_mixed word b0 b1 b2 b3 bytes small h0 h1 h2 h3 =
     let a0 = after_byte 0 (bit_xor (word % 256) b0) in
     let a1 = after_byte a0 (bit_xor (word / 256 % 256) b1) in
     let a2 = after_byte a1 (bit_xor (word / 65536 % 256) b2) in
     let a3 = after_byte a2 (bit_xor (word / 16777216 % 256) b3) in
     let last : word / 16777216 / 256 ≡ 0 = omega arith in
-    after_bytes-met 0 word b0 (b1 ∷ b2 ∷ b3 ∷ bytes) h0
-    ∙ after_bytes-met a0 (word / 256) b1 (b2 ∷ b3 ∷ bytes) h1
+    after_bytes-mixed 0 word b0 (b1 ∷ b2 ∷ b3 ∷ bytes) h0
+    ∙ after_bytes-mixed a0 (word / 256) b1 (b2 ∷ b3 ∷ bytes) h1
     ∙ ap (λ (x : ℕ). after_bytes (bit_xor a1 x) (b2 ∷ b3 ∷ bytes)) (shr-shr word 8 8)
-    ∙ after_bytes-met a1 (word / 65536) b2 (b3 ∷ bytes) h2
+    ∙ after_bytes-mixed a1 (word / 65536) b2 (b3 ∷ bytes) h2
     ∙ ap (λ (x : ℕ). after_bytes (bit_xor a2 x) (b3 ∷ bytes)) (shr-shr word 16 8)
-    ∙ after_bytes-met a2 (word / 16777216) b3 bytes h3
+    ∙ after_bytes-mixed a2 (word / 16777216) b3 bytes h3
     ∙ ap (λ (x : ℕ). after_bytes (bit_xor a3 x) bytes) last
     ∙ ap (λ (x : ℕ). after_bytes x bytes) (xor_zero_r a3)
 
@@ -95,7 +95,7 @@ pub shares_of_four : (bytes : List ℕ) (zeros : ℕ) → length bytes ≡ 4 →
     → s0 ≡ after_bytes 0 (get_or bytes 0 0 ∷ replicate (zeros + 3) 0)
     → bit_xor (bit_xor (bit_xor s3 s2) s1) s0 ≡ after_bytes 0 (bytes ++ replicate zeros 0)
 shares_of_four bytes zeros long s0 s1 s2 s3 e3 e2 e1 e0 =
-    let at = λ (place : ℕ). get_or bytes place 0 in
+    let at = λ (index : ℕ). get_or bytes index 0 in
     let end = replicate zeros 0 in
     let three = at 3 ∷ end in
     let two = at 2 ∷ three in
@@ -108,28 +108,28 @@ shares_of_four bytes zeros long s0 s1 s2 s3 e3 e2 e1 e0 =
     ∙ after_bytes-shares (at 0 ∷ []) one (zeros + 3) long1
     ∙ cc (after_bytes-shares (at 1 ∷ []) two (zeros + 2) long2, after_bytes-shares (at 2 ∷ []) three (zeros + 1) long3, e0, e1, e2, e3))
 
--- four of the bytes, from this place on
+-- four of the bytes, from this index on
 abbrev pub four : List ℕ → ℕ → List ℕ
-four bytes place = get_or bytes place 0 ∷ get_or bytes (place + 1) 0 ∷ get_or bytes (place + 2) 0 ∷ get_or bytes (place + 3) 0 ∷ []
+four bytes index = get_or bytes index 0 ∷ get_or bytes (index + 1) 0 ∷ get_or bytes (index + 2) 0 ∷ get_or bytes (index + 3) 0 ∷ []
 
--- the first four bytes, met by the bytes of the word
-abbrev pub met_four : ℕ → List ℕ → List ℕ
-met_four word bytes =
+-- the first four bytes, each xored with a byte of the word
+abbrev pub mixed_four : ℕ → List ℕ → List ℕ
+mixed_four word bytes =
     bit_xor (word % 256) (get_or bytes 0 0) ∷ bit_xor (word / 256 % 256) (get_or bytes 1 0)
     ∷ bit_xor (word / 65536 % 256) (get_or bytes 2 0) ∷ bit_xor (word / 16777216 % 256) (get_or bytes 3 0) ∷ []
 
-pub shares_of_sixteen : (word : ℕ) (bytes : List ℕ) → word < 2 ^ 32 → length bytes ≡ 16 → ((place : ℕ) → get_or bytes place 0 < 256)
+pub shares_of_sixteen : (word : ℕ) (bytes : List ℕ) → word < 2 ^ 32 → length bytes ≡ 16 → ((index : ℕ) → get_or bytes index 0 < 256)
     → (s0 s4 s8 s12 : ℕ)
     → s12 ≡ after_bytes 0 (four bytes 12 ++ replicate 0 0)
     → s8 ≡ after_bytes 0 (four bytes 8 ++ replicate 4 0)
     → s4 ≡ after_bytes 0 (four bytes 4 ++ replicate 8 0)
-    → s0 ≡ after_bytes 0 (met_four word bytes ++ replicate 12 0)
+    → s0 ≡ after_bytes 0 (mixed_four word bytes ++ replicate 12 0)
     → bit_xor (bit_xor (bit_xor s12 s8) s4) s0 ≡ after_bytes word bytes
 shares_of_sixteen word bytes small long fits s0 s4 s8 s12 e12 e8 e4 e0 =
     let last = four bytes 12 in
     let later = four bytes 8 ++ last in
     let rest = four bytes 4 ++ later in
     sym (ap (after_bytes word) (sym (spelled 16 bytes long))
-    ∙ after_bytes-four_met word (get_or bytes 0 0) (get_or bytes 1 0) (get_or bytes 2 0) (get_or bytes 3 0) rest small (fits 0) (fits 1) (fits 2) (fits 3)
-    ∙ after_bytes-shares (met_four word bytes) rest 12 refl
+    ∙ after_bytes-four_mixed word (get_or bytes 0 0) (get_or bytes 1 0) (get_or bytes 2 0) (get_or bytes 3 0) rest small (fits 0) (fits 1) (fits 2) (fits 3)
+    ∙ after_bytes-shares (mixed_four word bytes) rest 12 refl
     ∙ cc (after_bytes-shares (four bytes 4) later 8 refl, after_bytes-shares (four bytes 8) last 4 refl, e0, e4, e8, e12))

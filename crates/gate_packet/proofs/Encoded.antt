@@ -7,10 +7,12 @@ use Rattle.std.proofs.lemmas.List.{append-nil}
 use Rattle.byteorder.specs.Endian.{big_number, big_bytes}
 use Rattle.byteorder.specs.Numbers.{big_number-reads_back}
 use Rattle.gate_packet.specs.CheckWord.{check_word}
-use Rattle.gate_packet.specs.Layout.{slice_of, written, zeros, without_check_word}
-use Rattle.gate_packet.specs.Content.{content, IsContent}
-use Rattle.gate_packet.specs.Packet.{IsPacket, IsZeroFilled}
-use Rattle.gate_packet.proofs.Parts.{length-zeros, length-concat, part_at, written_whole, field, length-field}
+use Rattle.gate_packet.specs.Layout.{slice_of, zeros, without_check_word}
+use Rattle.gate_packet.specs.inner.Writes.{written}
+use Rattle.gate_packet.specs.Packet.{content, IsContent}
+use Rattle.gate_packet.specs.Decoding.{IsPacket}
+use Rattle.gate_packet.specs.Encoding.{IsZeroFilled}
+use Rattle.gate_packet.proofs.Pieces.{length-zeros, length-concat, piece_at, written_whole, field, length-field}
 use Rattle.gate_packet.proofs.Texts.{filled_text}
 use Rattle.gate_packet.proofs.Laid.{laid, written-laid}
 
@@ -48,18 +50,18 @@ slices timestamp code host service output word lw lh ls lo =
     let fo = length-field 4096 output lo in
     record {
       whole = length-concat (v ∷ p ∷ word ∷ t ∷ c ∷ h ∷ s ∷ o ∷ p ∷ []) ∙ omega arith;
-      version_at = part_at [] v (p ∷ word ∷ t ∷ c ∷ h ∷ s ∷ o ∷ p ∷ []) 0 2 refl refl;
-      padding_at = part_at (v ∷ []) p (word ∷ t ∷ c ∷ h ∷ s ∷ o ∷ p ∷ []) 2 2 refl z2;
-      word_at = part_at (v ∷ p ∷ []) word (t ∷ c ∷ h ∷ s ∷ o ∷ p ∷ []) 4 4 (omega arith) lw;
-      timestamp_at = part_at (v ∷ p ∷ word ∷ []) t (c ∷ h ∷ s ∷ o ∷ p ∷ []) 8 4 (omega arith) refl;
-      code_at = part_at (v ∷ p ∷ word ∷ t ∷ []) c (h ∷ s ∷ o ∷ p ∷ []) 12 2 (omega arith) refl;
-      host_at = part_at (v ∷ p ∷ word ∷ t ∷ c ∷ []) h (s ∷ o ∷ p ∷ []) 14 64 (omega arith) fh;
-      service_at = part_at (v ∷ p ∷ word ∷ t ∷ c ∷ h ∷ []) s (o ∷ p ∷ []) 78 128 (omega arith) fs;
-      output_at = part_at (v ∷ p ∷ word ∷ t ∷ c ∷ h ∷ s ∷ []) o (p ∷ []) 206 4096 (omega arith) fo;
-      last_padding_at = part_at (v ∷ p ∷ word ∷ t ∷ c ∷ h ∷ s ∷ o ∷ []) p [] 4302 2 (omega arith) z2;
+      version_at = piece_at [] v (p ∷ word ∷ t ∷ c ∷ h ∷ s ∷ o ∷ p ∷ []) 0 2 refl refl;
+      padding_at = piece_at (v ∷ []) p (word ∷ t ∷ c ∷ h ∷ s ∷ o ∷ p ∷ []) 2 2 refl z2;
+      word_at = piece_at (v ∷ p ∷ []) word (t ∷ c ∷ h ∷ s ∷ o ∷ p ∷ []) 4 4 (omega arith) lw;
+      timestamp_at = piece_at (v ∷ p ∷ word ∷ []) t (c ∷ h ∷ s ∷ o ∷ p ∷ []) 8 4 (omega arith) refl;
+      code_at = piece_at (v ∷ p ∷ word ∷ t ∷ []) c (h ∷ s ∷ o ∷ p ∷ []) 12 2 (omega arith) refl;
+      host_at = piece_at (v ∷ p ∷ word ∷ t ∷ c ∷ []) h (s ∷ o ∷ p ∷ []) 14 64 (omega arith) fh;
+      service_at = piece_at (v ∷ p ∷ word ∷ t ∷ c ∷ h ∷ []) s (o ∷ p ∷ []) 78 128 (omega arith) fs;
+      output_at = piece_at (v ∷ p ∷ word ∷ t ∷ c ∷ h ∷ s ∷ []) o (p ∷ []) 206 4096 (omega arith) fo;
+      last_padding_at = piece_at (v ∷ p ∷ word ∷ t ∷ c ∷ h ∷ s ∷ o ∷ []) p [] 4302 2 (omega arith) z2;
     }
 
--- a write of four bytes to the check word's place
+-- a write of four bytes to the check word's offset
 pub rewritten : (timestamp code : ℕ) (host service output old word : List ℕ) → length old ≡ 4 → length word ≡ 4 → written 4 word (message timestamp code host service output old) ≡ message timestamp code host service output word
 rewritten timestamp code host service output old word lo lw =
     let z2 = length-zeros 2 in
@@ -76,17 +78,17 @@ message-IsPacket timestamp code word host service output ft fc fw is covers =
     let ls : length service ≤ 127 = is.service.short in
     let lo : length output ≤ 4095 = is.output.short in
     let bytes : List ℕ = message timestamp code host service output (big_bytes 4 word) in
-    let part : Slices bytes (big_bytes 4 word) timestamp code host service output = slices timestamp code host service output (big_bytes 4 word) refl (omega arith) (omega arith) (omega arith) in
+    let laid_out : Slices bytes (big_bytes 4 word) timestamp code host service output = slices timestamp code host service output (big_bytes 4 word) refl (omega arith) (omega arith) (omega arith) in
     let blank : without_check_word bytes ≡ message timestamp code host service output (zeros 4) = blanked bytes ∙ rewritten timestamp code host service output (big_bytes 4 word) (zeros 4) refl (length-zeros 4) in
     record {
-      whole = part.whole;
-      version = ap (λ xs. big_number 2 xs) part.version_at;
-      covered = ap (λ xs. big_number 4 xs) part.word_at ∙ read_back 4 word fw ∙ covers ∙ ap check_word (sym blank);
-      sent = ap (λ xs. big_number 4 xs) part.timestamp_at ∙ read_back 4 timestamp ft;
-      code = ap (λ xs. cast_signed w16 (big_number 2 xs)) part.code_at ∙ ap (λ n. cast_signed w16 n) (read_back 2 code fc);
-      host = filled_text bytes 14 64 host part.host_at is.host;
-      service = filled_text bytes 78 128 service part.service_at is.service;
-      output = filled_text bytes 206 4096 output part.output_at is.output;
+      whole = laid_out.whole;
+      version = ap (λ xs. big_number 2 xs) laid_out.version_at;
+      covered = ap (λ xs. big_number 4 xs) laid_out.word_at ∙ read_back 4 word fw ∙ covers ∙ ap check_word (sym blank);
+      sent = ap (λ xs. big_number 4 xs) laid_out.timestamp_at ∙ read_back 4 timestamp ft;
+      code = ap (λ xs. cast_signed w16 (big_number 2 xs)) laid_out.code_at ∙ ap (λ n. cast_signed w16 n) (read_back 2 code fc);
+      host = filled_text bytes 14 64 host laid_out.host_at is.host;
+      service = filled_text bytes 78 128 service laid_out.service_at is.service;
+      output = filled_text bytes 206 4096 output laid_out.output_at is.output;
       has_host = is.has_host;
     }
 
@@ -95,8 +97,8 @@ message-IsZeroFilled timestamp code z host service output word lw is =
     let lh : length host ≤ 63 = is.host.short in
     let ls : length service ≤ 127 = is.service.short in
     let lo : length output ≤ 4095 = is.output.short in
-    let part = slices timestamp code host service output word lw (omega arith) (omega arith) (omega arith) in
-    record { padding = part.padding_at; host = part.host_at; service = part.service_at; output = part.output_at; last_padding = part.last_padding_at }
+    let laid_out = slices timestamp code host service output word lw (omega arith) (omega arith) (omega arith) in
+    record { padding = laid_out.padding_at; host = laid_out.host_at; service = laid_out.service_at; output = laid_out.output_at; last_padding = laid_out.last_padding_at }
 
 -- a number that was written as 16 bits of two's complement is read so
 pub code_back : (code : ℤ) (n : ℕ) → FitsSigned w16 code → n ≡ cast_unsigned w16 (cast_signed w16 (cast_unsigned w16 code)) → cast_signed w16 n ≡ code

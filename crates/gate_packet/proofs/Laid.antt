@@ -1,9 +1,10 @@
--- A packet's members and padding, laid one behind the other.
+-- A packet's members and padding, laid one after the other.
 use Rattle.std.proofs.Common.{◌≡◌, ℕ, ◌≤◌, List, [], ◌∷◌, ◌++◌, length, refl, sym, ap, ◌∙◌, arith}
 use Rattle.std.specs.List.{concat}
 use Rattle.std.proofs.lemmas.List.{append-nil}
-use Rattle.gate_packet.specs.Layout.{written, zeros}
-use Rattle.gate_packet.proofs.Parts.{length-zeros, zeros-split, written_whole, written_field, field, length-field}
+use Rattle.gate_packet.specs.Layout.{zeros}
+use Rattle.gate_packet.specs.inner.Writes.{written}
+use Rattle.gate_packet.proofs.Pieces.{length-zeros, zeros-split, written_whole, written_field, field, length-field}
 
 -- version, padding, check word, timestamp, code, host, service, output and padding
 abbrev pub laid : List ℕ → List ℕ → List ℕ → List ℕ → List ℕ → List ℕ → List ℕ → List ℕ → List ℕ → List ℕ

@@ -3,8 +3,8 @@ mod CheckWordShares
 mod CheckWordBlocks
 mod CheckWordTables
 pub mod Texts
-pub mod Contents
-pub mod Faults
-pub mod Parts
+pub mod ContentFaults
+pub mod PacketFaults
+pub mod Pieces
 pub mod Laid
 pub mod Encoded

@@ -6,9 +6,9 @@ use Rattle.std.proofs.lemmas.List.{take_all, take_at, take-take, length-take, le
 use Rattle.std.proofs.lemmas.List.Sums.{fails_before_first, position_or_len_is}
 use Rattle.std.proofs.lemmas.List.Folds.{list_any_none, list_any_at}
 use Rattle.gate_packet.specs.Layout.{slice_of, zeros, text_at, host_name, svc_description, plugin_output}
-use Rattle.gate_packet.proofs.Parts.{length-zeros}
-use Rattle.gate_packet.specs.Content.{Content, has_nul, content, IsText, IsContent}
-use Rattle.gate_packet.specs.Packet.{IsPacket, content_of}
+use Rattle.gate_packet.proofs.Pieces.{length-zeros}
+use Rattle.gate_packet.specs.Packet.{Content, has_nul, content, IsText, IsContent}
+use Rattle.gate_packet.specs.Decoding.{IsPacket, content_of}
 
 picked : (b : Bool) (n i : ℕ) → cond b (Some n) None ≡ Some i → n ≡ i
 picked true n i e = cc
@@ -18,8 +18,8 @@ not_picked : (b : Bool) (n : ℕ) → cond b (Some n) None ≡ None → b ≡ fa
 not_picked true n e = absurd cc
 not_picked false n e = refl
 
-pub before_place : (p : ℕ → Bool) (xs : List ℕ) (i : ℕ) → position p xs ≡ Some i → take i xs ≡ before_first p xs
-before_place p xs i e = ap (λ n. take n xs) (sym (picked _ (position_or_len p xs) i e))
+pub before_position : (p : ℕ → Bool) (xs : List ℕ) (i : ℕ) → position p xs ≡ Some i → take i xs ≡ before_first p xs
+before_position p xs i e = ap (λ n. take n xs) (sym (picked _ (position_or_len p xs) i e))
 
 pub before_none : (p : ℕ → Bool) (xs : List ℕ) → position p xs ≡ None → xs ≡ before_first p xs
 before_none p xs e = sym (take_all (position_or_len p xs) xs (ltb-false _ _ (not_picked _ (position_or_len p xs) e)))
@@ -30,7 +30,7 @@ no_nul-before xs = list_any_none (λ b. eqb b 0) (before_first (λ b. eqb b 0) x
     let early : k < position_or_len (λ b. eqb b 0) xs = omega arith in
     ap (λ b. eqb b 0) (get_or-take (position_or_len (λ b. eqb b 0) xs) xs k d early) ∙ fails_before_first (λ b. eqb b 0) xs k d early)
 
--- ---- a text with a NUL behind it is read as it is
+-- ---- a text that a NUL follows is read to its end
 
 passes-no_nul : (text : List ℕ) (k : ℕ) → has_nul text ≡ false → k < length text → eqb (get_or text k 0) 0 ≡ false
 passes-no_nul text k none below = false_from_ne_true _ (λ here. both_ways (has_nul text) none (list_any_at (λ b. eqb b 0) text k 0 below here))
@@ -49,20 +49,20 @@ before-nul text size n fits none =
     let here : length text < length xs → eqb (get_or xs (length text) 0) 0 ≡ true = λ below.
     let in_size : length text < size = omega arith in
     ap (λ b. eqb b 0) (get_or-take size (text ++ zeros n) (length text) 0 in_size ∙ get_or-append_right text (zeros n) (length text) (length text) 0 refl (omega arith) ∙ zero_anywhere n (length text - length text)) in
-    let place : position_or_len (λ b. eqb b 0) xs ≡ length text = position_or_len_is (λ b. eqb b 0) xs (length text) 0 (omega arith) earlier here in
-    ap (λ k. take k xs) place ∙ take-take (length text) size (text ++ zeros n) fits ∙ take_at text (zeros n) (length text) refl
+    let offset : position_or_len (λ b. eqb b 0) xs ≡ length text = position_or_len_is (λ b. eqb b 0) xs (length text) 0 (omega arith) earlier here in
+    ap (λ k. take k xs) offset ∙ take-take (length text) size (text ++ zeros n) fits ∙ take_at text (zeros n) (length text) refl
 
 -- what a field that holds a text and then zeros is read as
-pub filled_text : (bytes : List ℕ) (place size : ℕ) (text : List ℕ) → slice_of bytes place size ≡ text ++ zeros (size - length text) → IsText (size - 1) text → text_at bytes place size ≡ text
-filled_text bytes place size text filled fits =
-    ap (λ xs. before_first (λ b. eqb b 0) xs) (sym (take-take (size - 1) size (drop place bytes) (omega arith)) ∙ ap (λ xs. take (size - 1) xs) filled)
+pub filled_text : (bytes : List ℕ) (offset size : ℕ) (text : List ℕ) → slice_of bytes offset size ≡ text ++ zeros (size - length text) → IsText (size - 1) text → text_at bytes offset size ≡ text
+filled_text bytes offset size text filled fits =
+    ap (λ xs. before_first (λ b. eqb b 0) xs) (sym (take-take (size - 1) size (drop offset bytes) (omega arith)) ∙ ap (λ xs. take (size - 1) xs) filled)
     ∙ before-nul text (size - 1) (size - length text) fits.short fits.no_nul
 
 -- a text that was read may be written
-pub text-IsText : (bytes : List ℕ) (place size : ℕ) → IsText (size - 1) (text_at bytes place size)
-text-IsText bytes place size = record {
-  short = omega (arith, length-take (position_or_len (λ b. eqb b 0) (slice_of bytes place (size - 1))) (slice_of bytes place (size - 1)), length-take (size - 1) (drop place bytes));
-  no_nul = no_nul-before (slice_of bytes place (size - 1));
+pub text-IsText : (bytes : List ℕ) (offset size : ℕ) → IsText (size - 1) (text_at bytes offset size)
+text-IsText bytes offset size = record {
+  short = omega (arith, length-take (position_or_len (λ b. eqb b 0) (slice_of bytes offset (size - 1))) (slice_of bytes offset (size - 1)), length-take (size - 1) (drop offset bytes));
+  no_nul = no_nul-before (slice_of bytes offset (size - 1));
 }
 
 -- so may a content whose texts were read, if there is a host
@@ -77,9 +77,9 @@ read-IsContent timestamp code bytes host service output h s o some = record {
 same_content : (t t' : ℕ) (c c' : ℤ) (h h' s s' o o' : List ℕ) → t ≡ t' → c ≡ c' → h ≡ h' → s ≡ s' → o ≡ o' → content t c h s o ≡ content t' c' h' s' o'
 same_content t t' c c' h h' s s' o o' et ec eh es eo = cc
 
--- what a packet's bytes say is the packet
-pub packet_says : (bytes : List ℕ) (p : Content) → IsPacket bytes p → content_of bytes ≡ p
-packet_says bytes p h = same_content _ _ _ _ _ _ _ _ _ _ h.sent h.code h.host h.service h.output
+-- the content of a packet's bytes is the packet
+pub packet-content_of : (bytes : List ℕ) (p : Content) → IsPacket bytes p → content_of bytes ≡ p
+packet-content_of bytes p h = same_content _ _ _ _ _ _ _ _ _ _ h.sent h.code h.host h.service h.output
 
 -- a packet's content may be written
 pub packet-IsContent : (bytes : List ℕ) (p : Content) → IsPacket bytes p → IsContent p

@@ -1,29 +1,25 @@
--- Where the members of a data packet of version 3 stand: `data_packet` of NSCA 2.9, common.h. Places
--- are counted from 0, and numbers are in network byte order.
--- Own rule: the places are those of the C struct with its 32-bit members at multiples of 4, in 4304
--- bytes. Bytes 2 to 3 and 4302 to 4303 are padding.
-use Rattle.std.specs.Prelude.{ℕ, ℤ, ◌+◌, ◌-◌, ◌==◌, List, ◌++◌, take, drop, length, replicate}
+-- Where the members of a data packet of version 3 stand: `data_packet` of NSCA 2.9, common.h.
+-- Offsets are in bytes from 0, and numbers are in network byte order.
+-- Own rule: the offsets are those of the C struct with its 32-bit members at multiples of 4, in
+-- 4304 bytes. Bytes 2 to 3 and 4302 to 4303 are padding.
+use Rattle.std.specs.Prelude.{ℕ, ℤ, ◌-◌, ◌==◌, List, ◌++◌, take, drop, replicate}
 use Rattle.std.specs.List.{before_first}
 use Rattle.std.specs.Int.{w16, cast_signed}
 use Rattle.byteorder.specs.Endian.{big_number}
 
--- this many bytes from this place on
+-- this many bytes from this offset on
 abbrev pub slice_of : List ℕ → ℕ → ℕ → List ℕ
-slice_of bytes place count = take count (drop place bytes)
+slice_of bytes offset count = take count (drop offset bytes)
 
--- the number in this many bytes from this place on
+-- the number in this many bytes from this offset on
 abbrev pub number_at : List ℕ → ℕ → ℕ → ℕ
-number_at bytes place count = big_number count (slice_of bytes place count)
+number_at bytes offset count = big_number count (slice_of bytes offset count)
 
--- a field's text stands before its first NUL, and its last byte is read as one
+-- a field's text stands before its first NUL, and its last byte is read as a NUL
 abbrev pub text_at : List ℕ → ℕ → ℕ → List ℕ
-text_at bytes place size = before_first (λ byte. byte == 0) (slice_of bytes place (size - 1))
+text_at bytes offset size = before_first (λ byte. byte == 0) (slice_of bytes offset (size - 1))
 
--- the bytes after this part was written at this place
-abbrev pub written : ℕ → List ℕ → List ℕ → List ℕ
-written place part bytes = take place bytes ++ part ++ drop (place + length part) bytes
-
--- so many bytes that are zero
+-- this many bytes that are zero
 unfoldable pub zeros : ℕ → List ℕ
 zeros count = replicate count 0
 
@@ -37,7 +33,7 @@ packet_version bytes = number_at bytes 0 2
 abbrev pub crc32_value : List ℕ → ℕ
 crc32_value bytes = number_at bytes 4 4
 
--- the bytes that the check word covers: all, with its own four taken as zeros
+-- the bytes that the check word covers: all, with zeros instead of its own four
 abbrev pub without_check_word : List ℕ → List ℕ
 without_check_word bytes = take 4 bytes ++ zeros 4 ++ drop 8 bytes
 
@@ -57,6 +53,6 @@ host_name bytes = text_at bytes 14 64
 abbrev pub svc_description : List ℕ → List ℕ
 svc_description bytes = text_at bytes 78 128
 
--- what the plugin wrote
+-- the plugin's output
 abbrev pub plugin_output : List ℕ → List ℕ
 plugin_output bytes = text_at bytes 206 4096

@@ -1,4 +1,6 @@
 pub mod CheckWord
 pub mod Layout
-pub mod Content
 pub mod Packet
+pub mod Decoding
+pub mod Encoding
+pub mod inner

@@ -1,64 +1,68 @@
--- The data packet of version 3, `data_packet` of NSCA 2.9, common.h, under encryption method 0: which
--- bytes are which packet, and what is wrong with bytes that are none.
--- Own rules: which packet is stale, that a packet has a host, and the order of the faults.
-use Rattle.std.specs.Prelude.{◌≡◌, ◌≢◌, ℕ, ◌-◌, Bool, not, ◌&&◌, nat_lt, nat_le, ◌==◌, if◌then◌else◌, List, [], ◌++◌, length, Option, Some, None, Result, Ok, Err}
-use Rattle.gate_packet.specs.declared.packet.PacketFault.{PacketFault}
-use Rattle.gate_packet.specs.declared.packet.PacketFault.TheVariants.{BadVersion, BadCheckWord, Stale, EmptyHost, OutOfMemory}
-use Rattle.gate_packet.specs.CheckWord.{check_word}
-use Rattle.gate_packet.specs.Layout.{slice_of, zeros, packet_version, crc32_value, without_check_word, timestamp, return_code, host_name, svc_description, plugin_output}
-use Rattle.gate_packet.specs.Content.{Content, content}
+-- What a packet reports, `Content`, and which contents can be written, `IsContent`: the members of
+-- `data_packet` in NSCA 2.9, common.h, that a sender chooses. A text ends at a NUL within its
+-- field, so it is shorter than the field.
+-- Own rules: a packet always names a host, and the order of the faults.
+use Rattle.std.specs.Prelude.{◌≡◌, ◌≤◌, ◌≢◌, ℕ, ℤ, Bool, false, nat_lt, ◌==◌, if◌then◌else◌, List, [], length, Option, Some, None, is_some}
+use Rattle.std.specs.List.{list_any}
+use Rattle.gate_model.specs.declared.submission.Body.{Body}
+use Rattle.gate_model.specs.declared.submission.Body.TheVariants as bodies
+use Rattle.gate_packet.specs.declared.packet.Field.{Field}
+use Rattle.gate_packet.specs.declared.packet.Field.TheVariants.{Host, Service, Output}
+use Rattle.gate_packet.specs.declared.packet.ContentFault.{ContentFault}
+use Rattle.gate_packet.specs.declared.packet.ContentFault.TheVariants.{EmptyHost, TooLong, HasNul}
 
--- the bytes are this packet
-pub record IsPacket (bytes : List ℕ) (p : Content) : Type 0 where
-  pub whole : length bytes ≡ 4304
-  pub version : packet_version bytes ≡ 3
-  pub covered : crc32_value bytes ≡ check_word (without_check_word bytes)
-  pub sent : timestamp bytes ≡ p.timestamp
-  pub code : return_code bytes ≡ p.code
-  pub host : host_name bytes ≡ p.host
-  pub service : svc_description bytes ≡ p.service
-  pub output : plugin_output bytes ≡ p.output
+-- what a packet reports: its moment of sending in seconds, the return code, and three texts
+pub record Content : Type 0 where
+  pub timestamp : ℕ
+  pub code : ℤ
+  pub host : List ℕ
+  pub service : List ℕ
+  pub output : List ℕ
+
+-- the content with these members
+abbrev pub content : ℕ → ℤ → List ℕ → List ℕ → List ℕ → Content
+content timestamp code host service output = record {
+  timestamp = timestamp;
+  code = code;
+  host = host;
+  service = service;
+  output = output;
+}
+
+-- a NUL stands in the text
+abbrev pub has_nul : List ℕ → Bool
+has_nul text = list_any (λ byte. byte == 0) text
+
+-- the text has at most this many bytes, and no NUL
+pub record IsText (most : ℕ) (text : List ℕ) : Type 0 where
+  pub short : length text ≤ most
+  pub no_nul : has_nul text ≡ false
+
+-- a packet can be written of this content
+pub record IsContent (p : Content) : Type 0 where
   pub has_host : p.host ≢ []
+  pub host : IsText 63 p.host
+  pub service : IsText 127 p.service
+  pub output : IsText 4095 p.output
 
--- what the bytes say, whether or not they are a packet
-abbrev pub content_of : List ℕ → Content
-content_of bytes = content (timestamp bytes) (return_code bytes) (host_name bytes) (svc_description bytes) (plugin_output bytes)
+-- why the text has no room in its field, or would not be read to its end
+abbrev pub text_fault : Field → ℕ → List ℕ → Option ContentFault
+text_fault field most text =
+    if nat_lt most (length text) then Some (TooLong field)
+    else (if has_nul text then Some (HasNul field) else None)
 
--- ---- faults
+-- the first cause why no packet can be written of these texts
+abbrev pub content_fault : List ℕ → List ℕ → List ℕ → Option ContentFault
+content_fault host service output =
+    if length host == 0 then Some EmptyHost
+    else (if is_some (text_fault Host 63 host) then text_fault Host 63 host
+    else (if is_some (text_fault Service 127 service) then text_fault Service 127 service
+    else text_fault Output 4095 output))
 
--- at this moment a packet of that timestamp is older than the greatest age; 0 is no greatest age
-abbrev pub is_stale : ℕ → ℕ → ℕ → Bool
-is_stale timestamp now greatest_age = not (greatest_age == 0) && nat_le timestamp now && nat_lt greatest_age (now - timestamp)
+-- the service that the text names: an empty text names none
+abbrev pub service_of : List ℕ → Option (List ℕ)
+service_of text = if length text == 0 then None else Some text
 
--- the first fault of the bytes at this moment
-unfoldable pub fault_of : List ℕ → ℕ → ℕ → Option PacketFault
-fault_of bytes now greatest_age =
-    if not (packet_version bytes == 3) then Some BadVersion
-    else (if not (crc32_value bytes == check_word (without_check_word bytes)) then Some BadCheckWord
-    else (if is_stale (timestamp bytes) now greatest_age then Some Stale
-    else (if length (host_name bytes) == 0 then Some EmptyHost
-    else None)))
-
--- this is the first fault at this moment; want of memory is told where there is none
-abbrev pub IsFirstFault : List ℕ → ℕ → ℕ → PacketFault → Type 0
-IsFirstFault bytes now greatest_age OutOfMemory = fault_of bytes now greatest_age ≡ None
-IsFirstFault bytes now greatest_age fault = fault_of bytes now greatest_age ≡ Some fault
-
--- the answer is this packet, unless memory ran out
-abbrev pub IsUnlessMemory : Result Content PacketFault → Content → Type 0
-IsUnlessMemory (Ok answer) p = answer ≡ p
-IsUnlessMemory (Err fault) p = fault ≡ OutOfMemory
-
--- ---- what a sender of ours writes
-
--- the field holds the text and then zeros
-abbrev pub IsFilled : List ℕ → ℕ → ℕ → List ℕ → Type 0
-IsFilled bytes place size text = slice_of bytes place size ≡ text ++ zeros (size - length text)
-
--- all bytes outside the packet's texts and numbers are zeros
-pub record IsZeroFilled (bytes : List ℕ) (p : Content) : Type 0 where
-  pub padding : IsFilled bytes 2 2 []
-  pub host : IsFilled bytes 14 64 p.host
-  pub service : IsFilled bytes 78 128 p.service
-  pub output : IsFilled bytes 206 4096 p.output
-  pub last_padding : IsFilled bytes 4302 2 []
+-- the check result that a packet reports: the host's own where the packet names no service
+abbrev pub check_result_of : Content → Body
+check_result_of p = bodies.Result p.host (service_of p.service) p.code p.output

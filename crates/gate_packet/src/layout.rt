@@ -1,4 +1,4 @@
-//! Where the members of a packet stand: `data_packet` of NSCA 2.9, `common.h`. Places are counted
+//! Where the members of a packet stand: `data_packet` of NSCA 2.9, `common.h`. Offsets are in bytes
 //! from 0, and sizes are in bytes.
 
 /// The bytes of a packet.
@@ -7,24 +7,24 @@ pub const PACKET_SIZE: usize = 4304;
 /// The one `packet_version` that is read and written.
 pub(crate) const VERSION: u16 = 3;
 
-pub(crate) const VERSION_PLACE: usize = 0;
+pub(crate) const VERSION_OFFSET: usize = 0;
 
-pub(crate) const CHECK_WORD_PLACE: usize = 4;
+pub(crate) const CHECK_WORD_OFFSET: usize = 4;
 
 pub(crate) const CHECK_WORD_SIZE: usize = 4;
 
-pub(crate) const TIMESTAMP_PLACE: usize = 8;
+pub(crate) const TIMESTAMP_OFFSET: usize = 8;
 
-pub(crate) const CODE_PLACE: usize = 12;
+pub(crate) const CODE_OFFSET: usize = 12;
 
-pub(crate) const HOST_PLACE: usize = 14;
+pub(crate) const HOST_OFFSET: usize = 14;
 
 pub(crate) const HOST_SIZE: usize = 64;
 
-pub(crate) const SERVICE_PLACE: usize = 78;
+pub(crate) const SERVICE_OFFSET: usize = 78;
 
 pub(crate) const SERVICE_SIZE: usize = 128;
 
-pub(crate) const OUTPUT_PLACE: usize = 206;
+pub(crate) const OUTPUT_OFFSET: usize = 206;
 
 pub(crate) const OUTPUT_SIZE: usize = 4096;

@@ -1,22 +1,19 @@
-//! The data packet of NSCA version 3 under encryption method 0: 4304 bytes in, a `Packet` out, and
-//! back. Whatever stands in the padding and behind a text's NUL, bytes are at most one packet, and
-//! what `encode` writes is read as the packet that was written.
+//! The data packet of NSCA version 3 under encryption method 0: `decode` reads 4304 bytes as a
+//! `Packet`, and `encode` writes one. Bytes are at most one packet, whatever stands in the padding
+//! and after a text's NUL, and what `encode` writes is read by `decode` as the same packet.
 #![tactic(auto)]
 
 mod check_word;
 mod check_word_tables;
+mod decoding;
+mod encoding;
 mod laws;
 mod layout;
 mod packet;
-mod reading;
-mod writing;
 
 pub use check_word::crc32;
+pub use decoding::{decode, one_reading};
+pub use encoding::encode;
 pub use laws::round_trip;
 pub use layout::PACKET_SIZE;
 pub use packet::{ContentFault, Field, Packet, PacketFault, RefusedPacket};
-pub use reading::{decode, one_reading};
-pub use writing::encode;
-
-#[cfg(test)]
-mod tests;

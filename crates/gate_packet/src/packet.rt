@@ -1,5 +1,5 @@
 ghost use Rattle.std.specs.Prelude.{◌≡◌, ◌↔◌, ◌<◌, ◌-◌, IsOk, IfOk, IfErr};
-ghost use Rattle.gate_packet.specs.Content.{content, IsContent, text_fault, content_fault, body_of};
+ghost use Rattle.gate_packet.specs.Packet.{content, IsContent, text_fault, content_fault, check_result_of};
 
 use crate::layout::{HOST_SIZE, OUTPUT_SIZE, SERVICE_SIZE};
 use gate_model::{Body, Moment, Text};
@@ -13,20 +13,20 @@ pub enum Field {
     Output,
 }
 
-/// Why no packet says what it was asked to. The first that applies is told: `EmptyHost`, then for
-/// the host, the service and the output in this order `TooLong` before `HasNul`.
+/// Why no packet can be written of a content. The first that applies is reported: `EmptyHost`, then
+/// for the host, the service and the output in this order `TooLong` before `HasNul`.
 #[derive(Clone, Copy, Debug, PartialEq, Eq)]
 pub enum ContentFault {
-    /// The host has no name.
+    /// The host's name is empty.
     EmptyHost,
-    /// The text leaves no room for the NUL that ends it: 63 bytes fit for a host, 127 for a
-    /// service, 4095 for an output.
+    /// The text leaves no room for the NUL that ends it: a host's name has at most 63 bytes, a
+    /// service's 127, an output 4095.
     TooLong(Field),
-    /// A NUL stands in the text, which would end there.
+    /// The text has a NUL, at which a reader would end it.
     HasNul(Field),
 }
 
-/// A packet that was refused: the first cause, and the texts as they were given.
+/// A packet that was refused: the first cause, and the texts as they were passed.
 #[derive(Debug, Drop)]
 pub struct RefusedPacket {
     pub cause: ContentFault,
@@ -35,18 +35,18 @@ pub struct RefusedPacket {
     pub output: Vec<u8>,
 }
 
-/// Why bytes are not read as a packet. The first that applies is told, in the order given here.
+/// Why bytes are not read as a packet. The first that applies is reported, in this order.
 #[derive(Clone, Copy, Debug, PartialEq, Eq)]
 pub enum PacketFault {
-    /// The version is another than 3.
+    /// The version is not 3.
     BadVersion,
-    /// The check word isn't that of the bytes.
+    /// The check word is not that of the bytes.
     BadCheckWord,
     /// The packet is older than the greatest age.
     Stale,
     /// The packet names no host.
     EmptyHost,
-    /// Nothing is wrong with the bytes, but there is no memory for the texts.
+    /// The bytes have no fault, but no memory is left for the texts.
     OutOfMemory,
 }
 
@@ -62,7 +62,7 @@ pub struct Packet {
 }
 
 impl Model for Packet {
-    ghost use Rattle.gate_packet.specs.Content.{Content, content, IsContent};
+    ghost use Rattle.gate_packet.specs.Packet.{Content, content, IsContent};
 
     ghost Value = { Content };
 
@@ -70,7 +70,13 @@ impl Model for Packet {
 
     ghost invariant = { λ p. IsContent (content p.timestamp.0 p.code p.host p.service p.output) };
 
-    ghost inverse = { λ c. record { timestamp = record { 0 = c.timestamp }; code = c.code; host = c.host; service = c.service; output = c.output } };
+    ghost inverse = { λ c. record {
+      timestamp = record { 0 = c.timestamp };
+      code = c.code;
+      host = c.host;
+      service = c.service;
+      output = c.output;
+    } };
 }
 
 fn text_fault(field: Field, size: usize, text: &[u8]) -> Option<ContentFault>
@@ -102,8 +108,15 @@ fn content_fault(host: &[u8], service: &[u8], output: &[u8]) -> Option<ContentFa
 }
 
 impl Packet {
-    /// The packet of this content: the moment of sending, the return code, the host's name, the
-    /// service's name or nothing for a result of the host itself, and the plugin's output.
+    /// Makes the packet of this content: the moment of sending in seconds, the return code, the
+    /// host's name, the service's name (empty for a result of the host itself), and the plugin's
+    /// output.
+    ///
+    /// It is refused for the first cause of `ContentFault` that applies, and the texts are returned
+    /// as they were passed.
+    ///
+    /// Source of the sizes: `data_packet` of NSCA 2.9, `common.h`. Own rules: a packet names a
+    /// host, and the order of the causes.
     pub fn new(
         timestamp: Moment,
         code: i16,
@@ -111,11 +124,15 @@ impl Packet {
         service: Vec<u8>,
         output: Vec<u8>,
     ) -> Result<Packet, RefusedPacket>
-        ensures accepted { IsOk result ↔ IsContent (content timestamp.0 code host.items service.items output.items) }
-        ensures packet { IfOk result (λ p. p ≡ content timestamp.0 code host.items service.items output.items) }
+        ensures accepted { IsOk result
+            ↔ IsContent (content timestamp.0 code host.items service.items output.items) }
+        ensures packet { IfOk result (λ p.
+            p ≡ content timestamp.0 code host.items service.items output.items) }
 
-        ensures cause { IfErr result (λ r. content_fault host.items service.items output.items ≡ Some r.cause) }
-        ensures given_back { IfErr result (λ r. (r.host ≡ host) × (r.service ≡ service) × (r.output ≡ output)) }
+        ensures cause { IfErr result (λ r.
+            content_fault host.items service.items output.items ≡ Some r.cause) }
+        ensures unchanged { IfErr result (λ r.
+            (r.host ≡ host) × (r.service ≡ service) × (r.output ≡ output)) }
     {
         if let Some(cause) = content_fault(&host, &service, &output) {
             return Err(RefusedPacket {
@@ -134,7 +151,7 @@ impl Packet {
         })
     }
 
-    /// The moment of sending, by the sender's account.
+    /// The moment of sending, by the sender's clock.
     pub fn timestamp(&self) -> Moment
         ensures { result.0 ≡ self.now.timestamp }
     {
@@ -171,7 +188,7 @@ impl Packet {
 
     /// The check result that the packet reports.
     pub fn into_body(self) -> Body
-        ensures body { result ≡ body_of self }
+        ensures body { result ≡ check_result_of self }
         ensures content { IsContent self }
     {
         let Packet {

@@ -6,8 +6,8 @@ use Rattle.gate_packet.specs.declared.packet.PacketFault.{PacketFault}
 use Rattle.gate_packet.specs.declared.packet.PacketFault.TheVariants.{BadVersion, BadCheckWord, Stale, EmptyHost, OutOfMemory}
 use Rattle.gate_packet.specs.CheckWord.{check_word}
 use Rattle.gate_packet.specs.Layout.{packet_version, crc32_value, without_check_word, timestamp, host_name}
-use Rattle.gate_packet.specs.Content.{Content}
-use Rattle.gate_packet.specs.Packet.{IsPacket, content_of, is_stale, fault_of, IsFirstFault}
+use Rattle.gate_packet.specs.Packet.{Content}
+use Rattle.gate_packet.specs.Decoding.{IsPacket, content_of, is_stale, fault_of, IsReportedFault}
 
 -- the first of four tests that fails
 first : Bool → Bool → Bool → Bool → Option PacketFault
@@ -40,12 +40,12 @@ never_memory true true true empty e = cc
 never_memory true true false true e = cc
 never_memory true true false false e = cc
 
-pub is_first : (bytes : List ℕ) (now greatest_age : ℕ) (fault : PacketFault) → fault_of bytes now greatest_age ≡ Some fault → IsFirstFault bytes now greatest_age fault
-is_first bytes now greatest_age BadVersion e = e
-is_first bytes now greatest_age BadCheckWord e = e
-is_first bytes now greatest_age Stale e = e
-is_first bytes now greatest_age EmptyHost e = e
-is_first bytes now greatest_age OutOfMemory e = absurd (never_memory _ _ _ _ (sym (tests bytes now greatest_age) ∙ e))
+pub reported : (bytes : List ℕ) (now greatest_age : ℕ) (fault : PacketFault) → fault_of bytes now greatest_age ≡ Some fault → IsReportedFault bytes now greatest_age fault
+reported bytes now greatest_age BadVersion e = e
+reported bytes now greatest_age BadCheckWord e = e
+reported bytes now greatest_age Stale e = e
+reported bytes now greatest_age EmptyHost e = e
+reported bytes now greatest_age OutOfMemory e = absurd (never_memory _ _ _ _ (sym (tests bytes now greatest_age) ∙ e))
 
 above_zero : (n : ℕ) → (n ≡ 0 → ⊥) → 0 < n
 above_zero n h = omega arith
@@ -66,7 +66,7 @@ packet_fault bytes p now greatest_age h =
     let no_host : eqb (length (host_name bytes)) 0 ≡ false = ne_eqb _ 0 (λ zero. h.has_host (sym h.host ∙ nil_from_length _ zero)) in
     tests bytes now greatest_age ∙ rw (eq-eqb _ _ h.version, eq-eqb _ _ h.covered, no_host, h.sent) refl
 
--- faultless bytes are the packet of what they say
+-- faultless bytes are the packet of their own content
 pub faultless-IsPacket : (bytes : List ℕ) (now greatest_age : ℕ) → length bytes ≡ 4304 → Faultless bytes now greatest_age → IsPacket bytes (content_of bytes)
 faultless-IsPacket bytes now greatest_age whole h = record {
   whole = whole;

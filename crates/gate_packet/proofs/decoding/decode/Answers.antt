@@ -1,7 +1,7 @@
 use Rattle.std.proofs.Common.{◌≡◌, Some, None, sym, ◌∙◌}
 use Rattle.std.proofs.lemmas.Bool.{cond-false}
-use Rattle.gate_packet.proofs.Faults.{no_fault, is_first, packet_fault, faultless-IsPacket}
-use Rattle.gate_packet.proofs.reading.decode.Goals as goal
+use Rattle.gate_packet.proofs.PacketFaults.{no_fault, reported, packet_fault, faultless-IsPacket}
+use Rattle.gate_packet.proofs.decoding.decode.Goals as goal
 
 pub returns-in-Some-clause-every_packet : goal.returns-in-Some-clause-every_packet
 returns-in-Some-clause-every_packet c = λ p is_packet fresh. absurd (
@@ -9,7 +9,7 @@ returns-in-Some-clause-every_packet c = λ p is_packet fresh. absurd (
     cc)
 
 pub returns-in-Some-clause-first_fault : goal.returns-in-Some-clause-first_fault
-returns-in-Some-clause-first_fault c = is_first _ _ _ c.in-Some.fault (sym c.in-Some.ensures)
+returns-in-Some-clause-first_fault c = reported _ _ _ c.in-Some.fault (sym c.in-Some.ensures)
 
 pub packet_in-requires-clause-has_host : goal.packet_in-requires-clause-has_host
 packet_in-requires-clause-has_host c = (no_fault _ _ _ (sym c.fault_of.ensures ∙ c.in_default.is)).has_host

@@ -1,4 +1,4 @@
--- A content has no fault where a packet can say it.
+-- A content has no fault exactly when a packet can be written of it.
 use Rattle.std.proofs.Common.{◌≡◌, ℕ, ℤ, Bool, true, false, cond, eqb, ltb, List, [], length, Option, Some, None, refl, ap}
 use Rattle.std.specs.Prelude.{is_some}
 use Rattle.std.proofs.lemmas.Bool.{ltb-false, le-ltb, eqb-false, ne_eqb}
@@ -7,7 +7,7 @@ use Rattle.gate_packet.specs.declared.packet.Field.{Field}
 use Rattle.gate_packet.specs.declared.packet.Field.TheVariants.{Host, Service, Output}
 use Rattle.gate_packet.specs.declared.packet.ContentFault.{ContentFault}
 use Rattle.gate_packet.specs.declared.packet.ContentFault.TheVariants.{EmptyHost, TooLong, HasNul}
-use Rattle.gate_packet.specs.Content.{content, has_nul, IsText, IsContent, text_fault, content_fault}
+use Rattle.gate_packet.specs.Packet.{content, has_nul, IsText, IsContent, text_fault, content_fault}
 
 neither : (a b : Bool) (x y : ContentFault) → cond a (Some x) (cond b (Some y) None) ≡ None → (a ≡ false) × (b ≡ false)
 neither true b x y e = absurd cc
@@ -31,12 +31,12 @@ all_none false None None output e = (refl, refl, refl, e)
 
 pub no_fault-IsContent : (timestamp : ℕ) (code : ℤ) (host service output : List ℕ) → content_fault host service output ≡ None → IsContent (content timestamp code host service output)
 no_fault-IsContent timestamp code host service output e =
-    let parts = all_none (eqb (length host) 0) (text_fault Host 63 host) (text_fault Service 127 service) (text_fault Output 4095 output) e in
+    let passed = all_none (eqb (length host) 0) (text_fault Host 63 host) (text_fault Service 127 service) (text_fault Output 4095 output) e in
     record {
-      has_host = λ (nil : host ≡ []). eqb-false (length host) 0 parts.0 (ap length nil);
-      host = fault-IsText Host 63 host parts.1;
-      service = fault-IsText Service 127 service parts.2;
-      output = fault-IsText Output 4095 output parts.3;
+      has_host = λ (nil : host ≡ []). eqb-false (length host) 0 passed.0 (ap length nil);
+      host = fault-IsText Host 63 host passed.1;
+      service = fault-IsText Service 127 service passed.2;
+      output = fault-IsText Output 4095 output passed.3;
     }
 
 pub IsContent-no_fault : (timestamp : ℕ) (code : ℤ) (host service output : List ℕ) → IsContent (content timestamp code host service output) → content_fault host service output ≡ None

@@ -3,7 +3,7 @@ use Rattle.std.proofs.lemmas.Slice.{between_to_end}
 use Rattle.gate_packet.specs.CheckWord.{check_word}
 use Rattle.gate_packet.specs.Layout.{zeros}
 use Rattle.gate_packet.proofs.CheckWordBlocks.{after_bytes-three}
-use Rattle.gate_packet.proofs.reading.covering_word.Goals as goal
+use Rattle.gate_packet.proofs.decoding.covering_word.Goals as goal
 
 pub returns : goal.returns
 unfolding check_word zeros

@@ -1,9 +1,10 @@
 use Rattle.std.proofs.Common.{◌^◌, ◌<◌, ◌∙◌, ap, subst, rules, arith, w16, FitsSigned}
-use Rattle.gate_packet.specs.Content.{IsContent}
-use Rattle.gate_packet.specs.Packet.{IsPacket, IsZeroFilled}
-use Rattle.gate_packet.specs.Layout.{written}
+use Rattle.gate_packet.specs.Packet.{IsContent}
+use Rattle.gate_packet.specs.Decoding.{IsPacket}
+use Rattle.gate_packet.specs.Encoding.{IsZeroFilled}
+use Rattle.gate_packet.specs.inner.Writes.{written}
 use Rattle.gate_packet.proofs.Encoded.{Writes, encoded, code_back}
-use Rattle.gate_packet.proofs.writing.encode.Goals as goal
+use Rattle.gate_packet.proofs.encoding.encode.Goals as goal
 
 pub returns : goal.returns
 returns c =

@@ -1,0 +1,156 @@
+ghost use Rattle.std.specs.Prelude.{◌≡◌, ◌==◌, ◌<◌, ◌≤◌, ◌+◌, ℕ, List, position, length, IfOk, IfErr, false};
+ghost use Rattle.std.specs.List.{before_first};
+ghost use Rattle.gate_packet.specs.CheckWord.{check_word};
+ghost use Rattle.gate_packet.specs.Layout.{number_at, text_at, without_check_word, host_name};
+ghost use Rattle.gate_packet.specs.Packet.{Content};
+ghost use Rattle.gate_packet.specs.Decoding.{IsPacket, content_of, is_stale, fault_of, IsReportedFault, ReadsFreshPacket, ReportsFault, IsAtMostOnePacket, IsContentOfBytes, IsFaultlessOrStale};
+
+use crate::check_word::extended;
+use crate::layout::{
+    CHECK_WORD_OFFSET, CHECK_WORD_SIZE, CODE_OFFSET, HOST_OFFSET, HOST_SIZE, OUTPUT_OFFSET,
+    OUTPUT_SIZE, PACKET_SIZE, SERVICE_OFFSET, SERVICE_SIZE, TIMESTAMP_OFFSET, VERSION,
+    VERSION_OFFSET,
+};
+use crate::packet::{Packet, PacketFault};
+use byteorder::{BigEndian, ByteOrder};
+use gate_model::{Moment, Text};
+use std::alloc::{AllocError, Global};
+
+fn u16_at(bytes: &[u8], offset: usize) -> u16
+    requires { offset + 2 ≤ length bytes.now }
+    ensures { result ≡ number_at bytes.now offset 2 }
+{
+    BigEndian::read_u16(&bytes[offset..offset + 2])
+}
+
+fn u32_at(bytes: &[u8], offset: usize) -> u32
+    requires { offset + 4 ≤ length bytes.now }
+    ensures { result ≡ number_at bytes.now offset 4 }
+{
+    BigEndian::read_u32(&bytes[offset..offset + 4])
+}
+
+fn first_nul(bytes: &[u8]) -> Option<usize>
+    ensures { result ≡ position (λ byte. byte == 0) bytes.now }
+{
+    bytes.iter().position(|byte| *byte == 0)
+}
+
+fn before_nul(bytes: &[u8]) -> &[u8]
+    ensures { result.now ≡ before_first (λ byte. byte == 0) bytes.now }
+{
+    match first_nul(bytes) {
+        Some(end) => &bytes[..end],
+        None => bytes,
+    }
+}
+
+// The text of the field of this size, whose last byte is read as a NUL.
+fn text_at(bytes: &[u8], offset: usize, size: usize) -> &[u8]
+    requires some { 0 < size }
+    requires within { offset + size ≤ length bytes.now }
+    ensures { result.now ≡ text_at bytes.now offset size }
+{
+    before_nul(&bytes[offset..offset + size - 1])
+}
+
+// The check word of the bytes, with zeros instead of its own four.
+fn covering_word(bytes: &[u8]) -> u32
+    requires { length bytes.now ≡ 4304 }
+    ensures { result ≡ check_word (without_check_word bytes.now) }
+{
+    let word = extended(u32::MAX, &bytes[..CHECK_WORD_OFFSET]);
+    let word = extended(word, &[0; CHECK_WORD_SIZE]);
+    u32::MAX - extended(word, &bytes[CHECK_WORD_OFFSET + CHECK_WORD_SIZE..])
+}
+
+fn is_stale(timestamp: u32, now: Moment, greatest_age: u32) -> bool
+    ensures { result ≡ is_stale timestamp now.0 greatest_age }
+{
+    greatest_age != 0 && timestamp <= now.0 && now.0 - timestamp > greatest_age
+}
+
+#[tactic(auto, unfolding(crate::specs::Decoding::fault_of))]
+fn fault_of(bytes: &[u8], now: Moment, greatest_age: u32) -> Option<PacketFault>
+    requires { length bytes.now ≡ 4304 }
+    ensures { result ≡ fault_of bytes.now now.0 greatest_age }
+{
+    if u16_at(bytes, VERSION_OFFSET) != VERSION {
+        return Some(PacketFault::BadVersion);
+    }
+    if u32_at(bytes, CHECK_WORD_OFFSET) != covering_word(bytes) {
+        return Some(PacketFault::BadCheckWord);
+    }
+    if is_stale(u32_at(bytes, TIMESTAMP_OFFSET), now, greatest_age) {
+        return Some(PacketFault::Stale);
+    }
+    if text_at(bytes, HOST_OFFSET, HOST_SIZE).is_empty() {
+        return Some(PacketFault::EmptyHost);
+    }
+    None
+}
+
+// The content of the bytes, whatever their version and check word.
+fn packet_in(alloc: Global, bytes: &[u8]) -> Result<Packet, AllocError>
+    requires whole { length bytes.now ≡ 4304 }
+    requires has_host { 0 < length (host_name bytes.now) }
+    ensures { IfOk result (λ p. p ≡ content_of bytes.now) }
+{
+    let timestamp = Moment(u32_at(bytes, TIMESTAMP_OFFSET));
+    let code = u16_at(bytes, CODE_OFFSET).cast_signed();
+    let host = Text::copied(alloc, text_at(bytes, HOST_OFFSET, HOST_SIZE))?;
+    let service = Text::copied(alloc, text_at(bytes, SERVICE_OFFSET, SERVICE_SIZE))?;
+    let output = Text::copied(alloc, text_at(bytes, OUTPUT_OFFSET, OUTPUT_SIZE))?;
+    Ok(Packet {
+        timestamp,
+        code,
+        host,
+        service,
+        output,
+    })
+}
+
+/// Reads the bytes as the packet that they are, at the moment `now`.
+///
+/// The first fault is reported: `BadVersion`, `BadCheckWord`, `Stale`, `EmptyHost`, in this order.
+/// `OutOfMemory` is reported only of bytes without a fault, when no memory is left for the texts.
+///
+/// `greatest_age` is in seconds, and with 0 no packet is stale; nor is one whose timestamp is later
+/// than `now`. The check word covers the padding and the bytes after a text's NUL, which have no
+/// meaning otherwise.
+///
+/// Source: `data_packet` of NSCA 2.9, `common.h`, version 3. Own rules: which packet is stale, that
+/// a packet names a host, and the order of the faults.
+pub fn decode(
+    alloc: Global,
+    bytes: &[u8; PACKET_SIZE],
+    now: Moment,
+    greatest_age: u32,
+) -> Result<Packet, PacketFault>
+    ensures packet { IfOk result (λ p. IsPacket bytes.now p) }
+    ensures fresh { IfOk result (λ p. is_stale p.timestamp now.0 greatest_age ≡ false) }
+    // A packet that isn't stale is read, if there is memory for its texts.
+    ensures every_packet { ReadsFreshPacket bytes.now now.0 greatest_age result }
+
+    ensures first_fault { IfErr result (IsReportedFault bytes.now now.0 greatest_age) }
+    ensures each_fault { ReportsFault bytes.now now.0 greatest_age result }
+{
+    if let Some(fault) = fault_of(bytes, now, greatest_age) {
+        return Err(fault);
+    }
+    match packet_in(alloc, bytes) {
+        Ok(packet) => Ok(packet),
+        Err(_) => Err(PacketFault::OutOfMemory),
+    }
+}
+
+/// Does nothing. Its contract is a law: bytes are at most one packet, which is their content and
+/// one that `Packet::new` accepts, and the only fault that a packet's bytes can have is `Stale`. So
+/// what `encode` writes of a packet is read by `decode` as that packet, unless it is stale or
+/// memory runs out.
+pub fn one_reading()
+    ensures one { (bytes : List ℕ) → IsAtMostOnePacket bytes }
+    ensures content { (bytes : List ℕ) (p : Content) → IsContentOfBytes bytes p }
+    ensures no_fault { (bytes : List ℕ) (p : Content) (now greatest_age : ℕ)
+        → IsFaultlessOrStale bytes p now greatest_age }
+{}
