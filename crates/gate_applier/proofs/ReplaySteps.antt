@@ -7,8 +7,8 @@ use Rattle.std.proofs.lemmas.List.{append-nil, take-append-le}
 use Rattle.std.proofs.lemmas.Bool.{cases_Bool, MatchBool-at_true, MatchBool-at_false, ne_eqb, eq-eqb}
 use Rattle.gate_model.specs.declared.record.Record.{Record}
 use Rattle.gate_model.specs.Moments.{later}
-use Rattle.gate_packet.specs.Content.{Content, body_of}
-use Rattle.gate_packet.specs.Packet.{is_stale}
+use Rattle.gate_packet.specs.Packet.{Content, check_result_of}
+use Rattle.gate_packet.specs.Decoding.{is_stale}
 use Rattle.gate_applier.specs.View.{ApplierView}
 use Rattle.gate_applier.specs.declared.fault.ReplayFault.{ReplayFault}
 use Rattle.gate_applier.specs.declared.fault.ReplayFault.TheVariants.{TooLong, Line, LogFull, OutOfMemory, ReadFault, WriteFault}
@@ -60,26 +60,26 @@ goes_stale was p left a b late printed = record {
 
 -- ---- a packet that becomes an item
 
-longer : (was now : Player) (p : Content) → TakesItem was now (body_of p) → length now.applier.records ≡ length was.applier.records + 1
-longer was now p h = ap length h.records ∙ length-append was.applier.records (record_of (later was.applier.moment was.clock) (next_of was) (body_of p) ∷ [])
+longer : (was now : Player) (p : Content) → TakesItem was now (check_result_of p) → length now.applier.records ≡ length was.applier.records + 1
+longer was now p h = ap length h.records ∙ length-append was.applier.records (record_of (later was.applier.moment was.clock) (next_of was) (check_result_of p) ∷ [])
 
-left_after : (was now : Player) (p : Content) (left : List Step) → TakesItem was now (body_of p) → to_print now left ≡ answers was.age (next_of was + 1) (served was.age ((was.applier.limit - length was.applier.records) - 1) (arrivals was.clock left))
+left_after : (was now : Player) (p : Content) (left : List Step) → TakesItem was now (check_result_of p) → to_print now left ≡ answers was.age (next_of was + 1) (served was.age ((was.applier.limit - length was.applier.records) - 1) (arrivals was.clock left))
 left_after was now p left h =
     let number : next_of now ≡ next_of was + 1 = ap (λ n. n + 1) (longer was now p h) in
     let room : now.applier.limit - length now.applier.records ≡ (was.applier.limit - length was.applier.records) - 1 = omega (arith, longer was now p h, h.limit) in
     rw (number, room, h.age, h.clock) refl
 
-print_taken : (was now : Player) (p : Content) (left : List Step) → is_stale p.timestamp was.clock.0 was.age ≡ false → TakesItem was now (body_of p) → to_print was (step.Packet p ∷ left) ≡ queued_line (next_of was) ++ to_print now left
+print_taken : (was now : Player) (p : Content) (left : List Step) → is_stale p.timestamp was.clock.0 was.age ≡ false → TakesItem was now (check_result_of p) → to_print was (step.Packet p ∷ left) ≡ queued_line (next_of was) ++ to_print now left
 print_taken was now p left late h =
     let some : (was.applier.limit - length was.applier.records == 0) ≡ false = ne_eqb _ _ (λ e. omega (arith, e, h.room)) in
     rw (late, some, late) (ap (λ t. queued_line (next_of was) ++ t) (sym (left_after was now p left h)))
 
-record_taken : (was now : Player) (p : Content) (left : List Step) → is_stale p.timestamp was.clock.0 was.age ≡ false → TakesItem was now (body_of p) → to_record now left ≡ to_record was (step.Packet p ∷ left)
+record_taken : (was now : Player) (p : Content) (left : List Step) → is_stale p.timestamp was.clock.0 was.age ≡ false → TakesItem was now (check_result_of p) → to_record now left ≡ to_record was (step.Packet p ∷ left)
 record_taken was now p left late h =
     let number : next_of now ≡ next_of was + 1 = ap (λ n. n + 1) (longer was now p h) in
-    rw (late, number, h.records, h.moment, h.age, h.clock) (append_assoc was.applier.records (record_of (later was.applier.moment was.clock) (next_of was) (body_of p) ∷ []) (records_of (later was.applier.moment was.clock) (next_of was + 1) (queued was.age (arrivals was.clock left))))
+    rw (late, number, h.records, h.moment, h.age, h.clock) (append_assoc was.applier.records (record_of (later was.applier.moment was.clock) (next_of was) (check_result_of p) ∷ []) (records_of (later was.applier.moment was.clock) (next_of was + 1) (queued was.age (arrivals was.clock left))))
 
-goes_taken : (was now : Player) (p : Content) (left : List Step) (a b : Option (List ℕ)) → is_stale p.timestamp was.clock.0 was.age ≡ false → TakesItem was now (body_of p) → Appends a b (queued_line (next_of was)) → Goes was now (step.Packet p ∷ left) left a b
+goes_taken : (was now : Player) (p : Content) (left : List Step) (a b : Option (List ℕ)) → is_stale p.timestamp was.clock.0 was.age ≡ false → TakesItem was now (check_result_of p) → Appends a b (queued_line (next_of was)) → Goes was now (step.Packet p ∷ left) left a b
 goes_taken was now p left a b late h printed = record {
   printed = rw (print_taken was now p left late h) (owed_more a b (queued_line (next_of was)) (to_print now left) printed);
   recorded = record_taken was now p left late h;
@@ -88,7 +88,7 @@ goes_taken was now p left a b late h printed = record {
   age = h.age;
 }
 
-pub goes_packet : (was now : Player) (p : Content) (a b : Option (List ℕ)) → MatchBool (is_stale p.timestamp was.clock.0 was.age) ((now ≡ was) × Appends a b (codes "Stale\n")) (TakesItem was now (body_of p) × Appends a b (queued_line (next_of was))) → (left : List Step) → Goes was now (step.Packet p ∷ left) left a b
+pub goes_packet : (was now : Player) (p : Content) (a b : Option (List ℕ)) → MatchBool (is_stale p.timestamp was.clock.0 was.age) ((now ≡ was) × Appends a b (codes "Stale\n")) (TakesItem was now (check_result_of p) × Appends a b (queued_line (next_of was))) → (left : List Step) → Goes was now (step.Packet p ∷ left) left a b
 goes_packet was now p a b h left =
     elim (cases_Bool (is_stale p.timestamp was.clock.0 was.age)) [
       | inl late ↦ (let k = MatchBool-at_true _ _ late h in subst (λ (n : Player). Goes was n (step.Packet p ∷ left) left a b) (sym k.0) (goes_stale was p left a b late k.1))
@@ -102,7 +102,7 @@ print_full was p left late full =
     let none : (was.applier.limit - length was.applier.records == 0) ≡ true = eq-eqb _ _ (omega (arith, full)) in
     rw (late, none, late) (append-nil (queued_line (next_of was)))
 
-record_full : (was : Player) (p : Content) (left : List Step) → is_stale p.timestamp was.clock.0 was.age ≡ false → to_record was (step.Packet p ∷ left) ≡ was.applier.records ++ record_of (later was.applier.moment was.clock) (next_of was) (body_of p) ∷ records_of (later was.applier.moment was.clock) (next_of was + 1) (queued was.age (arrivals was.clock left))
+record_full : (was : Player) (p : Content) (left : List Step) → is_stale p.timestamp was.clock.0 was.age ≡ false → to_record was (step.Packet p ∷ left) ≡ was.applier.records ++ record_of (later was.applier.moment was.clock) (next_of was) (check_result_of p) ∷ records_of (later was.applier.moment was.clock) (next_of was + 1) (queued was.age (arrivals was.clock left))
 record_full was p left late = rw late refl
 
 front_of : (limit : ℕ) (xs ys : List Record) → length xs ≡ limit → xs ≡ take limit (xs ++ ys)
@@ -158,7 +158,7 @@ stops_for OutOfMemory P Q f h = h
 stops_for ReadFault P Q f h = h
 stops_for WriteFault P Q f h = h
 
-pub step_goes : (r : Result Player Stopped) (was : Player) (asked : Step) (p : Content) (a b : Option (List ℕ)) → asked ≡ step.Packet p → IfOk r (λ now. MatchBool (is_stale p.timestamp was.clock.0 was.age) ((now ≡ was) × Appends a b (codes "Stale\n")) (TakesItem was now (body_of p) × Appends a b (queued_line (next_of was)))) → IfOk r (λ now. (left : List Step) → Goes was now (asked ∷ left) left a b)
+pub step_goes : (r : Result Player Stopped) (was : Player) (asked : Step) (p : Content) (a b : Option (List ℕ)) → asked ≡ step.Packet p → IfOk r (λ now. MatchBool (is_stale p.timestamp was.clock.0 was.age) ((now ≡ was) × Appends a b (codes "Stale\n")) (TakesItem was now (check_result_of p) × Appends a b (queued_line (next_of was)))) → IfOk r (λ now. (left : List Step) → Goes was now (asked ∷ left) left a b)
 step_goes (Ok now) was asked p a b is h = rw is (λ left. goes_packet was now p a b h left)
 step_goes (Err stop) was asked p a b is h = tt
 

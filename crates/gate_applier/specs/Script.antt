@@ -7,7 +7,7 @@ use Rattle.std.specs.Bool.{MatchBool}
 use Rattle.std.specs.List.{filter_map}
 use Rattle.gate_model.specs.declared.object.ObjectLine.{ObjectLine}
 use Rattle.gate_model.specs.Table.{IsFaultless}
-use Rattle.gate_packet.specs.Content.{content, IsContent}
+use Rattle.gate_packet.specs.Packet.{content, IsContent}
 use Rattle.gate_applier.specs.declared.reading.Step.{Step}
 use Rattle.gate_applier.specs.declared.reading.Step.TheVariants as step
 use Rattle.gate_applier.specs.declared.reading.Opening.{Opening}

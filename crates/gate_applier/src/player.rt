@@ -1,8 +1,8 @@
 ghost use Rattle.std.specs.Prelude.{◌≡◌, ◌≤◌, [], ◌∷◌, false, length, if◌then◌else◌, None, Some, List, codes, IfOk, IfErr, IfSome, IsTrue, OnOk};
 ghost use Rattle.std.specs.Bool.{MatchBool};
 ghost use Rattle.std.specs.Io.KnownBytes.{Appends};
-ghost use Rattle.gate_packet.specs.Content.{body_of};
-ghost use Rattle.gate_packet.specs.Packet.{is_stale};
+ghost use Rattle.gate_packet.specs.Packet.{check_result_of};
+ghost use Rattle.gate_packet.specs.Decoding.{is_stale};
 ghost use Rattle.gate_applier.specs.Taken.{is_taken};
 ghost use Rattle.gate_applier.specs.View.{opened};
 ghost use Rattle.gate_applier.specs.declared.reading.Step.{Step};
@@ -43,7 +43,7 @@ fn received(
     now: Moment,
     greatest_age: u32,
 ) -> Result<Option<Body>, AllocError>
-    ensures body { IfOk result (λ body. body ≡ (if is_stale packet.now.timestamp now.0 greatest_age then None else Some (body_of packet.now))) }
+    ensures body { IfOk result (λ body. body ≡ (if is_stale packet.now.timestamp now.0 greatest_age then None else Some (check_result_of packet.now))) }
     ensures taken { IfOk result (λ body. IfSome body (λ b. IsTrue (is_taken b))) }
 {
     match round_trip(alloc, packet, now, greatest_age) {
@@ -185,7 +185,7 @@ impl Player {
     ) -> Result<Player, Stopped>
         ensures ok { IfOk result (λ now. MatchBool (is_stale packet.now.timestamp self.clock.0 self.age)
             ((now ≡ self) × Appends (W.contents output.old) (W.contents output.new) (codes "Stale\n"))
-            (TakesItem self now (body_of packet.now) × Appends (W.contents output.old) (W.contents output.new) (queued_line (next_of self)))) }
+            (TakesItem self now (check_result_of packet.now) × Appends (W.contents output.old) (W.contents output.new) (queued_line (next_of self)))) }
         ensures stopped { IfErr result (λ stop. StopsAt stop.cause ((is_stale packet.now.timestamp self.clock.0 self.age ≡ false)
             × (length self.applier.records ≡ self.applier.limit) × (stop.applier ≡ self.applier)
             × Appends (W.contents output.old) (W.contents output.new) (queued_line (next_of self)))) }

@@ -1,7 +1,7 @@
 ghost use Rattle.std.specs.Prelude.{◌≡◌, [], Some, IfOk, IfErr};
 ghost use Rattle.std.specs.Option.{option_copied};
 ghost use Rattle.gate_model.specs.Table.{IsFaultless};
-ghost use Rattle.gate_packet.specs.Content.{content, IsContent};
+ghost use Rattle.gate_packet.specs.Packet.{content, IsContent};
 ghost use Rattle.gate_applier.specs.ScriptLine.{Object, line_said};
 ghost use Rattle.gate_applier.specs.Script.{told_in, object_told, step_told, IsStep, IsScript, IsFaultOf};
 ghost use Rattle.gate_applier.specs.ScriptParts.{told_by, IsOpenAt, TellsLine};
