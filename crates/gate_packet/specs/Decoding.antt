@@ -2,8 +2,8 @@
 -- which bytes are which packet, `IsPacket`, and why other bytes are none, `fault_of`.
 -- Own rules: which packet is stale, that a packet has a host, and the order of the faults.
 use Rattle.std.specs.Prelude.{◌≡◌, ◌≢◌, ℕ, ◌-◌, Bool, false, not, ◌&&◌, nat_lt, nat_le, ◌==◌, if◌then◌else◌, List, [], length, Option, Some, None, Result, Ok, Err}
-use Rattle.gate_packet.specs.declared.packet.PacketFault.{PacketFault}
-use Rattle.gate_packet.specs.declared.packet.PacketFault.TheVariants.{BadVersion, BadCheckWord, Stale, EmptyHost, OutOfMemory}
+use Rattle.gate_packet.specs.declared.decoding.PacketFault.{PacketFault}
+use Rattle.gate_packet.specs.declared.decoding.PacketFault.TheVariants.{BadVersion, BadCheckWord, Stale, EmptyHost, OutOfMemory}
 use Rattle.gate_packet.specs.CheckWord.{check_word}
 use Rattle.gate_packet.specs.Layout.{packet_version, crc32_value, without_check_word, timestamp, return_code, host_name, svc_description, plugin_output}
 use Rattle.gate_packet.specs.Packet.{Content, content, IsContent}

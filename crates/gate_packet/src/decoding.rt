@@ -11,10 +11,31 @@ use crate::layout::{
     OUTPUT_SIZE, PACKET_SIZE, SERVICE_OFFSET, SERVICE_SIZE, TIMESTAMP_OFFSET, VERSION,
     VERSION_OFFSET,
 };
-use crate::packet::{Packet, PacketFault};
+use crate::packet::Packet;
 use byteorder::{BigEndian, ByteOrder};
 use gate_model::{Moment, Text};
 use std::alloc::{AllocError, Global};
+use thiserror::Error;
+
+/// Why bytes are not read as a packet. The first that applies is reported, in this order.
+#[derive(Clone, Copy, Debug, Error, PartialEq, Eq)]
+pub enum PacketFault {
+    /// The version is not 3.
+    #[error("the packet's version is not 3")]
+    BadVersion,
+    /// The check word is not that of the bytes.
+    #[error("the check word is not that of the packet's bytes")]
+    BadCheckWord,
+    /// The packet is older than the greatest age.
+    #[error("the packet is older than the greatest age")]
+    Stale,
+    /// The packet names no host.
+    #[error("the packet names no host")]
+    EmptyHost,
+    /// The bytes have no fault, but no memory is left for the texts.
+    #[error("out of memory")]
+    OutOfMemory,
+}
 
 fn u16_at(bytes: &[u8], offset: usize) -> u16
     requires { offset + 2 ≤ length bytes.now }

@@ -12,8 +12,8 @@ mod layout;
 mod packet;
 
 pub use check_word::crc32;
-pub use decoding::{decode, one_reading};
+pub use decoding::{PacketFault, decode, one_reading};
 pub use encoding::encode;
 pub use laws::round_trip;
 pub use layout::PACKET_SIZE;
-pub use packet::{ContentFault, Field, Packet, PacketFault, RefusedPacket};
+pub use packet::{ContentFault, Field, Packet, RefusedPacket};

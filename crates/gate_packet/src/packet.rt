@@ -3,6 +3,8 @@ ghost use Rattle.gate_packet.specs.Packet.{content, IsContent, text_fault, conte
 
 use crate::layout::{HOST_SIZE, OUTPUT_SIZE, SERVICE_SIZE};
 use gate_model::{Body, Moment, Text};
+use std::error::Error;
+use std::fmt;
 use std::marker::Model;
 
 /// A text of a packet.
@@ -26,28 +28,30 @@ pub enum ContentFault {
     HasNul(Field),
 }
 
+impl fmt::Display for ContentFault {
+    fn fmt<W: fmt::Write>(&self, f: &mut fmt::Formatter<W>) -> fmt::Result {
+        f.write_str(match self {
+            ContentFault::EmptyHost => "the host's name is empty",
+            ContentFault::TooLong(Field::Host) => "the host's name is longer than 63 bytes",
+            ContentFault::TooLong(Field::Service) => "the service's name is longer than 127 bytes",
+            ContentFault::TooLong(Field::Output) => "the output is longer than 4095 bytes",
+            ContentFault::HasNul(Field::Host) => "the host's name has a NUL",
+            ContentFault::HasNul(Field::Service) => "the service's name has a NUL",
+            ContentFault::HasNul(Field::Output) => "the output has a NUL",
+        })
+    }
+}
+
+impl Error for ContentFault {}
+
 /// A packet that was refused: the first cause, and the texts as they were passed.
-#[derive(Debug, Drop)]
+#[derive(Debug, Drop, thiserror::Error)]
+#[error("{cause}")]
 pub struct RefusedPacket {
     pub cause: ContentFault,
     pub host: Vec<u8>,
     pub service: Vec<u8>,
     pub output: Vec<u8>,
-}
-
-/// Why bytes are not read as a packet. The first that applies is reported, in this order.
-#[derive(Clone, Copy, Debug, PartialEq, Eq)]
-pub enum PacketFault {
-    /// The version is not 3.
-    BadVersion,
-    /// The check word is not that of the bytes.
-    BadCheckWord,
-    /// The packet is older than the greatest age.
-    Stale,
-    /// The packet names no host.
-    EmptyHost,
-    /// The bytes have no fault, but no memory is left for the texts.
-    OutOfMemory,
 }
 
 /// What a sender reports: a data packet without its version, its check word and its padding. Each
