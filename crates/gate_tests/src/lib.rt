@@ -3,3 +3,8 @@
 
 #[cfg(test)]
 mod machine;
+//! Tests of the libraries from outside: what no clause of theirs says.
+#![tactic(auto)]
+
+#[cfg(test)]
+mod packet;

@@ -1,0 +1,250 @@
+use gate_model::{Body, Moment, Text};
+use gate_packet::{
+    ContentFault, Field, PACKET_SIZE, Packet, PacketFault, RefusedPacket, crc32, decode, encode,
+    round_trip,
+};
+use std::alloc::Global;
+use std::test::Fail;
+
+fn new_packet(
+    alloc: Global,
+    timestamp: u32,
+    code: i16,
+    texts: [&[u8]; 3],
+) -> Option<Result<Packet, RefusedPacket>> {
+    let host = texts[0].to_vec(alloc).ok()?;
+    let service = texts[1].to_vec(alloc).ok()?;
+    let output = texts[2].to_vec(alloc).ok()?;
+    Some(Packet::new(Moment(timestamp), code, host, service, output))
+}
+
+fn cause(alloc: Global, texts: [&[u8]; 3]) -> Option<ContentFault> {
+    match new_packet(alloc, 1000, 0, texts)? {
+        Ok(_) => None,
+        Err(refused) => Some(refused.cause),
+    }
+}
+
+// The service result that the tests send.
+fn timeout_of_http(alloc: Global, timestamp: u32) -> Option<Packet> {
+    new_packet(alloc, timestamp, 2, [b"web1", b"HTTP", b"timeout; 10s"])?.ok()
+}
+
+fn bytes_sent(alloc: Global, timestamp: u32) -> Result<[u8; PACKET_SIZE], Fail> {
+    let packet = timeout_of_http(alloc, timestamp).ok_or("no packet")?;
+    Ok(encode(&packet))
+}
+
+fn is_timeout_of_http(alloc: Global, bytes: &[u8; PACKET_SIZE]) -> bool {
+    match (
+        decode(alloc, bytes, Moment(1005), 30),
+        timeout_of_http(alloc, 1000),
+    ) {
+        (Ok(read), Some(sent)) => read == sent,
+        _ => false,
+    }
+}
+
+fn fault(alloc: Global, bytes: &[u8; PACKET_SIZE], now: u32, age: u32) -> Option<PacketFault> {
+    decode(alloc, bytes, Moment(now), age).err()
+}
+
+// Computes the check word again.
+fn sign(bytes: &mut [u8; PACKET_SIZE]) {
+    bytes[4..8].fill(0);
+    let word = crc32(&*bytes);
+    bytes[4..8].copy_from_slice(&word.to_be_bytes());
+}
+
+// Fills the padding and what follows the NULs of `timeout_of_http`, as `send_nsca` does.
+fn litter(bytes: &mut [u8; PACKET_SIZE]) {
+    for (offset, byte) in bytes.iter_mut().enumerate() {
+        if matches!(offset, 2..=3 | 19..=77 | 83..=205 | 219..=4303) {
+            *byte = 0x5a;
+        }
+    }
+}
+
+#[test]
+fn check_words_are_those_of_published_examples(rt: HostRuntime) {
+    #[rattlefmt::skip]
+    let cases: [(&[u8], u32); 4] = [
+        (b"",                                            0x0000_0000),
+        (b"a",                                           0xe8b7_be43),
+        (b"123456789",                                   0xcbf4_3926),
+        (b"The quick brown fox jumps over the lazy dog", 0x414f_a339),
+    ];
+    for (bytes, want) in cases {
+        assert_eq!(rt; crc32(bytes), want, "of {} bytes", bytes.len());
+    }
+}
+
+#[test]
+fn a_service_result_is_laid_out_as_nsca_does(rt: HostRuntime) -> Result<(), Fail> {
+    #[rattlefmt::skip]
+    let cases: [(&[u8], usize); 6] = [
+        (b"\x00\x03",                                          0),
+        (b"\x00\x00\x03\xe8",                                  8),
+        (b"\x00\x02",                                         12),
+        (b"\x77\x65\x62\x31",                                 14),
+        (b"\x48\x54\x54\x50",                                 78),
+        (b"\x74\x69\x6d\x65\x6f\x75\x74\x3b\x20\x31\x30\x73", 206),
+    ];
+    let bytes = bytes_sent(rt.alloc(), 1000)?;
+    for (want, offset) in cases {
+        assert!(rt; bytes[offset..].starts_with(want), "at {offset}");
+    }
+    Ok(())
+}
+
+#[test]
+fn a_packet_is_read_as_it_was_written(rt: HostRuntime) -> Result<(), Fail> {
+    let bytes = bytes_sent(rt.alloc(), 1000)?;
+    assert!(rt; is_timeout_of_http(rt.alloc(), &bytes));
+    Ok(())
+}
+
+#[test]
+fn bytes_after_a_nul_and_in_the_padding_have_no_meaning(rt: HostRuntime) -> Result<(), Fail> {
+    let mut bytes = bytes_sent(rt.alloc(), 1000)?;
+    litter(&mut bytes);
+    sign(&mut bytes);
+    assert!(rt; is_timeout_of_http(rt.alloc(), &bytes));
+    Ok(())
+}
+
+#[test]
+fn a_flipped_bit_is_a_bad_check_word(rt: HostRuntime) -> Result<(), Fail> {
+    let mut bytes = bytes_sent(rt.alloc(), 1000)?;
+    bytes[4303] ^= 1;
+    let found = fault(rt.alloc(), &bytes, 1005, 30);
+    assert_eq!(rt; found, Some(PacketFault::BadCheckWord));
+    Ok(())
+}
+
+#[test]
+fn another_version_is_a_bad_version(rt: HostRuntime) -> Result<(), Fail> {
+    let mut bytes = bytes_sent(rt.alloc(), 1000)?;
+    bytes[1] = 2;
+    sign(&mut bytes);
+    let found = fault(rt.alloc(), &bytes, 1005, 30);
+    assert_eq!(rt; found, Some(PacketFault::BadVersion));
+    Ok(())
+}
+
+#[test]
+fn the_version_is_reported_before_the_check_word(rt: HostRuntime) -> Result<(), Fail> {
+    let mut bytes = bytes_sent(rt.alloc(), 1000)?;
+    bytes[1] = 2;
+    let found = fault(rt.alloc(), &bytes, 1005, 30);
+    assert_eq!(rt; found, Some(PacketFault::BadVersion));
+    Ok(())
+}
+
+#[test]
+fn a_packet_is_stale_past_the_greatest_age(rt: HostRuntime) -> Result<(), Fail> {
+    #[rattlefmt::skip]
+    const CASES: [(u32, u32, u32, Option<PacketFault>); 4] = [
+        // timestamp  now  greatest age
+        (1000,        1030, 30,         None),
+        (1000,        1031, 30,         Some(PacketFault::Stale)),
+        (1000,        9000,  0,         None),
+        (2000,        1000, 30,         None),
+    ];
+    for (timestamp, now, age, want) in CASES {
+        let bytes = bytes_sent(rt.alloc(), timestamp)?;
+        assert_eq!(rt;
+            fault(rt.alloc(), &bytes, now, age),
+            want,
+            "{timestamp} at {now}"
+        );
+    }
+    Ok(())
+}
+
+fn host_read(alloc: Global, bytes: &[u8; PACKET_SIZE]) -> Option<Vec<u8>> {
+    let packet = decode(alloc, bytes, Moment(1005), 30).ok()?;
+    packet.host().bytes().to_vec(alloc).ok()
+}
+
+#[test]
+fn the_last_byte_of_a_host_is_read_as_a_nul(rt: HostRuntime) -> Result<(), Fail> {
+    let mut bytes = bytes_sent(rt.alloc(), 1000)?;
+    bytes[14..78].fill(b'a');
+    sign(&mut bytes);
+    let host = host_read(rt.alloc(), &bytes).ok_or("no packet")?;
+    assert_eq!(rt; host.as_slice(), [b'a'; 63].as_slice());
+    Ok(())
+}
+
+#[test]
+fn a_host_field_of_zeros_is_an_empty_host(rt: HostRuntime) -> Result<(), Fail> {
+    let mut bytes = bytes_sent(rt.alloc(), 1000)?;
+    bytes[14..78].fill(0);
+    sign(&mut bytes);
+    let found = fault(rt.alloc(), &bytes, 1005, 30);
+    assert_eq!(rt; found, Some(PacketFault::EmptyHost));
+    Ok(())
+}
+
+#[test]
+fn the_first_fault_of_a_content_is_reported(rt: HostRuntime) {
+    use ContentFault::{EmptyHost, HasNul, TooLong};
+    use Field::{Host, Output, Service};
+    let a = [b'a'; 4096];
+    let nul = [0; 4096];
+    #[rattlefmt::skip]
+    let cases: [([&[u8]; 3], ContentFault); 8] = [
+        // host       service      output
+        ([b"",        &nul,        &nul],         EmptyHost),
+        ([&nul[..64], &nul,        &nul],         TooLong(Host)),
+        ([&nul[..63], &nul,        &nul],         HasNul(Host)),
+        ([&a[..63],   &nul[..128], &nul],         TooLong(Service)),
+        ([&a[..63],   &nul[..127], &nul],         HasNul(Service)),
+        ([&a[..63],   &a[..127],   &nul],         TooLong(Output)),
+        ([&a[..63],   &a[..127],   &nul[..4095]], HasNul(Output)),
+        ([&a[..63],   b"",         &a],           TooLong(Output)),
+    ];
+    for (texts, want) in cases {
+        assert_eq!(rt; cause(rt.alloc(), texts), Some(want));
+    }
+}
+
+fn is_read_again(alloc: Global, code: i16, texts: [&[u8]; 3]) -> bool {
+    match new_packet(alloc, 1000, code, texts) {
+        Some(Ok(sent)) => match round_trip(alloc, &sent, Moment(1000), 30) {
+            Ok(read) => read == sent,
+            Err(_) => false,
+        },
+        _ => false,
+    }
+}
+
+#[test]
+fn the_longest_texts_are_read_as_they_were_written(rt: HostRuntime) {
+    let a = [b'a'; 4095];
+    assert!(rt; is_read_again(rt.alloc(), -1, [&a[..63], &a[..127], &a]));
+}
+
+fn host_is_up(alloc: Global) -> Option<Body> {
+    Some(Body::Result {
+        host: Text::copied(alloc, b"web1").ok()?,
+        service: None,
+        code: -1,
+        output: Text::copied(alloc, b"up").ok()?,
+    })
+}
+
+fn body_sent(alloc: Global) -> Option<Body> {
+    match new_packet(alloc, 1000, -1, [b"web1", b"", b"up"])? {
+        Ok(packet) => Some(packet.into_body()),
+        Err(_) => None,
+    }
+}
+
+#[test]
+fn an_empty_service_is_a_result_of_the_host(rt: HostRuntime) -> Result<(), Fail> {
+    let want = host_is_up(rt.alloc()).ok_or("no memory")?;
+    assert!(rt; body_sent(rt.alloc()) == Some(want));
+    Ok(())
+}
