@@ -59,8 +59,8 @@ ReadsFreshPacket bytes now greatest_age result =
     → IsPacketOrOutOfMemory result p
 
 -- the result is the first fault of the bytes at this moment, if they have one
-abbrev pub ReportsFault : List ℕ → ℕ → ℕ → Result Content PacketFault → Type 0
-ReportsFault bytes now greatest_age result =
+abbrev pub ReportsFirstFault : List ℕ → ℕ → ℕ → Result Content PacketFault → Type 0
+ReportsFirstFault bytes now greatest_age result =
     (fault : PacketFault) → fault_of bytes now greatest_age ≡ Some fault → result ≡ Err fault
 
 -- ---- laws
@@ -72,6 +72,11 @@ IsAtMostOnePacket bytes = (p q : Content) → IsPacket bytes p → IsPacket byte
 -- a packet is the content of its bytes, and can be written
 abbrev pub IsContentOfBytes : List ℕ → Content → Type 0
 IsContentOfBytes bytes p = IsPacket bytes p → (content_of bytes ≡ p) × IsContent p
+
+-- 4304 bytes without a fault are the packet with their content
+abbrev pub IsPacketIfFaultless : List ℕ → ℕ → ℕ → Type 0
+IsPacketIfFaultless bytes now greatest_age =
+    length bytes ≡ 4304 → fault_of bytes now greatest_age ≡ None → IsPacket bytes (content_of bytes)
 
 -- the only fault that a packet's bytes can have is that the packet is stale
 abbrev pub IsFaultlessOrStale : List ℕ → Content → ℕ → ℕ → Type 0

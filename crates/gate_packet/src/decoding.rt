@@ -3,7 +3,7 @@ ghost use Rattle.std.specs.List.{before_first};
 ghost use Rattle.gate_packet.specs.CheckWord.{check_word};
 ghost use Rattle.gate_packet.specs.Layout.{number_at, text_at, without_check_word, host_name};
 ghost use Rattle.gate_packet.specs.Packet.{Content};
-ghost use Rattle.gate_packet.specs.Decoding.{IsPacket, content_of, is_stale, fault_of, IsReportedFault, ReadsFreshPacket, ReportsFault, IsAtMostOnePacket, IsContentOfBytes, IsFaultlessOrStale};
+ghost use Rattle.gate_packet.specs.Decoding.{IsPacket, content_of, is_stale, fault_of, IsReportedFault, ReadsFreshPacket, ReportsFirstFault, IsAtMostOnePacket, IsContentOfBytes, IsPacketIfFaultless, IsFaultlessOrStale};
 
 use crate::check_word::extended;
 use crate::layout::{
@@ -154,7 +154,7 @@ pub fn decode(
     ensures every_packet { ReadsFreshPacket bytes.now now.0 greatest_age result }
 
     ensures first_fault { IfErr result (IsReportedFault bytes.now now.0 greatest_age) }
-    ensures each_fault { ReportsFault bytes.now now.0 greatest_age result }
+    ensures each_fault { ReportsFirstFault bytes.now now.0 greatest_age result }
 {
     if let Some(fault) = fault_of(bytes, now, greatest_age) {
         return Err(fault);
@@ -166,12 +166,14 @@ pub fn decode(
 }
 
 /// Does nothing. Its contract is a law: bytes are at most one packet, which is their content and
-/// one that `Packet::new` accepts, and the only fault that a packet's bytes can have is `Stale`. So
-/// what `encode` writes of a packet is read by `decode` as that packet, unless it is stale or
-/// memory runs out.
+/// one that `Packet::new` accepts; 4304 bytes without a fault are a packet, and the only fault that
+/// a packet's bytes can have is `Stale`. So what `encode` writes of a packet is read by `decode` as
+/// that packet, unless it is stale or memory runs out.
 pub fn one_reading()
     ensures one { (bytes : List ℕ) → IsAtMostOnePacket bytes }
     ensures content { (bytes : List ℕ) (p : Content) → IsContentOfBytes bytes p }
+    ensures packet { (bytes : List ℕ) (now greatest_age : ℕ)
+        → IsPacketIfFaultless bytes now greatest_age }
     ensures no_fault { (bytes : List ℕ) (p : Content) (now greatest_age : ℕ)
         → IsFaultlessOrStale bytes p now greatest_age }
 {}

@@ -1,7 +1,7 @@
 //! Where the members of a packet stand: `data_packet` of NSCA 2.9, `common.h`. Offsets are in bytes
 //! from 0, and sizes are in bytes.
 
-/// The bytes of a packet.
+/// The size of a packet in bytes.
 pub const PACKET_SIZE: usize = 4304;
 
 /// The one `packet_version` that is read and written.

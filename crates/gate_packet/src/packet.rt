@@ -10,8 +10,11 @@ use std::marker::Model;
 /// A text of a packet.
 #[derive(Clone, Copy, Debug, PartialEq, Eq)]
 pub enum Field {
+    /// The host's name.
     Host,
+    /// The service's name.
     Service,
+    /// The plugin's output.
     Output,
 }
 
