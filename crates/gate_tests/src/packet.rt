@@ -1,9 +1,10 @@
-use gate_model::{Body, Moment, Text};
+use gate_model::{Body, Moment};
 use gate_packet::{
     ContentFault, Field, PACKET_SIZE, Packet, PacketFault, RefusedPacket, crc32, decode, encode,
     round_trip,
 };
 use std::alloc::Global;
+use std::fmt::Display;
 use std::test::Fail;
 
 fn new_packet(
@@ -226,15 +227,6 @@ fn the_longest_texts_are_read_as_they_were_written(rt: HostRuntime) {
     assert!(rt; is_read_again(rt.alloc(), -1, [&a[..63], &a[..127], &a]));
 }
 
-fn host_is_up(alloc: Global) -> Option<Body> {
-    Some(Body::Result {
-        host: Text::copied(alloc, b"web1").ok()?,
-        service: None,
-        code: -1,
-        output: Text::copied(alloc, b"up").ok()?,
-    })
-}
-
 fn body_sent(alloc: Global) -> Option<Body> {
     match new_packet(alloc, 1000, -1, [b"web1", b"", b"up"])? {
         Ok(packet) => Some(packet.into_body()),
@@ -243,8 +235,36 @@ fn body_sent(alloc: Global) -> Option<Body> {
 }
 
 #[test]
-fn an_empty_service_is_a_result_of_the_host(rt: HostRuntime) -> Result<(), Fail> {
-    let want = host_is_up(rt.alloc()).ok_or("no memory")?;
-    assert!(rt; body_sent(rt.alloc()) == Some(want));
-    Ok(())
+fn an_empty_service_is_a_result_of_the_host(rt: HostRuntime) {
+    let body = body_sent(rt.alloc());
+    assert!(rt;
+        matches!(
+            &body,
+            Some(Body::Result {
+                service: None,
+                code: -1,
+                ..
+            })
+        )
+    );
+}
+
+fn is_shown_as<D: Display>(alloc: Global, fault: &D, want: &str) -> bool {
+    match format!(in alloc; "{fault}") {
+        Ok(text) => text.as_str() == want,
+        Err(_) => false,
+    }
+}
+
+#[test]
+fn the_fault_of_a_long_host_names_its_limit(rt: HostRuntime) {
+    let fault = ContentFault::TooLong(Field::Host);
+    let want = "the host's name is longer than 63 bytes";
+    assert!(rt; is_shown_as(rt.alloc(), &fault, want));
+}
+
+#[test]
+fn the_fault_of_a_stale_packet_names_its_age(rt: HostRuntime) {
+    let want = "the packet is older than the greatest age";
+    assert!(rt; is_shown_as(rt.alloc(), &PacketFault::Stale, want));
 }
