@@ -100,7 +100,7 @@ message-IsZeroFilled timestamp code z host service output word lw is =
     let laid_out = slices timestamp code host service output word lw (omega arith) (omega arith) (omega arith) in
     record { padding = laid_out.padding_at; host = laid_out.host_at; service = laid_out.service_at; output = laid_out.output_at; last_padding = laid_out.last_padding_at }
 
--- a number that was written as 16 bits of two's complement is read so
+-- an integer that was written as 16 bits of two's complement is read as the same integer
 pub code_back : (code : ℤ) (n : ℕ) → FitsSigned w16 code → n ≡ cast_unsigned w16 (cast_signed w16 (cast_unsigned w16 code)) → cast_signed w16 n ≡ code
 code_back code n fits e =
     let same : cast_signed w16 (cast_unsigned w16 code) ≡ code = to_z-of_z w16 code fits in

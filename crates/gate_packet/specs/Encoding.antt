@@ -9,7 +9,7 @@ use Rattle.gate_packet.specs.Packet.{Content}
 abbrev pub IsFilled : List ℕ → ℕ → ℕ → List ℕ → Type 0
 IsFilled bytes offset size text = slice_of bytes offset size ≡ text ++ zeros (size - length text)
 
--- all bytes outside the packet's texts and numbers are zeros
+-- all bytes outside the packet's texts and integers are zeros
 pub record IsZeroFilled (bytes : List ℕ) (p : Content) : Type 0 where
   pub padding : IsFilled bytes 2 2 []
   pub host : IsFilled bytes 14 64 p.host

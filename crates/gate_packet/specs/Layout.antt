@@ -1,5 +1,5 @@
 -- Where the members of a data packet of version 3 stand: `data_packet` of NSCA 2.9, common.h.
--- Offsets are in bytes from 0, and numbers are in network byte order.
+-- Offsets are in bytes from 0, and integers are in network byte order.
 -- Own rule: the offsets are those of the C struct with its 32-bit members at multiples of 4, in
 -- 4304 bytes. Bytes 2 to 3 and 4302 to 4303 are padding.
 use Rattle.std.specs.Prelude.{ℕ, ℤ, ◌-◌, ◌==◌, List, ◌++◌, take, drop, replicate}
@@ -11,9 +11,9 @@ use Rattle.byteorder.specs.Endian.{big_number}
 abbrev pub slice_of : List ℕ → ℕ → ℕ → List ℕ
 slice_of bytes offset count = take count (drop offset bytes)
 
--- the number in this many bytes from this offset on
-abbrev pub number_at : List ℕ → ℕ → ℕ → ℕ
-number_at bytes offset count = big_number count (slice_of bytes offset count)
+-- the integer in this many bytes from this offset on
+abbrev pub integer_at : List ℕ → ℕ → ℕ → ℕ
+integer_at bytes offset count = big_number count (slice_of bytes offset count)
 
 -- a field's text stands before its first NUL, and its last byte is read as a NUL
 abbrev pub text_at : List ℕ → ℕ → ℕ → List ℕ
@@ -27,11 +27,11 @@ zeros count = replicate count 0
 
 -- the version of the packet's form
 abbrev pub packet_version : List ℕ → ℕ
-packet_version bytes = number_at bytes 0 2
+packet_version bytes = integer_at bytes 0 2
 
 -- the check word that the sender wrote
 abbrev pub crc32_value : List ℕ → ℕ
-crc32_value bytes = number_at bytes 4 4
+crc32_value bytes = integer_at bytes 4 4
 
 -- the bytes that the check word covers: all, with zeros instead of its own four
 abbrev pub without_check_word : List ℕ → List ℕ
@@ -39,11 +39,11 @@ without_check_word bytes = take 4 bytes ++ zeros 4 ++ drop 8 bytes
 
 -- the moment of sending, in seconds
 abbrev pub timestamp : List ℕ → ℕ
-timestamp bytes = number_at bytes 8 4
+timestamp bytes = integer_at bytes 8 4
 
 -- the plugin's return code, 16 bits of two's complement
 abbrev pub return_code : List ℕ → ℤ
-return_code bytes = cast_signed w16 (number_at bytes 12 2)
+return_code bytes = cast_signed w16 (integer_at bytes 12 2)
 
 -- the host's name
 abbrev pub host_name : List ℕ → List ℕ

@@ -1,7 +1,7 @@
 ghost use Rattle.std.specs.Prelude.{◌≡◌, ◌==◌, ◌<◌, ◌≤◌, ◌+◌, ℕ, List, position, length, IfOk, IfErr, false};
 ghost use Rattle.std.specs.List.{before_first};
 ghost use Rattle.gate_packet.specs.CheckWord.{check_word};
-ghost use Rattle.gate_packet.specs.Layout.{number_at, text_at, without_check_word, host_name};
+ghost use Rattle.gate_packet.specs.Layout.{integer_at, text_at, without_check_word, host_name};
 ghost use Rattle.gate_packet.specs.Packet.{Content};
 ghost use Rattle.gate_packet.specs.Decoding.{IsPacket, content_of, is_stale, fault_of, IsReportedFault, ReadsFreshPacket, ReportsFirstFault, IsAtMostOnePacket, IsContentOfBytes, IsPacketIfFaultless, IsFaultlessOrStale};
 
@@ -39,14 +39,14 @@ pub enum PacketFault {
 
 fn u16_at(bytes: &[u8], offset: usize) -> u16
     requires { offset + 2 ≤ length bytes.now }
-    ensures { result ≡ number_at bytes.now offset 2 }
+    ensures { result ≡ integer_at bytes.now offset 2 }
 {
     BigEndian::read_u16(&bytes[offset..offset + 2])
 }
 
 fn u32_at(bytes: &[u8], offset: usize) -> u32
     requires { offset + 4 ≤ length bytes.now }
-    ensures { result ≡ number_at bytes.now offset 4 }
+    ensures { result ≡ integer_at bytes.now offset 4 }
 {
     BigEndian::read_u32(&bytes[offset..offset + 4])
 }

@@ -21,18 +21,18 @@ fn blank() -> [u8; PACKET_SIZE]
     [0; PACKET_SIZE]
 }
 
-fn put_u16(bytes: &mut [u8], offset: usize, number: u16)
+fn put_u16(bytes: &mut [u8], offset: usize, value: u16)
     requires { offset + 2 ≤ length bytes.old }
-    ensures { bytes.new ≡ written offset (big_bytes 2 number) bytes.old }
+    ensures { bytes.new ≡ written offset (big_bytes 2 value) bytes.old }
 {
-    BigEndian::write_u16(&mut bytes[offset..offset + 2], number);
+    BigEndian::write_u16(&mut bytes[offset..offset + 2], value);
 }
 
-fn put_u32(bytes: &mut [u8], offset: usize, number: u32)
+fn put_u32(bytes: &mut [u8], offset: usize, value: u32)
     requires { offset + 4 ≤ length bytes.old }
-    ensures { bytes.new ≡ written offset (big_bytes 4 number) bytes.old }
+    ensures { bytes.new ≡ written offset (big_bytes 4 value) bytes.old }
 {
-    BigEndian::write_u32(&mut bytes[offset..offset + 4], number);
+    BigEndian::write_u32(&mut bytes[offset..offset + 4], value);
 }
 
 fn put_text(bytes: &mut [u8], offset: usize, text: &[u8])

@@ -4,6 +4,7 @@
 #[cfg(test)]
 mod machine;
 //! Tests of the libraries from outside: what no clause of theirs says.
+//! Tests of the libraries through their public items.
 #![tactic(auto)]
 
 #[cfg(test)]
