@@ -1,10 +1,8 @@
 -- What one more record changes in the meaning of a list of records.
-use Rattle.std.proofs.Common.{◌≡◌, ℕ, ◌+◌, ◌<◌, suc, List, [], ◌∷◌, ◌++◌, length, map, reverse, take, slice_index_or, refl, sym, ap, ◌∙◌, add-one}
-use Rattle.std.proofs.Math.Seq.{take-suc}
+use Rattle.std.proofs.Common.{◌≡◌, suc, List, [], ◌∷◌, ◌++◌, length, map, reverse, refl, ap, ◌∙◌}
 use Rattle.std.proofs.lemmas.List.{reverse-append, length-reverse, length-map}
 use Rattle.gate_model.specs.declared.object.ObjectLine.{ObjectLine}
 use Rattle.gate_model.specs.declared.record.Record.{Record}
-use Rattle.gate_model.specs.declared.record.Outcome.{Outcome}
 use Rattle.gate_model.specs.Meaning.{Judged, judged, judgement_of, history_of, outcomes_of, outcome_after}
 
 pub length-judged : (table : List ObjectLine) (records : List Record) → length (judged table records) ≡ length records
@@ -33,16 +31,3 @@ length-outcomes_of table records =
     length-reverse (map (λ (judgement : Judged). judgement.outcome) (history_of table records))
     ∙ length-map (history_of table records) (λ (judgement : Judged). judgement.outcome)
     ∙ length-history_of table records
-
--- outcomes so far, and the outcome of the next record after those
-pub outcomes_of-take : (table : List ObjectLine) (records : List Record) (place : ℕ) (applied : Record) (so_far : List Outcome) (outcome : Outcome)
-    → place < length records
-    → applied ≡ slice_index_or records place applied
-    → so_far ≡ outcomes_of table (take place records)
-    → outcome ≡ outcome_after table (take place records) applied.moment applied.item.body
-    → so_far ++ outcome ∷ [] ≡ outcomes_of table (take (place + 1) records)
-outcomes_of-take table records place applied so_far outcome within there before is =
-    ap (λ outcomes. outcomes ++ outcome ∷ []) before
-    ∙ ap (λ next. outcomes_of table (take place records) ++ next ∷ []) is
-    ∙ sym (outcomes_of-append table (take place records) applied)
-    ∙ ap (outcomes_of table) (ap (λ next. take place records ++ next ∷ []) there ∙ sym (take-suc records place applied within) ∙ ap (λ count. take count records) (sym (add-one place)))

@@ -11,7 +11,6 @@ mod names;
 mod naming;
 mod numbers;
 mod object;
-mod plain;
 mod record;
 mod state;
 mod submission;
@@ -23,12 +22,8 @@ pub use lookup::find_object;
 pub use moment::Moment;
 pub use numbers::{push_code, push_number, read_code, read_number};
 pub use object::{Kind, ObjectId, ObjectLine};
-pub use plain::{plain_outcomes, plain_state};
 pub use record::{Outcome, Record};
 pub use state::State;
 pub use submission::{Body, Numbered};
 pub use table::{BuildFault, ObjectTable, TableFault};
 pub use text::Text;
-
-#[cfg(test)]
-mod tests;
