@@ -4,7 +4,6 @@ ghost use Rattle.gate_applier.specs.Taken.{is_taken};
 use crate::{Applier, OpenCause, PrepareCause, takes};
 use gate_model::{
     Body, Kind, Moment, Numbered, ObjectId, ObjectLine, ObjectTable, Outcome, State, Text,
-    plain_outcomes, plain_state,
 };
 use gate_packet::{PACKET_SIZE, Packet, crc32, decode, encode};
 use std::alloc::{AllocError, Global};
@@ -197,46 +196,5 @@ fn room_that_is_given_back_changes_nothing(rt: HostRuntime) -> Result<(), Fail> 
     assert_eq!(rt; applier.records().len(), 1);
     assert_eq!(rt; applier.table().len(), 2);
     assert_eq!(rt; applier.state(WEB1), State::Unreachable);
-    Ok(())
-}
-
-#[rattlefmt::skip]
-const HISTORY: [Told; 12] = [
-    // host   service       code   clock
-    ("web1",  None,            0,  1001),
-    ("web1",  Some("HTTP"),    2,  1002),
-    ("db1",   None,            1,  1003),
-    ("web1",  Some("FTP"),     0,  1004),
-    ("web1",  Some("HTTP"),   -1,   990),
-    ("web1",  None,            2,  1010),
-    ("db1",   Some("HTTP"),    0,  1009),
-    ("web1",  Some("HTTP"),    1,  1020),
-    ("web1",  None,        32767,  1020),
-    ("",      None,            0,  1021),
-    ("web1",  Some(""),        2,  1022),
-    ("web1",  Some("HTTP"),    0,  1023),
-];
-
-/// Whether the applier answers what plain scans of its records find, also beside the table.
-fn agrees(alloc: Global, applier: &Applier) -> Result<bool, AllocError> {
-    let (table, records) = (applier.table(), applier.records());
-    let outcomes = plain_outcomes(alloc, table, records)?;
-    let mut same = applier.outcomes() == outcomes.as_slice();
-    for place in 0..3 {
-        let object = ObjectId {
-            place,
-            kind: Kind::Host,
-        };
-        same = same && applier.state(object) == plain_state(table, records, object);
-    }
-    Ok(same)
-}
-
-#[test]
-fn the_applier_answers_what_plain_scans_find(rt: HostRuntime) -> Result<(), Fail> {
-    for count in 0..=HISTORY.len() {
-        let applier = applied(rt.alloc(), 100, &HISTORY[..count])?;
-        assert!(rt; agrees(rt.alloc(), &applier)?, "after {count} records");
-    }
     Ok(())
 }
