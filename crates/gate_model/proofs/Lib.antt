@@ -1,6 +1,7 @@
 pub mod Lists
-pub mod Keys
-pub mod Drafts
+pub mod KeySteps
+pub mod BuilderSteps
+pub mod Hosts
 pub mod Faults
 pub mod Digits
 mod Rows

@@ -12,7 +12,7 @@ none = None
 abbrev pub found : {A : Type 0} → A → Option A
 found x = Some x
 
-none_is_not_some : {A : Type 0} (x : A) → none {A = A} ≡ Some x → ⊥
+pub none_is_not_some : {A : Type 0} (x : A) → none {A = A} ≡ Some x → ⊥
 none_is_not_some x e = cc
 
 pub some_is : {A : Type 0} (x y : A) → found x ≡ Some y → x ≡ y
@@ -40,7 +40,7 @@ map-insert_new {A} view keys new key names name shown named absent grown =
     let larger : new ≡ keys ++ key ∷ [] = grown ∙ ap (λ (b : Bool). if b then keys else keys ++ key ∷ []) none in
     ap (map view) larger ∙ map-append view keys (key ∷ []) ∙ rw (shown, named) refl
 
--- where no place is found nothing passes
+-- where no index is found nothing passes
 pub list_any_from_position : {A : Type 0} (test : A → Bool) (i : ℕ) (xs : List A) → position_from test i xs ≡ None → list_any test xs ≡ false
 list_any_from_position test i [] e = refl
 list_any_from_position test i (x ∷ xs) e = elim (cases_Bool (test x)) [
@@ -48,7 +48,7 @@ list_any_from_position test i (x ∷ xs) e = elim (cases_Bool (test x)) [
   | inr fails ↦ or_from (test x) (list_any test xs) fails (list_any_from_position test (i + 1) xs (sym (cond-false (test x) (Some i) (position_from test (i + 1) xs) fails) ∙ e))
 ]
 
--- a place that is found lies within
+-- an index that is found is within
 pub position_from-within : {A : Type 0} (test : A → Bool) (i : ℕ) (xs : List A) (p : ℕ) → position_from test i xs ≡ Some p → (i ≤ p) × (p < i + length xs)
 position_from-within test i [] p e = absurd cc
 position_from-within test i (x ∷ xs) p e = elim (cases_Bool (test x)) [
@@ -67,11 +67,11 @@ found_at test i (x ∷ xs) (suc p) e = elim (cases_Bool (test x)) [
   | inr fails ↦ found_at test (i + 1) xs p (sym (cond-false (test x) (Some i) (position_from test (i + 1) xs) fails) ∙ e ∙ ap (λ (n : ℕ). Some n) (omega arith))
 ]
 
--- a place that is found passes
+-- an element that is found passes
 pub position_from-found : {A : Type 0} (test : A → Bool) (xs : List A) (p : ℕ) → position_from test 0 xs ≡ Some p → (x : A) × (slice_get xs p ≡ Some x) × (test x ≡ true)
 position_from-found test xs p e = found_at test 0 xs p (e ∙ ap (λ (n : ℕ). Some n) (omega arith))
 
--- a place that is found stays the first
+-- an element that is found stays the first
 pub position_from-more : {A : Type 0} (test : A → Bool) (i : ℕ) (xs ys : List A) (p : ℕ) → position_from test i xs ≡ Some p → position_from test i (xs ++ ys) ≡ Some p
 position_from-more test i [] ys p e = absurd cc
 position_from-more test i (x ∷ xs) ys p e = elim (cases_Bool (test x)) [

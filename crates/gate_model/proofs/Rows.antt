@@ -6,7 +6,7 @@ use Rattle.gate_model.specs.declared.submission.Body.TheVariants.{Result}
 use Rattle.gate_model.specs.declared.record.Record.{Record}
 use Rattle.gate_model.specs.declared.record.Outcome.TheVariants.{Accepted, NoSuchHost, NoSuchService}
 use Rattle.gate_model.specs.declared.state.State.TheVariants.{Pending, Ok, Warning, Critical, Unknown, Up, Down, Unreachable}
-use Rattle.gate_model.specs.Objects.{last_result}
+use Rattle.gate_model.specs.State.{last_result}
 use Rattle.gate_model.specs.Meaning.{history_of, object_events, outcomes_of, state_at}
 
 -- at place 0 the host web1, at place 1 its service HTTP
@@ -92,7 +92,7 @@ mixed = http 1100 (pos 2) ∷ result 1110 (codes "web1") (Some (codes "FTP")) (p
 pub refused-changes_nothing : state_at table mixed 1 ≡ Critical
 refused-changes_nothing = refl
 
-pub refused-counts : last_result 0 (object_events table (history_of table mixed)) ≡ Some (record { state = Up; moment = record { 0 = 1120 }; log_place = 2 })
+pub refused-counts : last_result 0 (object_events table (history_of table mixed)) ≡ Some (record { state = Up; moment = record { 0 = 1120 }; log_index = 2 })
 refused-counts = refl
 
 -- two results: the last one counts

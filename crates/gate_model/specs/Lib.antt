@@ -1,11 +1,8 @@
 pub mod Names
 pub mod Numbers
 pub mod Table
-pub mod Key
-pub mod Draft
 pub mod Submission
-pub mod Moments
-pub mod States
-pub mod Outcomes
-pub mod Objects
+pub mod State
+pub mod Record
 pub mod Meaning
+pub mod inner

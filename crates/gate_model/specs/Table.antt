@@ -1,4 +1,5 @@
--- The table of monitored objects: which object two names tell, and what a faulty table is told.
+-- The table of monitored objects: which object two names are those of (`object_of`), and when lines
+-- are no table (`IsFaultless`, `IsFaultOf`).
 -- Own rules: the limits, and the order of the faults.
 use Rattle.std.specs.Prelude.{◌≡◌, ℕ, ◌+◌, ◌<◌, ◌≤◌, ◌⊎◌, Bool, true, false, not, ◌&&◌, nat_lt, List, take, length, count_by, slice_get, Option, Some, None, is_some, is_none, option_map, if◌then◌else◌}
 use Rattle.std.specs.Str.{bytes_eq}
@@ -9,7 +10,6 @@ use Rattle.gate_model.specs.declared.object.ObjectId.{ObjectId}
 use Rattle.gate_model.specs.declared.object.ObjectLine.{ObjectLine}
 use Rattle.gate_model.specs.declared.table.TableFault.{TableFault}
 use Rattle.gate_model.specs.declared.table.TableFault.TheVariants.{BadName, NoSuchHost, DuplicateHost, DuplicateService, TooMany, OutOfMemory}
-use Rattle.gate_model.specs.declared.table.TheConstants.{LINES, HOSTS, SERVICES_OF_HOST, HOST_NAME, SERVICE_NAME}
 use Rattle.gate_model.specs.Names.{is_name}
 
 -- ---- lookups
@@ -33,17 +33,18 @@ place_of table host service = position_from (is_line_of host service) 0 table
 abbrev pub has_object : List ObjectLine → List ℕ → Option (List ℕ) → Bool
 has_object table host service = is_some (place_of table host service)
 
--- the kind of object that a service's name, or none, tells
-abbrev pub kind_of : Option (List ℕ) → Kind
-kind_of None = Host
-kind_of (Some name) = Service
+-- a host without a service's name, and a service with one
+abbrev pub object_kind : Option (List ℕ) → Kind
+object_kind None = Host
+object_kind (Some name) = Service
 
+-- the object of this kind at this place
 abbrev pub object_at : Kind → ℕ → ObjectId
 object_at kind place = record { place = place; kind = kind }
 
 -- the object of these names
 abbrev pub object_of : List ObjectLine → List ℕ → Option (List ℕ) → Option ObjectId
-object_of table host service = option_map (object_at (kind_of service)) (place_of table host service)
+object_of table host service = option_map (object_at (object_kind service)) (place_of table host service)
 
 -- ---- faults of a list of lines
 
@@ -55,59 +56,61 @@ is_host_line line = is_none line.service
 abbrev pub is_service_line_of : List ℕ → ObjectLine → Bool
 is_service_line_of host line = bytes_eq line.host host && is_some line.service
 
+-- no name, or the name of a service: at most 127 bytes
 abbrev pub is_service_name : Option (List ℕ) → Bool
 is_service_name None = true
-is_service_name (Some name) = is_name SERVICE_NAME name
+is_service_name (Some name) = is_name 127 name
 
--- the names of the line may be names
+-- the names of the line may be names; a host's has at most 63 bytes
 abbrev pub is_named : ObjectLine → Bool
-is_named line = is_name HOST_NAME line.host && is_service_name line.service
+is_named line = is_name 63 line.host && is_service_name line.service
 
--- what is wrong with a host, behind the lines before it
+-- what is wrong with a host after these lines: there may be 1,024 hosts
 abbrev pub host_fault : List ObjectLine → ℕ → ObjectLine → Option TableFault
 host_fault before number line =
     if has_object before line.host None then Some (DuplicateHost number)
-    else (if nat_lt (count_by is_host_line before) HOSTS then None else Some (TooMany number))
+    else (if nat_lt (count_by is_host_line before) 1024 then None else Some (TooMany number))
 
--- what is wrong with a service, behind the lines before it
+-- what is wrong with a service after these lines: a host may have 1,024 services
 abbrev pub service_fault : List ObjectLine → ℕ → ObjectLine → Option TableFault
 service_fault before number line =
     if not (has_object before line.host None) then Some (NoSuchHost number)
     else (if has_object before line.host line.service then Some (DuplicateService number)
-    else (if nat_lt (count_by (is_service_line_of line.host) before) SERVICES_OF_HOST then None else Some (TooMany number)))
+    else (if nat_lt (count_by (is_service_line_of line.host) before) 1024 then None else Some (TooMany number)))
 
--- what is wrong with the line of this number, behind the lines before it
+-- what is wrong with the line of this number after these lines
 abbrev pub line_fault : List ObjectLine → ℕ → ObjectLine → Option TableFault
 line_fault before number line =
     if not (is_named line) then Some (BadName number)
     else (if is_host_line line then host_fault before number line else service_fault before number line)
 
+-- what is wrong with the line at index i, if there is one
 abbrev pub line_fault_at : List ObjectLine → ℕ → Option ObjectLine → Option TableFault
 line_fault_at lines i None = None
 line_fault_at lines i (Some line) = line_fault (take i lines) (i + 1) line
 
--- what is wrong with the line at place i, whose number is one more
+-- what is wrong with the line at index i, whose number is one more
 abbrev pub fault_at : List ObjectLine → ℕ → Option TableFault
 fault_at lines i = line_fault_at lines i (slice_get lines i)
 
--- no line is faulty, and there aren't too many
+-- no line is faulty, and there are at most 16,384
 pub record IsFaultless (lines : List ObjectLine) : Type 0 where
-  pub few : length lines ≤ LINES
+  pub few : length lines ≤ 16384
   pub each : (i : ℕ) → fault_at lines i ≡ None
 
--- the first faulty line, of lines that aren't too many, has this fault
+-- the first faulty line, of at most 16,384, has this fault
 pub record IsFirstFault (lines : List ObjectLine) (fault : TableFault) : Type 0 where
-  pub place : ℕ
-  pub few : length lines ≤ LINES
-  pub there : fault_at lines place ≡ Some fault
-  pub first : (i : ℕ) → i < place → fault_at lines i ≡ None
+  pub index : ℕ
+  pub few : length lines ≤ 16384
+  pub here : fault_at lines index ≡ Some fault
+  pub first : (i : ℕ) → i < index → fault_at lines i ≡ None
 
--- there are too many lines
+-- there are more than 16,384 lines, which is reported as line 0
 pub record IsOverfull (lines : List ObjectLine) (fault : TableFault) : Type 0 where
-  pub many : LINES < length lines
-  pub told : fault ≡ TooMany 0
+  pub many : 16384 < length lines
+  pub line_0 : fault ≡ TooMany 0
 
--- why these lines are no table: there are too many, or the first faulty one tells; want of memory may come at any
+-- why these lines are no table: too many, or the first faulty one; memory may run out at any
 abbrev pub IsFaultOf : List ObjectLine → TableFault → Type 0
 IsFaultOf lines OutOfMemory = Unit {0}
 IsFaultOf lines fault = IsOverfull lines fault ⊎ IsFirstFault lines fault

@@ -1,29 +1,22 @@
-//! The values that every crate of the gateway speaks of: texts, moments, the table of monitored
-//! objects, submissions, and records with their outcomes; and what a list of records means.
+//! The values that every crate of the gateway uses: texts, the table of monitored objects,
+//! submissions, and records with their moments and outcomes; and what a list of records means.
 #![tactic(auto)]
 
-mod draft;
-mod event;
-mod key;
-mod lookup;
-mod moment;
+mod keys;
 mod names;
-mod naming;
 mod numbers;
 mod object;
 mod record;
 mod state;
 mod submission;
 mod table;
+mod table_builder;
 mod text;
 
-pub use event::{ObjectEvent, Reading};
-pub use lookup::find_object;
-pub use moment::Moment;
 pub use numbers::{push_code, push_number, read_code, read_number};
 pub use object::{Kind, ObjectId, ObjectLine};
-pub use record::{Outcome, Record};
-pub use state::State;
+pub use record::{Moment, Outcome, Record};
+pub use state::{CheckResult, ObjectEvent, State};
 pub use submission::{Body, Numbered};
-pub use table::{BuildFault, ObjectTable, TableFault};
+pub use table::{BuildFault, ObjectTable, TableFault, find_object};
 pub use text::Text;

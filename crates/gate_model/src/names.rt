@@ -1,66 +1,45 @@
-//! Keys numbered by place.
+//! Which names hosts and services may have.
 
-ghost use Rattle.std.specs.Prelude.{◌≡◌, List, [], ◌∷◌, ◌++◌, None, true, map, OnOk, OnErr};
-ghost use Rattle.std.specs.List.{position_from, list_all};
-ghost use Rattle.std.specs.Option.{option_copied};
-ghost use Rattle.std.specs.Str.{bytes_eq};
-ghost use Rattle.gate_model.specs.declared.object.ObjectLine.{ObjectLine};
-ghost use Rattle.gate_model.specs.Key.{line_key, is_short_line};
-ghost use Rattle.gate_model.specs.Table.{place_of};
+ghost use Rattle.std.specs.Prelude.{◌≡◌, ◌<◌, length};
+ghost use Rattle.std.specs.List.{list_any};
+ghost use Rattle.gate_model.specs.Names.{is_barred, is_padded, is_name};
+ghost use Rattle.gate_model.specs.Table.{is_named};
 
-use crate::key::key_of;
-use indexmap::IndexSet;
-use std::alloc::{AllocError, Global};
-use std::marker::Model;
+use crate::object::ObjectLine;
+use crate::table::{HOST_NAME, SERVICE_NAME};
 
-/// Distinct keys, each found by its hash. A key's place is the number of keys that came before it.
-#[derive(Drop)]
-pub struct Names {
-    keys: IndexSet<Vec<u8>>,
+fn is_barred(byte: u8) -> bool
+    ensures { result ≡ is_barred byte }
+{
+    byte < 32 || byte == 127 || byte == b';'
 }
 
-impl Model for Names {
-    ghost use Rattle.std.specs.Prelude.{ℕ, List, map};
-
-    ghost Value = { List (List ℕ) };
-
-    ghost view = { λ names. map (λ key. key.items) names.keys.keys };
+fn has_barred(name: &[u8]) -> bool
+    ensures { result ≡ list_any is_barred name.now }
+{
+    name.iter().any(|byte| is_barred(*byte))
 }
 
-impl Names {
-    pub fn new(alloc: Global) -> Names
-        ensures { result ≡ [] }
-    {
-        Names {
-            keys: IndexSet::new(alloc),
+fn is_padded(name: &[u8]) -> bool
+    requires { 0 < length name.now }
+    ensures { result ≡ is_padded name.now }
+{
+    name[0] == b' ' || name[name.len() - 1] == b' '
+}
+
+fn is_name(name: &[u8], most: usize) -> bool
+    ensures { result ≡ is_name most name.now }
+{
+    !name.is_empty() && name.len() <= most && !is_padded(name) && !has_barred(name)
+}
+
+/// Whether the line's names may be names of a host and a service.
+pub fn is_named(line: &ObjectLine) -> bool
+    ensures { result ≡ is_named line.now }
+{
+    is_name(line.host.bytes(), HOST_NAME)
+        && match &line.service {
+            None => true,
+            Some(service) => is_name(service.bytes(), SERVICE_NAME),
         }
-    }
-
-    /// The place of a key.
-    pub fn place(&self, key: &[u8]) -> Option<usize>
-        ensures { result ≡ position_from (bytes_eq key.now) 0 self.now }
-    {
-        self.keys.get_index_of(key)
-    }
-
-    /// The place of the object of these names, by the keys of the lines.
-    pub fn find(&self, host: &[u8], service: Option<&[u8]>) -> Option<usize>
-        ensures { (lines : List ObjectLine) → self.now ≡ map line_key lines → list_all is_short_line lines ≡ true → result ≡ place_of lines host.now (option_copied service.entry) }
-    {
-        match key_of(host, service) {
-            None => None,
-            Some(key) => self.place(&key),
-        }
-    }
-
-    /// Adds a key that isn't there.
-    pub fn add(&mut self, alloc: Global, key: &[u8]) -> Result<(), AllocError>
-        requires { position_from (bytes_eq key.now) 0 self.old ≡ None }
-        ensures ok { OnOk result (self.new ≡ self.old ++ key.now ∷ []) }
-        ensures err { OnErr result (self.new ≡ self.old) }
-    {
-        let owned = Vec::from_slice(alloc, key)?;
-        self.keys.insert(owned)?;
-        Ok(())
-    }
 }

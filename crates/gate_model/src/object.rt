@@ -1,15 +1,16 @@
 use crate::text::Text;
 
-/// What a monitored object is.
+/// Whether a monitored object is a host or a service.
 #[derive(Clone, Copy, Debug, PartialEq, Eq)]
 pub enum Kind {
     Host,
     Service,
 }
 
-/// A monitored object: its place in the table, counted from 0, and its kind.
+/// A monitored object of a table.
 #[derive(Clone, Copy, Debug, PartialEq, Eq)]
 pub struct ObjectId {
+    /// The index, from 0, of the object in the table.
     pub place: u32,
     pub kind: Kind,
 }
@@ -19,7 +20,7 @@ pub struct ObjectId {
 pub struct ObjectLine {
     /// The host's name.
     pub host: Text,
-    /// The service's name (its description, as Nagios calls it). A host has none.
+    /// The service's name (Nagios calls it the service's description). A host has none.
     pub service: Option<Text>,
     /// For how many seconds after a result the object is fresh. With 0 it always is.
     pub threshold: u32,

@@ -1,12 +1,13 @@
 ghost use Rattle.std.specs.Prelude.{◌≡◌};
-ghost use Rattle.gate_model.specs.States.{is_problem, state_of_code};
+ghost use Rattle.gate_model.specs.State.{is_problem, state_of_code};
 
 use crate::object::Kind;
+use crate::record::Moment;
 
 /// A state of a monitored object (Nagios Core 4 manual, Passive Checks).
 #[derive(Clone, Copy, Debug, PartialEq, Eq)]
 pub enum State {
-    /// No result of the object has been accepted yet.
+    /// No result of the object has been accepted yet. Own rule.
     Pending,
     /// A service's, by code 0.
     Ok,
@@ -25,8 +26,10 @@ pub enum State {
 }
 
 impl State {
-    /// The state that a result's return code tells of an object of that kind. Own rule: an unknown
-    /// code, also one below 0, is a service's UNKNOWN and a host's DOWN.
+    /// Returns the state that a return code means for an object of that kind.
+    ///
+    /// Source: Nagios Core 4 manual, Passive Checks. Own rule: an unknown code, also one below 0, is
+    /// a service's UNKNOWN and a host's DOWN.
     pub fn of_code(kind: Kind, code: i16) -> State
         ensures { result ≡ state_of_code kind code }
     {
@@ -47,4 +50,27 @@ impl State {
     {
         !matches!(self, State::Pending | State::Ok | State::Up)
     }
+}
+
+/// What an accepted record changed of a monitored object.
+#[derive(Clone, Copy, Debug, PartialEq, Eq)]
+pub enum ObjectEvent {
+    /// A passive check result.
+    Result {
+        /// The index, from 0, of the object in the table.
+        place: u32,
+        state: State,
+        moment: Moment,
+        /// The index, from 0, of the record in the log, refused records counted.
+        log_index: u32,
+    },
+}
+
+/// An accepted check result of one object.
+#[derive(Clone, Copy, Debug, PartialEq, Eq)]
+pub struct CheckResult {
+    pub state: State,
+    pub moment: Moment,
+    /// The index, from 0, of the record in the log, refused records counted.
+    pub log_index: u32,
 }

@@ -1,8 +1,8 @@
 ghost use Rattle.std.specs.Prelude.{◌≡◌};
 ghost use Rattle.gate_model.specs.Submission.{is_result};
 
-use crate::moment::Moment;
 use crate::object::Kind;
+use crate::record::Moment;
 use crate::text::Text;
 
 /// What a client hands in: one variant for each external command, or pair of commands for a host and

@@ -1,13 +1,18 @@
 //! The table of monitored objects.
 
-ghost use Rattle.std.specs.Prelude.{◌≡◌, ◌≢◌, ◌<◌, ◌≤◌, List, ℕ, length, slice_get, take, option_copied, IsOk, IfErr, IfOk, IfSome, OnOk, None, Some, ◌↔◌, IsTrue};
+ghost use Rattle.std.specs.Prelude.{◌≡◌, ◌≢◌, ◌<◌, ℕ, length, slice_get, option_copied, IfErr, IfOk, IfSome, MatchResult, None, Some, true, false, ◌↔◌, IsTrue};
 ghost use Rattle.gate_model.specs.declared.table.TableFault.TheVariants.{OutOfMemory};
-ghost use Rattle.gate_model.specs.Key.{IsIndex};
-ghost use Rattle.gate_model.specs.Table.{object_of, place_of, IsFaultless, IsFaultOf};
+ghost use Rattle.gate_model.specs.declared.record.Outcome.{Outcome};
+ghost use Rattle.gate_model.specs.Table.{has_object, object_kind, object_of, place_of, IsFaultless, IsFaultOf};
+ghost use Rattle.gate_model.specs.Record.{is_accepted};
+ghost use Rattle.gate_model.specs.Meaning.{outcome_for};
+ghost use Rattle.gate_model.specs.inner.Keys.{IsIndex};
 
-use crate::draft::Draft;
-use crate::names::Names;
+use crate::keys::Keys;
 use crate::object::{Kind, ObjectId, ObjectLine};
+use crate::record::Outcome;
+use crate::table_builder::TableBuilder;
+use crate::text::Text;
 use std::alloc::Global;
 use std::marker::Model;
 
@@ -22,63 +27,68 @@ pub const HOST_NAME: usize = 63;
 /// The most bytes of a service's name.
 pub const SERVICE_NAME: usize = 127;
 
-/// Why lines are no table: the first faulty line, by its number from 1. Of one line the faults are
-/// tested in this order.
+/// Why lines are no table: what is wrong with the first faulty line, which is given by its number,
+/// from 1. The faults of one line are tested in this order. Own rule.
 #[derive(Clone, Copy, Debug, PartialEq, Eq)]
 pub enum TableFault {
-    /// A name is empty or too long, begins or ends with a space, or holds `;` or a control byte.
+    /// A name is empty or too long (a host's has at most 63 bytes, a service's 127), begins or ends
+    /// with a space, or contains `;` or a control byte.
     BadName(u32),
-    /// The service's host doesn't stand before it.
+    /// No host of that name is before the service.
     NoSuchHost(u32),
-    /// A host of that name stands before it.
+    /// A host of that name is before it.
     DuplicateHost(u32),
-    /// A service of that name, of the same host, stands before it.
+    /// A service of that name, of the same host, is before it.
     DuplicateService(u32),
-    /// It is the 1,025th host, or service of its host. At line 0: there are more than 16,384 lines.
+    /// It is the 1,025th host, or the 1,025th service of its host. Line 0 stands for the whole list:
+    /// it has more than 16,384 lines.
     TooMany(u32),
     OutOfMemory,
 }
 
-/// A refused build: its cause, and the lines as they were given.
+/// A refused list of lines: why it is no table, and the lines.
 #[derive(Debug, Drop)]
 pub struct BuildFault {
     pub cause: TableFault,
     pub lines: Vec<ObjectLine>,
 }
 
-/// The monitored objects: hosts and their services, each at its place, counted from 0.
+/// The monitored objects: hosts and their services. The index of an object, from 0, is its place.
 #[derive(Drop)]
 pub struct ObjectTable {
     lines: Vec<ObjectLine>,
-    names: Names,
+    keys: Keys,
 }
 
 impl Model for ObjectTable {
     ghost use Rattle.std.specs.Prelude.{List};
     ghost use Rattle.gate_model.specs.declared.object.ObjectLine.{ObjectLine};
-    ghost use Rattle.gate_model.specs.Key.{IsIndex};
+    ghost use Rattle.gate_model.specs.inner.Keys.{IsIndex};
 
     ghost Value = { List ObjectLine };
 
     ghost view = { λ table. table.lines.items };
 
-    ghost invariant = { λ table. IsIndex table.lines.items table.names };
+    ghost invariant = { λ table. IsIndex table.lines.items table.keys };
 }
 
 impl ObjectTable {
-    /// The table of these lines. A service may stand anywhere behind its host. More than 16,384 lines
-    /// are refused as `TooMany(0)`, and else the first faulty line is told. A refusal, also for want of
-    /// memory, hands the lines back.
+    /// Builds the table of these lines. A service may be anywhere after its host.
+    ///
+    /// More than 16,384 lines are refused as `TooMany(0)`. Otherwise the fault is that of the first
+    /// faulty line. `OutOfMemory` may be returned in place of any answer. Each refusal returns the
+    /// lines.
     pub fn build(alloc: Global, lines: Vec<ObjectLine>) -> Result<ObjectTable, BuildFault>
         ensures table { IfOk result (λ table. table ≡ lines.items) }
         ensures faultless { IfOk result (λ table. IsFaultless table) }
 
         ensures kept { IfErr result (λ refused. refused.lines ≡ lines) }
         ensures fault { IfErr result (λ refused. IsFaultOf lines.items refused.cause) }
-        ensures faulty { IfErr result (λ refused. refused.cause ≢ OutOfMemory → ¬ IsFaultless refused.lines.items) }
+        ensures faulty { IfErr result (λ refused.
+            refused.cause ≢ OutOfMemory → ¬ IsFaultless refused.lines.items) }
     {
         match keys_of(alloc, &lines) {
-            Ok(names) => Ok(ObjectTable { lines, names }),
+            Ok(keys) => Ok(ObjectTable { lines, keys }),
             Err(cause) => Err(BuildFault { cause, lines }),
         }
     }
@@ -86,7 +96,7 @@ impl ObjectTable {
     /// The host of that name.
     pub fn find_host(&self, host: &[u8]) -> Option<ObjectId>
         ensures value { result ≡ object_of self.now host.now None }
-        ensures within { IfSome result (λ id. id.place < length self.now) }
+        ensures within { IfSome result (λ object. object.place < length self.now) }
     {
         match self.place(host, None) {
             Some(place) => Some(ObjectId {
@@ -100,7 +110,8 @@ impl ObjectTable {
     /// The service of that name, of the host of that name.
     pub fn find_service(&self, host: &[u8], service: &[u8]) -> Option<ObjectId>
         ensures value { result ≡ object_of self.now host.now (Some service.now) }
-        ensures within { IfSome result (λ id. id.place < length self.now) }
+        ensures within { IfSome result (λ object. object.place < length self.now) }
+        ensures host { IfSome result (λ _. has_object self.now host.now None ≡ true) }
     {
         match self.place(host, Some(service)) {
             Some(place) => Some(ObjectId {
@@ -111,7 +122,7 @@ impl ObjectTable {
         }
     }
 
-    /// How many objects there are, 16,384 at most.
+    /// How many objects there are, at most 16,384.
     pub fn len(&self) -> usize
         ensures len { result ≡ length self.now }
         ensures faultless { IsFaultless self.now }
@@ -136,16 +147,53 @@ impl ObjectTable {
     fn place(&self, host: &[u8], service: Option<&[u8]>) -> Option<u32>
         ensures value { result ≡ place_of self.now host.now (option_copied service.entry) }
         ensures within { IfSome result (λ place. place < length self.now) }
+        ensures host { IfSome result (λ _. has_object self.now host.now None ≡ true) }
     {
-        match self.names.find(host, service) {
+        match self.keys.find(host, service) {
             Some(place) => Some(place as u32),
             None => None,
         }
     }
 }
 
+/// Finds the object of these names, for a body that names it.
+///
+/// It is refused as `NoSuchHost` if no host of that name is in the table, and else as
+/// `NoSuchService` if the host has no service of that name.
+pub fn find_object(
+    table: &ObjectTable,
+    host: &Text,
+    service: &Option<Text>,
+) -> Result<ObjectId, Outcome>
+    ensures place { IfOk result (λ object.
+        place_of table.now host.now service.now ≡ Some object.place) }
+    ensures kind { IfOk result (λ object. object.kind ≡ object_kind service.now) }
+    ensures within { IfOk result (λ object. object.place < length table.now) }
+
+    // Whatever is then judged of the object, this is the outcome of a body that names it.
+    ensures outcome { (judge : ℕ → Outcome) → MatchResult result
+        (λ object. outcome_for table.now host.now service.now judge ≡ judge object.place)
+        (λ refusal. outcome_for table.now host.now service.now judge ≡ refusal) }
+    ensures refused { IfErr result (λ refusal. is_accepted refusal ≡ false) }
+{
+    match service {
+        None => match table.find_host(host.bytes()) {
+            Some(object) => Ok(object),
+            None => Err(Outcome::NoSuchHost),
+        },
+        Some(name) => match table.find_service(host.bytes(), name.bytes()) {
+            Some(object) => Ok(object),
+            // Only a refusal looks for the host, so that a known service takes one lookup.
+            None => match table.find_host(host.bytes()) {
+                Some(_) => Err(Outcome::NoSuchService),
+                None => Err(Outcome::NoSuchHost),
+            },
+        },
+    }
+}
+
 /// The keys of the lines, or why these are no table.
-fn keys_of(alloc: Global, lines: &[ObjectLine]) -> Result<Names, TableFault>
+fn keys_of(alloc: Global, lines: &[ObjectLine]) -> Result<Keys, TableFault>
     ensures index { IfOk result (IsIndex lines.now) }
     ensures fault { IfErr result (IsFaultOf lines.now) }
     ensures faulty { IfErr result (λ fault. fault ≢ OutOfMemory → ¬ IsFaultless lines.now) }
@@ -153,11 +201,11 @@ fn keys_of(alloc: Global, lines: &[ObjectLine]) -> Result<Names, TableFault>
     if lines.len() > LINES {
         return Err(TableFault::TooMany(0));
     }
-    let mut draft = Draft::new(alloc);
+    let mut builder = TableBuilder::new(alloc);
     for i in 0..lines.len() {
-        if let Err(fault) = draft.admit(alloc, lines, i) {
+        if let Err(fault) = builder.add_line(alloc, lines, i) {
             return Err(fault);
         }
     }
-    Ok(draft.into_names())
+    Ok(builder.into_keys())
 }

@@ -6,7 +6,7 @@ ghost use Rattle.std.specs.Cmp.Lexicographic.{nat_list_eq_equiv};
 use std::alloc::{AllocError, Global};
 use std::marker::Model;
 
-/// The bytes of a name, of an output or of a comment. They are any bytes, and need not be UTF-8.
+/// The bytes of a name, of an output or of a comment. Any bytes are allowed, also such as are not UTF-8.
 #[derive(Debug, Drop)]
 pub struct Text {
     bytes: Vec<u8>,
@@ -28,19 +28,21 @@ impl Text {
         Text { bytes }
     }
 
-    /// A copy of these bytes, as a text. Only want of memory refuses it.
+    /// Copies these bytes into a text. It fails only if memory runs out.
     pub fn copied(alloc: Global, bytes: &[u8]) -> Result<Text, AllocError>
         ensures { IfOk result (λ text. text ≡ bytes.now) }
     {
         Ok(Text::new(Vec::from_slice(alloc, bytes)?))
     }
 
+    /// Its bytes.
     pub fn bytes(&self) -> &[u8]
         ensures { result.now ≡ self.now }
     {
         self.bytes.as_slice()
     }
 
+    /// Its bytes, as they were given.
     pub fn into_vec(self) -> Vec<u8>
         ensures { result.items ≡ self }
     {

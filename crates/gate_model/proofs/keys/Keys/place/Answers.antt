@@ -3,7 +3,7 @@ use Rattle.std.specs.List.{position_from}
 use Rattle.std.specs.Str.{bytes_eq}
 use Rattle.std.proofs.lemmas.Iterator.Adapters.{position_from-zero}
 use Rattle.gate_model.proofs.Lists.{position_from-map}
-use Rattle.gate_model.proofs.names.Names.place.Goals as goal
+use Rattle.gate_model.proofs.keys.Keys.place.Goals as goal
 
 pub returns : goal.returns
 returns c =

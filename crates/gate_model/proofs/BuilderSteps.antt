@@ -1,4 +1,4 @@
--- What a draft keeps of the lines before a line tells that line's fault, and is kept on with that line.
+-- What a builder keeps of the lines before a line decides that line's fault, and it keeps the same with that line added.
 use Rattle.std.proofs.Common.{◌≡◌, ℕ, ◌+◌, ◌<◌, ◌≤◌, Bool, true, false, cond, not, ◌&&◌, List, [], ◌∷◌, ◌++◌, length, take, map, get_or, set, Option, Some, None, is_some, is_none, refl, sym, ap, subst, ◌∙◌, inl, inr, arith, zero-add, add-zero, add-one, if◌then◌else◌}
 use Rattle.std.specs.Prelude.{IfSome, slice_get, count_by, slice_index, nat_le, nat_lt, ◌==◌}
 use Rattle.std.specs.List.{position_from, list_all, list_any}
@@ -14,11 +14,11 @@ use Rattle.std.proofs.Math.Seq.{get_or-append_seam, take-suc}
 use Rattle.gate_model.specs.declared.object.ObjectLine.{ObjectLine}
 use Rattle.gate_model.specs.declared.table.TableFault.TheVariants.{BadName, NoSuchHost, DuplicateHost, DuplicateService, TooMany}
 use Rattle.gate_model.specs.Names.{is_name, is_padded, is_barred}
-use Rattle.gate_model.specs.Key.{key_of, line_key, is_short, is_short_service, is_short_line}
+use Rattle.gate_model.specs.inner.Keys.{key_of, line_key, is_short, is_short_service, is_short_line}
 use Rattle.gate_model.specs.Table.{is_same_service, is_line_of, place_of, has_object, is_host_line, is_service_line_of, is_service_name, is_named, host_fault, service_fault, line_fault, line_fault_at, fault_at}
-use Rattle.gate_model.specs.Draft.{count_at, Tracks}
+use Rattle.gate_model.specs.inner.TableBuilder.{count_at, AreKeysAndCounts}
 use Rattle.gate_model.proofs.Lists.{position_from-within, position_from-found, position_from-more, position_from-push, none, some_is}
-use Rattle.gate_model.proofs.Keys.{place_of-key, line_decides}
+use Rattle.gate_model.proofs.KeySteps.{place_of-key, line_decides}
 
 -- ---- names
 
@@ -32,7 +32,7 @@ service_short : (service : Option (List ℕ)) → is_service_name service ≡ tr
 service_short None e = refl
 service_short (Some name) e = name_short 127 name e
 
--- names that may be names are short
+-- what may be a name is short
 pub named_short : (line : ObjectLine) → is_named line ≡ true → is_short_line line ≡ true
 named_short line e =
     let parts = and_parts (is_name 63 line.host) (is_service_name line.service) e in
@@ -109,11 +109,11 @@ service_fault-there lines i line service is =
     ∙ cond-false (not (is_named line)) (Some (BadName (i + 1))) (if is_host_line line then host_fault (take i lines) (i + 1) line else service_fault (take i lines) (i + 1) line) (ap not is.named)
     ∙ cond-false (is_host_line line) (host_fault (take i lines) (i + 1) line) (service_fault (take i lines) (i + 1) line) (ap is_none is.service_is)
 
--- the draft of the lines before this one
-module _ (lines : List ObjectLine) (i : ℕ) (line : ObjectLine) (names : List (List ℕ)) (hosts : ℕ) (services : List ℕ) (knows : Tracks (take i lines) names hosts services) where
-  -- a key's place among the names is the place of the names
-  pub place-key : (service : Option (List ℕ)) (key : List ℕ) → is_short line.host service ≡ true → key ≡ key_of line.host service → position_from (bytes_eq key) 0 names ≡ place_of (take i lines) line.host service
-  place-key service key short e = ap (λ (k : List ℕ). position_from (bytes_eq k) 0 names) e ∙ place_of-key line.host service (take i lines) names knows.names_are short knows.short
+-- the builder of the lines before this one
+module _ (lines : List ObjectLine) (i : ℕ) (line : ObjectLine) (keys : List (List ℕ)) (hosts : ℕ) (services : List ℕ) (tracks : AreKeysAndCounts (take i lines) keys hosts services) where
+  -- a key has the place of its names
+  pub place-key : (service : Option (List ℕ)) (key : List ℕ) → is_short line.host service ≡ true → key ≡ key_of line.host service → position_from (bytes_eq key) 0 keys ≡ place_of (take i lines) line.host service
+  place-key service key short e = ap (λ (k : List ℕ). position_from (bytes_eq k) 0 keys) e ∙ place_of-key line.host service (take i lines) keys tracks.keys_are short tracks.short
 
   pub duplicate_host : IsHostLine lines i line → is_some (place_of (take i lines) line.host None) ≡ true → fault_at lines i ≡ Some (DuplicateHost (i + 1))
   duplicate_host is taken =
@@ -124,7 +124,7 @@ module _ (lines : List ObjectLine) (i : ℕ) (line : ObjectLine) (names : List (
   host_fault-new is free =
       host_fault-there lines i line is
       ∙ cond-false (has_object (take i lines) line.host None) (Some (DuplicateHost (i + 1))) (if nat_lt (count_by is_host_line (take i lines)) 1024 then None else Some (TooMany (i + 1))) (ap is_some free)
-      ∙ ap (λ (n : ℕ). if nat_lt n 1024 then None else Some (TooMany (i + 1))) (sym knows.hosts_are)
+      ∙ ap (λ (n : ℕ). if nat_lt n 1024 then None else Some (TooMany (i + 1))) (sym tracks.hosts_are)
 
   pub too_many_hosts : IsHostLine lines i line → place_of (take i lines) line.host None ≡ None → 1024 ≤ hosts → fault_at lines i ≡ Some (TooMany (i + 1))
   too_many_hosts is free many = host_fault-new is free ∙ cond-false (nat_lt hosts 1024) None (Some (TooMany (i + 1))) (le-ltb hosts 1024 many)
@@ -142,34 +142,34 @@ module _ (lines : List ObjectLine) (i : ℕ) (line : ObjectLine) (names : List (
   new_host-place host (Some p) e =
       let within = position_from-within (is_line_of host None) 0 (take i lines) p e in
       ap (count_at (services ++ 0 ∷ [])) (position_from-more (is_line_of host None) 0 (take i lines) (line ∷ []) p e)
-      ∙ get_or_append_left services (0 ∷ []) 0 p (omega (arith, knows.marks))
+      ∙ get_or_append_left services (0 ∷ []) 0 p (omega (arith, tracks.one_each))
   new_host-place host None e = elim (cases_Bool (is_line_of host None line)) [
     | inl passes ↦
-        ap (count_at (services ++ 0 ∷ [])) (position_from-push (is_line_of host None) 0 (take i lines) line e ∙ cond-true (is_line_of host None line) (Some (0 + length (take i lines))) None passes ∙ ap (λ (n : ℕ). Some n) (zero-add (length (take i lines)) ∙ sym knows.marks))
+        ap (count_at (services ++ 0 ∷ [])) (position_from-push (is_line_of host None) 0 (take i lines) line e ∙ cond-true (is_line_of host None line) (Some (0 + length (take i lines))) None passes ∙ ap (λ (n : ℕ). Some n) (zero-add (length (take i lines)) ∙ sym tracks.one_each))
         ∙ get_or-append_seam services 0 [] 0
     | inr fails ↦
         ap (count_at (services ++ 0 ∷ [])) (position_from-push (is_line_of host None) 0 (take i lines) line e ∙ cond-false (is_line_of host None line) (Some (0 + length (take i lines))) None fails)
   ]
 
   length-more : length (services ++ 0 ∷ []) ≡ length (take i lines ++ line ∷ [])
-  length-more = simp length-append (omega (arith, knows.marks))
+  length-more = simp length-append (omega (arith, tracks.one_each))
 
-  names-more : (service : Option (List ℕ)) (key : List ℕ) → key ≡ key_of line.host service → line.service ≡ service → names ++ key ∷ [] ≡ map line_key (take i lines ++ line ∷ [])
-  names-more service key k e =
-      ap (λ (ks : List (List ℕ)). ks ++ key ∷ []) knows.names_are
+  keys-more : (service : Option (List ℕ)) (key : List ℕ) → key ≡ key_of line.host service → line.service ≡ service → keys ++ key ∷ [] ≡ map line_key (take i lines ++ line ∷ [])
+  keys-more service key k e =
+      ap (λ (ks : List (List ℕ)). ks ++ key ∷ []) tracks.keys_are
       ∙ ap (λ (x : List ℕ). map line_key (take i lines) ++ x ∷ []) (k ∙ ap (key_of line.host) (sym e))
       ∙ sym (map-append line_key (take i lines) (line ∷ []))
 
   -- a new host is kept beside the lines before it
-  pub tracks_host : (key : List ℕ) → IsHostLine lines i line → key ≡ key_of line.host None → Tracks (take (i + 1) lines) (names ++ key ∷ []) (hosts + 1) (services ++ 0 ∷ [])
+  pub tracks_host : (key : List ℕ) → IsHostLine lines i line → key ≡ key_of line.host None → AreKeysAndCounts (take (i + 1) lines) (keys ++ key ∷ []) (hosts + 1) (services ++ 0 ∷ [])
   tracks_host key is k =
       rw (take-line lines i line is.within is.there)
       (record {
-        names_are = names-more None key k is.service_is;
-        short = list_all-push is_short_line (take i lines) line knows.short (named_short line is.named);
-        hosts_are = ap (λ (n : ℕ). n + 1) knows.hosts_are ∙ sym (count_by-push is_host_line (take i lines) line ∙ ap (λ (b : Bool). count_by is_host_line (take i lines) + cond b 1 0) (ap is_none is.service_is));
-        marks = length-more;
-        services_are = λ host. new_host-place host (place_of (take i lines) host None) refl ∙ knows.services_are host ∙ sym (new_host-count host is.service_is);
+        keys_are = keys-more None key k is.service_is;
+        short = list_all-push is_short_line (take i lines) line tracks.short (named_short line is.named);
+        hosts_are = ap (λ (n : ℕ). n + 1) tracks.hosts_are ∙ sym (count_by-push is_host_line (take i lines) line ∙ ap (λ (b : Bool). count_by is_host_line (take i lines) + cond b 1 0) (ap is_none is.service_is));
+        one_each = length-more;
+        services_are = λ host. new_host-place host (place_of (take i lines) host None) refl ∙ tracks.services_are host ∙ sym (new_host-count host is.service_is);
       })
 
   -- ---- a service
@@ -189,7 +189,7 @@ module _ (lines : List ObjectLine) (i : ℕ) (line : ObjectLine) (names : List (
       (if has_object (take i lines) line.host line.service then Some (DuplicateService (i + 1)) else (if nat_lt (count_by (is_service_line_of line.host) (take i lines)) 1024 then None else Some (TooMany (i + 1))))
       (ap (λ (o : Option ℕ). not (is_some o)) known)
       ∙ ap (λ (s : Option (List ℕ)). if has_object (take i lines) line.host s then Some (DuplicateService (i + 1)) else (if nat_lt (count_by (is_service_line_of line.host) (take i lines)) 1024 then None else Some (TooMany (i + 1)))) is.service_is
-      ∙ ap (λ (n : ℕ). if has_object (take i lines) line.host (Some service) then Some (DuplicateService (i + 1)) else (if nat_lt n 1024 then None else Some (TooMany (i + 1)))) (sym (knows.services_are line.host) ∙ ap (count_at services) known)
+      ∙ ap (λ (n : ℕ). if has_object (take i lines) line.host (Some service) then Some (DuplicateService (i + 1)) else (if nat_lt n 1024 then None else Some (TooMany (i + 1)))) (sym (tracks.services_are line.host) ∙ ap (count_at services) known)
 
   pub duplicate_service : (service : List ℕ) (p : ℕ) → IsServiceLine lines i line service → place_of (take i lines) line.host None ≡ Some p → is_some (place_of (take i lines) line.host (Some service)) ≡ true → fault_at lines i ≡ Some (DuplicateService (i + 1))
   duplicate_service service p is known taken =
@@ -210,7 +210,7 @@ module _ (lines : List ObjectLine) (i : ℕ) (line : ObjectLine) (names : List (
 
   -- the place of a host that is known lies among the counts
   pub place-within : (host : List ℕ) (p : ℕ) → place_of (take i lines) host None ≡ Some p → p < length services
-  place-within host p e = let within = position_from-within (is_line_of host None) 0 (take i lines) p e in omega (arith, knows.marks)
+  place-within host p e = let within = position_from-within (is_line_of host None) 0 (take i lines) p e in omega (arith, tracks.one_each)
 
   service_place : (service host : List ℕ) (found : Option ℕ) → line.service ≡ Some service → place_of (take i lines) host None ≡ found → place_of (take i lines ++ line ∷ []) host None ≡ found
   service_place service host (Some q) is e = position_from-more (is_line_of host None) 0 (take i lines) (line ∷ []) q e
@@ -260,17 +260,17 @@ module _ (lines : List ObjectLine) (i : ℕ) (line : ObjectLine) (names : List (
 
   -- a new service is kept beside the lines before it, and counted at its host
   pub tracks_service : (service : List ℕ) (key : List ℕ) (p : ℕ) → IsServiceLine lines i line service → place_of (take i lines) line.host None ≡ Some p → key ≡ key_of line.host (Some service)
-      → Tracks (take (i + 1) lines) (names ++ key ∷ []) hosts (set (services ++ 0 ∷ []) p (get_or services p 0 + 1))
+      → AreKeysAndCounts (take (i + 1) lines) (keys ++ key ∷ []) hosts (set (services ++ 0 ∷ []) p (get_or services p 0 + 1))
   tracks_service service key p is known k =
       rw (take-line lines i line is.within is.there)
       (record {
-        names_are = names-more (Some service) key k is.service_is;
-        short = list_all-push is_short_line (take i lines) line knows.short (named_short line is.named);
-        hosts_are = knows.hosts_are ∙ sym (count_by-push is_host_line (take i lines) line ∙ ap (λ (b : Bool). count_by is_host_line (take i lines) + cond b 1 0) (ap is_none is.service_is) ∙ add-zero (count_by is_host_line (take i lines)));
-        marks = length-set (services ++ 0 ∷ []) p (get_or services p 0 + 1) ∙ length-more;
+        keys_are = keys-more (Some service) key k is.service_is;
+        short = list_all-push is_short_line (take i lines) line tracks.short (named_short line is.named);
+        hosts_are = tracks.hosts_are ∙ sym (count_by-push is_host_line (take i lines) line ∙ ap (λ (b : Bool). count_by is_host_line (take i lines) + cond b 1 0) (ap is_none is.service_is) ∙ add-zero (count_by is_host_line (take i lines)));
+        one_each = length-set (services ++ 0 ∷ []) p (get_or services p 0 + 1) ∙ length-more;
         services_are = λ host.
             ap (count_at (set (services ++ 0 ∷ []) p (get_or services p 0 + 1))) (service_place service host (place_of (take i lines) host None) is.service_is refl)
             ∙ new_service-place service host p (place_of (take i lines) host None) is.service_is known refl
-            ∙ ap (λ (n : ℕ). n + cond (bytes_eq line.host host) 1 0) (knows.services_are host)
+            ∙ ap (λ (n : ℕ). n + cond (bytes_eq line.host host) 1 0) (tracks.services_are host)
             ∙ sym (new_service-count service host is.service_is);
       })

@@ -7,7 +7,7 @@ use Rattle.std.specs.List.{position_from, list_all}
 use Rattle.std.proofs.lemmas.Bool.{and_parts, and_from, leb-true, false_from_ne_true, true≢false}
 use Rattle.std.proofs.Math.Seq.{take-append_seam, drop-append_seam}
 use Rattle.gate_model.specs.declared.object.ObjectLine.{ObjectLine}
-use Rattle.gate_model.specs.Key.{key_of, is_short, line_key, is_short_line}
+use Rattle.gate_model.specs.inner.Keys.{key_of, is_short, line_key, is_short_line}
 use Rattle.gate_model.specs.Table.{is_same_service, is_line_of, place_of}
 
 some : {A : Type 0} → A → Option A
@@ -31,9 +31,9 @@ line_decides host service line =
       λ e. and_from (bytes_eq line.host host) (is_same_service line.service service) (h.1 e.0) (s.1 e.1),
     )
 
--- two parts of one list, the first as long as the other's first
-parts_agree : (a b x y : List ℕ) → length a ≡ length b → a ++ x ≡ b ++ y → (a ≡ b) × (x ≡ y)
-parts_agree a b x y long e = (
+-- two splits of one list, at one length
+splits_agree : (a b x y : List ℕ) → length a ≡ length b → a ++ x ≡ b ++ y → (a ≡ b) × (x ≡ y)
+splits_agree a b x y long e = (
   sym (take-append_seam a x) ∙ ap (take (length a)) e ∙ ap (λ (n : ℕ). take n (b ++ y)) long ∙ take-append_seam b y,
   sym (drop-append_seam a x) ∙ ap (drop (length a)) e ∙ ap (λ (n : ℕ). drop n (b ++ y)) long ∙ drop-append_seam b y,
 )
@@ -41,14 +41,15 @@ parts_agree a b x y long e = (
 heads : (m n : ℕ) (xs ys : List ℕ) → m ∷ xs ≡ n ∷ ys → (m ≡ n) × (xs ≡ ys)
 heads m n xs ys e = (cc, cc)
 
-keys_tell : (a b : List ℕ) (s t : Option (List ℕ)) → length a < 128 → length b < 128 → key_of a s ≡ key_of b t → (b ≡ a) × (t ≡ s)
-keys_tell a b None None la lb e = (sym (heads _ _ _ _ e).1, refl)
-keys_tell a b None (Some y) la lb e = let h = (heads _ _ _ _ e).0 in absurd (omega arith)
-keys_tell a b (Some x) None la lb e = let h = (heads _ _ _ _ e).0 in absurd (omega arith)
-keys_tell a b (Some x) (Some y) la lb e =
+-- short names of one key are the same names
+same_key : (a b : List ℕ) (s t : Option (List ℕ)) → length a < 128 → length b < 128 → key_of a s ≡ key_of b t → (b ≡ a) × (t ≡ s)
+same_key a b None None la lb e = (sym (heads _ _ _ _ e).1, refl)
+same_key a b None (Some y) la lb e = let h = (heads _ _ _ _ e).0 in absurd (omega arith)
+same_key a b (Some x) None la lb e = let h = (heads _ _ _ _ e).0 in absurd (omega arith)
+same_key a b (Some x) (Some y) la lb e =
     let h = heads _ _ _ _ e in
     let long : length a ≡ length b = omega (arith, h.0) in
-    let p = parts_agree a b x y long h.1 in
+    let p = splits_agree a b x y long h.1 in
     (sym p.0, ap (λ (z : List ℕ). Some z) (sym p.1))
 
 key_decides : (host : List ℕ) (service : Option (List ℕ)) (line : ObjectLine) → is_short host service ≡ true → is_short_line line ≡ true → Decides (bytes_eq (key_of host service) (line_key line)) (IsLineOf host service line)
@@ -56,7 +57,7 @@ key_decides host service line short shorter =
     let k = bytes_decides (key_of host service) (line_key line) in
     let la = leb-true (length host) 63 (and_parts _ _ short).0 in
     let lb = leb-true (length line.host) 63 (and_parts _ _ shorter).0 in (
-      λ e. keys_tell host line.host service line.service (omega arith) (omega arith) (k.0 e),
+      λ e. same_key host line.host service line.service (omega arith) (omega arith) (k.0 e),
       λ e. k.1 (sym (ap (λ (h : List ℕ). key_of h line.service) e.0 ∙ ap (key_of host) e.1)),
     )
 
@@ -80,8 +81,8 @@ place_of-key host service lines keys e short all = ap (position_from (bytes_eq (
 other_line : (host : List ℕ) (service : Option (List ℕ)) (line : ObjectLine) → is_short host service ≡ false → is_short_line line ≡ true → is_line_of host service line ≡ false
 other_line host service line long short =
     false_from_ne_true (is_line_of host service line) (λ e.
-    let told = (line_decides host service line).0 e in
-    let again : is_short host service ≡ true = sym (ap (λ (h : List ℕ). is_short h line.service) told.0 ∙ ap (is_short host) told.1) ∙ short in
+    let named = (line_decides host service line).0 e in
+    let again : is_short host service ≡ true = sym (ap (λ (h : List ℕ). is_short h line.service) named.0 ∙ ap (is_short host) named.1) ∙ short in
     true≢false (sym again ∙ long))
 
 place-long : (host : List ℕ) (service : Option (List ℕ)) (i : ℕ) (lines : List ObjectLine) → is_short host service ≡ false → list_all is_short_line lines ≡ true → position_from (is_line_of host service) i lines ≡ None

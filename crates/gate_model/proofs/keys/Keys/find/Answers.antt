@@ -2,8 +2,8 @@ use Rattle.std.proofs.Common.{List, ap, sym, ◌∙◌}
 use Rattle.std.specs.List.{position_from}
 use Rattle.std.specs.Option.{option_copied}
 use Rattle.std.specs.Str.{bytes_eq}
-use Rattle.gate_model.proofs.Keys.{place_of-key, place_of-long}
-use Rattle.gate_model.proofs.names.Names.find.Goals as goal
+use Rattle.gate_model.proofs.KeySteps.{place_of-key, place_of-long}
+use Rattle.gate_model.proofs.keys.Keys.find.Goals as goal
 
 pub returns-in-None : goal.returns-in-None
 returns-in-None c lines keys short = sym (place_of-long c.args.host.now (option_copied c.args.service) lines (sym c.in-None.ensures.short) short)

@@ -1,6 +1,6 @@
 use Rattle.std.specs.Str.{bytes_eq}
 use Rattle.gate_model.proofs.Lists.{map-insert_new, list_any_from_position}
-use Rattle.gate_model.proofs.names.Names.add.Goals as goal
+use Rattle.gate_model.proofs.keys.Keys.add.Goals as goal
 
 pub returns-clause-ok : goal.returns-clause-ok
 returns-clause-ok c =
