@@ -14,6 +14,8 @@ use crate::record::Outcome;
 use crate::table_builder::TableBuilder;
 use crate::text::Text;
 use std::alloc::Global;
+use std::error::Error;
+use std::fmt;
 use std::marker::Model;
 
 /// The most lines of a table.
@@ -46,12 +48,52 @@ pub enum TableFault {
     OutOfMemory,
 }
 
+impl fmt::Display for TableFault {
+    fn fmt<W: fmt::Write>(&self, f: &mut fmt::Formatter<W>) -> fmt::Result {
+        match self {
+            TableFault::BadName(line) => write!(
+                f,
+                "line {line}: bad name: empty, too long, or with a semicolon, a control byte or a space at an end"
+            ),
+            TableFault::NoSuchHost(line) => {
+                write!(f, "line {line}: no host of that name stands before it")
+            }
+            TableFault::DuplicateHost(line) => {
+                write!(f, "line {line}: a host of that name stands before it")
+            }
+            TableFault::DuplicateService(line) => write!(
+                f,
+                "line {line}: a service of that name, of the same host, stands before it"
+            ),
+            TableFault::TooMany(0) => write!(f, "more than 16384 lines"),
+            TableFault::TooMany(line) => {
+                write!(
+                    f,
+                    "line {line}: more than 1024 hosts, or services of one host"
+                )
+            }
+            TableFault::OutOfMemory => write!(f, "out of memory"),
+        }
+    }
+}
+
+impl Error for TableFault {}
+
 /// A refused list of lines: why it is no table, and the lines.
 #[derive(Debug, Drop)]
 pub struct BuildFault {
     pub cause: TableFault,
     pub lines: Vec<ObjectLine>,
 }
+
+/// Shows the cause.
+impl fmt::Display for BuildFault {
+    fn fmt<W: fmt::Write>(&self, f: &mut fmt::Formatter<W>) -> fmt::Result {
+        write!(f, "{}", self.cause)
+    }
+}
+
+impl Error for BuildFault {}
 
 /// The monitored objects: hosts and their services. The index of an object, from 0, is its place.
 #[derive(Drop)]
