@@ -2,10 +2,10 @@
 use Rattle.std.proofs.Common.{◌≡◌, ℕ, suc, ◌+◌, ◌-◌, ◌<◌, ◌≤◌, ◌++◌, List, [], ◌∷◌, length, Option, Some, None, refl, sym, ap, ◌∙◌, arith, append_assoc, take_all}
 use Rattle.std.specs.Io.KnownBytes.{append_known, Keeps, Appends}
 use Rattle.std.proofs.lemmas.List.{append-nil}
-use Rattle.gate_model.specs.declared.moment.Moment.{Moment}
+use Rattle.gate_model.specs.declared.record.Moment.{Moment}
 use Rattle.gate_model.specs.declared.object.ObjectLine.{ObjectLine}
 use Rattle.gate_model.specs.declared.record.Record.{Record}
-use Rattle.gate_model.specs.Moments.{later}
+use Rattle.gate_model.specs.Record.{later}
 use Rattle.gate_model.specs.Meaning.{outcomes_of}
 use Rattle.gate_applier.specs.View.{ApplierView, opened}
 use Rattle.gate_applier.specs.LogPage.{page_of}

@@ -6,7 +6,7 @@ use Rattle.std.specs.Io.KnownBytes.{append_known, Keeps, Appends}
 use Rattle.std.proofs.lemmas.List.{append-nil, take-append-le}
 use Rattle.std.proofs.lemmas.Bool.{cases_Bool, MatchBool-at_true, MatchBool-at_false, ne_eqb, eq-eqb}
 use Rattle.gate_model.specs.declared.record.Record.{Record}
-use Rattle.gate_model.specs.Moments.{later}
+use Rattle.gate_model.specs.Record.{later}
 use Rattle.gate_packet.specs.Packet.{Content, check_result_of}
 use Rattle.gate_packet.specs.Decoding.{is_stale}
 use Rattle.gate_applier.specs.View.{ApplierView}

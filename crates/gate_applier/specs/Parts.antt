@@ -1,6 +1,6 @@
 -- What an applier is made of, what of it is shown, and what always holds of it.
 use Rattle.std.specs.Prelude.{◌≡◌, ◌<◌, ◌≤◌, IsTrue, length, vec_len, vec_capacity}
-use Rattle.gate_model.specs.Moments.{AreInOrder}
+use Rattle.gate_model.specs.Record.{AreInOrder}
 use Rattle.gate_model.specs.Meaning.{outcomes_of, history_of}
 use Rattle.gate_applier.specs.declared.parts.Parts.{Parts}
 use Rattle.gate_applier.specs.View.{ApplierView, is_limit}

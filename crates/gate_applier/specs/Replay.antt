@@ -5,10 +5,10 @@
 use Rattle.std.specs.Prelude.{ℕ, ◌<◌, ◌≤◌, ◌⊎◌, ◌+◌, ◌-◌, Option, Bool, not, ◌==◌, if◌then◌else◌, List, [], ◌∷◌, ◌++◌, length, take, filter, codes}
 use Rattle.std.specs.Fmt.{decimal}
 use Rattle.std.specs.Io.KnownBytes.{Appends}
-use Rattle.gate_model.specs.declared.moment.Moment.{Moment}
+use Rattle.gate_model.specs.declared.record.Moment.{Moment}
 use Rattle.gate_model.specs.declared.record.Record.{Record}
 use Rattle.gate_model.specs.declared.submission.Body.{Body}
-use Rattle.gate_model.specs.Moments.{later}
+use Rattle.gate_model.specs.Record.{later}
 use Rattle.gate_model.specs.Meaning.{outcomes_of}
 use Rattle.gate_packet.specs.Packet.{Content, check_result_of}
 use Rattle.gate_packet.specs.Decoding.{is_stale}

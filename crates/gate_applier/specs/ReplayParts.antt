@@ -3,7 +3,7 @@ use Rattle.std.specs.Prelude.{◌≡◌, ℕ, ◌+◌, ◌-◌, ◌<◌, List, [
 use Rattle.std.specs.Io.KnownBytes.{append_known, Keeps}
 use Rattle.gate_model.specs.declared.record.Record.{Record}
 use Rattle.gate_model.specs.declared.submission.Body.{Body}
-use Rattle.gate_model.specs.Moments.{later}
+use Rattle.gate_model.specs.Record.{later}
 use Rattle.gate_applier.specs.View.{ApplierView}
 use Rattle.gate_applier.specs.declared.fault.ReplayFault.{ReplayFault}
 use Rattle.gate_applier.specs.declared.fault.ReplayFault.TheVariants.{TooLong, Line, LogFull, OutOfMemory, ReadFault, WriteFault}

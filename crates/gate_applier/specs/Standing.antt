@@ -1,15 +1,15 @@
 -- What the books keep, once records were judged.
 use Rattle.std.specs.Prelude.{◌≡◌, ℕ, List, None, unwrap_or, slice_get, if◌then◌else◌}
 use Rattle.std.specs.List.{cons_option}
-use Rattle.gate_model.specs.declared.moment.Moment.{Moment}
+use Rattle.gate_model.specs.declared.record.Moment.{Moment}
 use Rattle.gate_model.specs.declared.object.ObjectLine.{ObjectLine}
 use Rattle.gate_model.specs.declared.submission.Body.{Body}
 use Rattle.gate_model.specs.declared.record.Outcome.{Outcome}
 use Rattle.gate_model.specs.declared.state.State.{State}
 use Rattle.gate_model.specs.declared.state.State.TheVariants.{Pending}
-use Rattle.gate_model.specs.declared.event.ObjectEvent.{ObjectEvent}
-use Rattle.gate_model.specs.Outcomes.{is_accepted}
-use Rattle.gate_model.specs.Objects.{state_of}
+use Rattle.gate_model.specs.declared.state.ObjectEvent.{ObjectEvent}
+use Rattle.gate_model.specs.Record.{is_accepted}
+use Rattle.gate_model.specs.State.{state_of}
 use Rattle.gate_model.specs.Meaning.{Judged, object_event_of, object_events}
 use Rattle.gate_applier.specs.declared.books.Books.{Books}
 

@@ -1,6 +1,6 @@
 -- What an applier shows. Own rule: the limits of a log.
 use Rattle.std.specs.Prelude.{ℕ, Bool, ◌&&◌, nat_le, List, []}
-use Rattle.gate_model.specs.declared.moment.Moment.{Moment}
+use Rattle.gate_model.specs.declared.record.Moment.{Moment}
 use Rattle.gate_model.specs.declared.object.ObjectLine.{ObjectLine}
 use Rattle.gate_model.specs.declared.record.Record.{Record}
 use Rattle.gate_model.specs.declared.record.Outcome.{Outcome}

@@ -1,5 +1,5 @@
 ghost use Rattle.std.specs.Prelude.{◌≡◌, ◌≤◌, length, false, IsTrue, IfOk, IfErr, IsErrAnd};
-ghost use Rattle.gate_model.specs.Moments.{AreInOrder};
+ghost use Rattle.gate_model.specs.Record.{AreInOrder};
 ghost use Rattle.gate_model.specs.Meaning.{outcomes_of, state_at};
 ghost use Rattle.gate_applier.specs.declared.applier.OpenCause.TheVariants.{BadLimit};
 ghost use Rattle.gate_applier.specs.declared.applier.PrepareCause.TheVariants.{LogFull};

@@ -1,9 +1,9 @@
 ghost use Rattle.std.specs.Prelude.{◌≡◌, ℕ, ◌<◌, List, [], ◌∷◌, length, IfOk};
-ghost use Rattle.gate_model.specs.declared.moment.Moment.{Moment};
+ghost use Rattle.gate_model.specs.declared.record.Moment.{Moment};
 ghost use Rattle.gate_model.specs.declared.submission.Body.TheVariants.{Result as ResultBody};
 ghost use Rattle.gate_model.specs.declared.record.Outcome.TheVariants.{Accepted};
-ghost use Rattle.gate_model.specs.declared.event.ObjectEvent.{ObjectEvent};
-ghost use Rattle.gate_model.specs.declared.event.ObjectEvent.TheVariants.{Result as ResultEvent};
+ghost use Rattle.gate_model.specs.declared.state.ObjectEvent.{ObjectEvent};
+ghost use Rattle.gate_model.specs.declared.state.ObjectEvent.TheVariants.{Result as ResultEvent};
 ghost use Rattle.gate_model.specs.Meaning.{Judged, judgement_of, outcome_for, outcome_at};
 ghost use Rattle.gate_applier.specs.Standing.{kept_state, BooksKeep, BooksStand, BooksFollow};
 

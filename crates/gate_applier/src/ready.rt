@@ -1,5 +1,5 @@
 ghost use Rattle.std.specs.Prelude.{◌≡◌, [], ◌∷◌, ◌++◌, IsTrue};
-ghost use Rattle.gate_model.specs.Moments.{later};
+ghost use Rattle.gate_model.specs.Record.{later};
 ghost use Rattle.gate_model.specs.Meaning.{outcome_after};
 ghost use Rattle.gate_applier.specs.Taken.{is_taken};
 ghost use Rattle.gate_applier.specs.Parts.{view_of, IsSound, HasRoom};

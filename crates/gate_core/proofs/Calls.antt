@@ -1,7 +1,7 @@
 -- What each call of a World changes, and that the World stands after it.
 use Rattle.std.proofs.Common.{◌≡◌, ℕ, ◌∷◌, drop, Option, Some, Result, Ok, Err, true, sym, subst}
 use Rattle.std.specs.Prelude.{slice_get}
-use Rattle.gate_model.specs.declared.moment.Moment.{Moment}
+use Rattle.gate_model.specs.declared.record.Moment.{Moment}
 use Rattle.gate_model.specs.declared.submission.Numbered.{Numbered}
 use Rattle.gate_model.specs.declared.submission.Body.{Body}
 use Rattle.gate_core.specs.declared.world.Seat.{Seat}

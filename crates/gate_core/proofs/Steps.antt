@@ -5,7 +5,7 @@ use Rattle.std.proofs.Math.ListN.{length-set}
 use Rattle.std.proofs.lemmas.List.{append-nil}
 use mathlib.Core.Logic.{dite}
 use native.Mathlib.Decide.{ℕ_discrete}
-use Rattle.gate_model.specs.declared.moment.Moment.{Moment}
+use Rattle.gate_model.specs.declared.record.Moment.{Moment}
 use Rattle.gate_model.specs.declared.submission.Numbered.{Numbered}
 use Rattle.gate_model.specs.declared.submission.Body.{Body}
 use Rattle.gate_core.specs.declared.world.Seat.{Seat}

@@ -2,7 +2,7 @@
 -- A run lists events with their replies, the newest first: what stands after a pair in the list came before it.
 use Rattle.std.specs.Prelude.{◌≡◌, ℕ, ◌+◌, ◌-◌, ◌==◌, nat_le, if◌then◌else◌, List, [], ◌∷◌, ◌++◌, length, drop, find, slice_get, Option, Some, None, unwrap_or, Bool, true, false, not, ◌&&◌}
 use Rattle.std.specs.List.{list_any}
-use Rattle.gate_model.specs.declared.moment.Moment.{Moment}
+use Rattle.gate_model.specs.declared.record.Moment.{Moment}
 use Rattle.gate_model.specs.declared.submission.Body.{Body}
 use Rattle.gate_model.specs.declared.submission.Numbered.{Numbered}
 use Rattle.gate_core.specs.declared.event.Event.{Event}

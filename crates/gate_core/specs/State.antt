@@ -1,6 +1,6 @@
 -- What a World shows, and the runs after which it stands.
 use Rattle.std.specs.Prelude.{◌≡◌, ℕ, ◌+◌, ◌-◌, ◌<◌, List, ◌∷◌, ◌++◌, length, reverse, zip, sum_by, slice_get, Option, Some}
-use Rattle.gate_model.specs.declared.moment.Moment.{Moment}
+use Rattle.gate_model.specs.declared.record.Moment.{Moment}
 use Rattle.gate_model.specs.declared.submission.Numbered.{Numbered}
 use Rattle.gate_core.specs.declared.world.Seat.{Seat}
 use Rattle.gate_core.specs.declared.event.Event.{Event}

@@ -1,7 +1,7 @@
 -- The body that a command's name and the values of its arguments say. It undoes the tables of `Commands`, which
 -- are what a line is held against: the promises of the crate don't rest on this file.
 use Rattle.std.specs.Prelude.{ℕ, ◌+◌, List, Option, Some, None}
-use Rattle.gate_model.specs.declared.moment.Moment.{Moment}
+use Rattle.gate_model.specs.declared.record.Moment.{Moment}
 use Rattle.gate_model.specs.declared.object.Kind.{Kind}
 use Rattle.gate_model.specs.declared.object.Kind.TheVariants.{Host, Service}
 use Rattle.gate_model.specs.declared.submission.Body.{Body}

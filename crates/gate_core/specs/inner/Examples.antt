@@ -1,6 +1,6 @@
 -- Worked examples of legal runs. They hold by computation, and nothing uses them.
 use Rattle.std.specs.Prelude.{◌≡◌, ℕ, List, [], ◌∷◌, ◌++◌, take, drop, reverse, map, count_by, Some, None, Bool, true, false, refl}
-use Rattle.gate_model.specs.declared.moment.Moment.{Moment}
+use Rattle.gate_model.specs.declared.record.Moment.{Moment}
 use Rattle.gate_model.specs.declared.submission.Body.{Body}
 use Rattle.gate_core.specs.declared.event.Event.{Event}
 use Rattle.gate_core.specs.declared.event.Event.TheVariants.{Look, Push, Take, Close, End, TakeIn}

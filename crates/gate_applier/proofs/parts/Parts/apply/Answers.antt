@@ -1,8 +1,8 @@
 -- One more record keeps the parts sound.
 use Rattle.std.proofs.Common.{◌≡◌, [], ◌∷◌, sym, ap, ◌∙◌, arith, length-append}
-use Rattle.gate_model.specs.declared.moment.Moment.{Moment}
+use Rattle.gate_model.specs.declared.record.Moment.{Moment}
 use Rattle.gate_model.specs.declared.record.Record.{Record}
-use Rattle.gate_model.specs.Moments.{later}
+use Rattle.gate_model.specs.Record.{later}
 use Rattle.gate_model.specs.Meaning.{history_of}
 use Rattle.gate_model.proofs.MeaningSteps.{history_of-append, outcomes_of-append}
 use Rattle.gate_model.proofs.OrderSteps.{in_order-apply}
