@@ -1,16 +1,19 @@
 -- What one more event changes in the books.
-use Rattle.std.proofs.Common.{◌≡◌, ◌≢◌, ℕ, ◌<◌, true, false, cond, List, ◌∷◌, length, slice_set, get_or, ◌⊎◌, inl, inr, sym, ap, ◌∙◌}
-use Rattle.std.specs.Prelude.{◌==◌, slice_get, unwrap_or}
+use Rattle.std.proofs.Common.{◌≡◌, ◌≢◌, ℕ, ◌<◌, IsTrue, refl, Option, true, false, cond, List, ◌∷◌, length, slice_set, get_or, ◌⊎◌, inl, inr, sym, ap, ◌∙◌}
+use Rattle.std.specs.Prelude.{ℤ, ◌==◌, slice_get, unwrap_or}
 use Rattle.std.proofs.lemmas.Option.{unwrap_or-slice_get}
 use Rattle.std.proofs.lemmas.List.{get_or-set_same, get_or-set_other}
 use Rattle.std.proofs.lemmas.Bool.Decides.{eqb_tells}
 use Rattle.gate_model.specs.declared.record.Moment.{Moment}
 use Rattle.gate_model.specs.declared.object.ObjectLine.{ObjectLine}
 use Rattle.gate_model.specs.declared.submission.Body.{Body}
+use Rattle.gate_model.specs.declared.submission.Body.TheVariants as bodies
 use Rattle.gate_model.specs.declared.record.Record.{Record}
 use Rattle.gate_model.specs.declared.record.Outcome.{Outcome}
+use Rattle.gate_model.specs.declared.record.Outcome.TheVariants.{Accepted}
 use Rattle.gate_model.specs.Meaning.{Judged, judgement_of, object_event_of, object_events, outcome_at}
 use Rattle.gate_applier.specs.declared.books.Books.{Books}
+use Rattle.gate_applier.specs.Taken.{is_taken}
 use Rattle.gate_applier.specs.Standing.{BooksStand, BooksFollow}
 
 state-set-cases : {A : Type 0} (xs : List A) (place object : ℕ) (x other : A) → place < length xs
@@ -49,3 +52,23 @@ pub stand-judged : (table : List ObjectLine) (before : List Judged) (applied : R
 stand-judged table before applied outcome old new is follow stands = record {
   objects = rw is at (follow.objects (object_events table before) applied.moment (length before) stands.objects);
 }
+
+-- a body that is taken and is no result is a shutdown
+pub taken-other : (body : Body) → IsTrue (is_taken body)
+    → ((host : List ℕ) (service : Option (List ℕ)) (code : ℤ) (output : List ℕ) → body ≡ bodies.Result host service code output → ⊥)
+    → body ≡ bodies.Shutdown
+taken-other (bodies.Result host service code output) taken other = absurd (other host service code output refl)
+taken-other (bodies.AddComment host service persistent author text) taken other = absurd cc
+taken-other (bodies.DelComment kind id) taken other = absurd cc
+taken-other (bodies.DelAllComments host service) taken other = absurd cc
+taken-other (bodies.Acknowledge host service sticky notify persistent author text) taken other = absurd cc
+taken-other (bodies.RemoveAck host service) taken other = absurd cc
+taken-other (bodies.Schedule host service starts ends fixed trigger lasts author text) taken other = absurd cc
+taken-other (bodies.DelDowntime kind id) taken other = absurd cc
+taken-other bodies.Shutdown taken other = refl
+
+-- books that stand follow a shutdown as they are
+pub follow-shutdown : (table : List ObjectLine) (body : Body) (books : Books) → body ≡ bodies.Shutdown → BooksFollow table body Accepted books books
+follow-shutdown table body books is =
+    follow-same table body {told = bodies.Shutdown} Accepted books books (record { objects = λ history moment log_place keeps. keeps })
+    (λ moment log_place. ap (object_event_of table moment log_place) (sym is))

@@ -1,10 +1,11 @@
-ghost use Rattle.std.specs.Prelude.{◌≡◌, ℕ, ◌<◌, List, [], ◌∷◌, length, IfOk};
+ghost use Rattle.std.specs.Prelude.{◌≡◌, ℕ, ◌<◌, List, [], ◌∷◌, length, IfOk, IsTrue};
 ghost use Rattle.gate_model.specs.declared.record.Moment.{Moment};
 ghost use Rattle.gate_model.specs.declared.submission.Body.TheVariants.{Result as ResultBody};
 ghost use Rattle.gate_model.specs.declared.record.Outcome.TheVariants.{Accepted};
 ghost use Rattle.gate_model.specs.declared.state.ObjectEvent.{ObjectEvent};
 ghost use Rattle.gate_model.specs.declared.state.ObjectEvent.TheVariants.{Result as ResultEvent};
 ghost use Rattle.gate_model.specs.Meaning.{Judged, judgement_of, outcome_for, outcome_at};
+ghost use Rattle.gate_applier.specs.Taken.{is_taken};
 ghost use Rattle.gate_applier.specs.Standing.{kept_state, BooksKeep, BooksStand, BooksFollow};
 
 use gate_model::{Body, ObjectId, ObjectTable, Outcome, Record, State, Text, find_object};
@@ -40,7 +41,8 @@ impl Books {
 
     /// Judges a record after those before it, and follows it where it is accepted.
     pub fn judge(&mut self, table: &ObjectTable, applied: &Record) -> Outcome
-        requires { length self.old.states.items ≡ length table.now }
+        requires objects { length self.old.states.items ≡ length table.now }
+        requires taken { IsTrue (is_taken applied.now.item.body) }
         ensures outcome { (before : List Judged) → BooksStand table.now before self.old
             → let body = applied.now.item.body in
             result ≡ outcome_at table.now before applied.now.moment body }
@@ -56,6 +58,7 @@ impl Books {
                 code,
                 ..
             } => self.judge_result(table, host, service, *code),
+            // Of the other bodies only a shutdown is taken.
             _ => Outcome::Accepted,
         }
     }

@@ -1,6 +1,7 @@
 ghost use Rattle.std.specs.Prelude.{◌≡◌, ◌==◌, [], ◌∷◌, ◌++◌, length, false, IsTrue, IfOk, IfErr, OnOk};
 ghost use Rattle.gate_model.specs.Record.{later};
 ghost use Rattle.gate_model.specs.Meaning.{outcome_after};
+ghost use Rattle.gate_applier.specs.Taken.{is_taken};
 ghost use Rattle.gate_applier.specs.View.{opened, is_limit};
 ghost use Rattle.gate_applier.specs.Parts.{view_of, IsSound, HasRoom};
 
@@ -71,6 +72,7 @@ impl Parts {
     pub fn apply(&mut self, item: Numbered, now: Moment) -> Outcome
         requires sound { IsSound self.old }
         requires room { HasRoom self.old }
+        requires taken { IsTrue (is_taken item.body) }
         ensures outcome { let moment = later self.old.moment now in
             result ≡ outcome_after self.old.table self.old.records.items moment item.body }
         ensures records { let moment = later self.old.moment now in

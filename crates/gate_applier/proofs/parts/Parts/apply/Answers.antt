@@ -1,8 +1,6 @@
 -- One more record keeps the parts sound.
-use Rattle.std.proofs.Common.{◌≡◌, [], ◌∷◌, sym, ap, ◌∙◌, arith, length-append}
-use Rattle.gate_model.specs.declared.record.Moment.{Moment}
+use Rattle.std.proofs.Common.{[], ◌∷◌, sym, ◌∙◌, arith, length-append}
 use Rattle.gate_model.specs.declared.record.Record.{Record}
-use Rattle.gate_model.specs.Record.{later}
 use Rattle.gate_model.specs.Meaning.{history_of}
 use Rattle.gate_model.proofs.MeaningSteps.{history_of-append, outcomes_of-append}
 use Rattle.gate_model.proofs.OrderSteps.{in_order-apply}
@@ -12,13 +10,12 @@ pub returns-clause-sound : goal.returns-clause-sound
 returns-clause-sound c =
     let applied : Record = record { moment = c.later-moment.result; item = c.args.item } in
     let before = history_of c.args.self.now.table c.args.self.now.records.items in
-    let at : c.later-moment.result ≡ later c.args.self.now.moment c.args.now = ap (λ seconds. let moment : Moment = record { 0 = seconds } in moment) c.later-moment.ensures in
     record {
       limited = c.requires.sound.limited;
       few = rw c.push_reserved.ensures.items (omega (arith, length-append c.args.self.now.records.items (applied ∷ []), c.requires.room.below_limit));
       in_order =
           rw c.push_reserved.ensures.items
-          (in_order-apply c.args.self.now.opening c.args.self.now.records.items c.args.self.now.moment c.args.now applied at c.requires.sound.in_order);
+          (in_order-apply c.args.self.now.opening c.args.self.now.records.items c.args.self.now.moment c.args.now applied c.later-moment.ensures c.requires.sound.in_order);
       outcomes_are =
           rw (c.push_reserved.ensures.items, c.push_reserved-2.ensures.items, c.requires.sound.outcomes_are, c.judge-outcome.ensures.outcome before c.requires.sound.books_stand)
           (sym (outcomes_of-append c.args.self.now.table c.args.self.now.records.items applied));
