@@ -9,3 +9,8 @@ mod machine;
 
 #[cfg(test)]
 mod packet;
+//! Tests of the gateway's crates through their public items.
+#![tactic(auto)]
+
+#[cfg(test)]
+mod model;
