@@ -2,7 +2,8 @@
 use Rattle.std.proofs.Common.{◌≡◌, ℕ, List, [], ◌∷◌, refl}
 use Rattle.std.specs.Prelude.{Option, Some, None, ℤ, pos, negsuc, codes}
 use Rattle.gate_model.specs.declared.object.ObjectLine.{ObjectLine}
-use Rattle.gate_model.specs.declared.submission.Body.TheVariants.{Result}
+use Rattle.gate_model.specs.declared.submission.Body.{Body}
+use Rattle.gate_model.specs.declared.submission.Body.TheVariants.{Result, AddComment, DelAllComments, Acknowledge, RemoveAck, Schedule}
 use Rattle.gate_model.specs.declared.record.Record.{Record}
 use Rattle.gate_model.specs.declared.record.Outcome.TheVariants.{Accepted, NoSuchHost, NoSuchService}
 use Rattle.gate_model.specs.declared.state.State.TheVariants.{Pending, Ok, Warning, Critical, Unknown, Up, Down, Unreachable}
@@ -16,11 +17,14 @@ table =
     ∷ record { host = codes "web1"; service = Some (codes "HTTP"); threshold = 300 }
     ∷ []
 
-abbrev result : ℕ → List ℕ → Option (List ℕ) → ℤ → Record
-result moment host service code = record {
+abbrev record_of : ℕ → Body → Record
+record_of moment body = record {
   moment = record { 0 = moment };
-  item = record { client = 1; number = 1; body = Result host service code [] };
+  item = record { client = 1; number = 1; body = body };
 }
+
+abbrev result : ℕ → List ℕ → Option (List ℕ) → ℤ → Record
+result moment host service code = record_of moment (Result host service code [])
 
 abbrev web1 : ℕ → ℤ → Record
 web1 moment code = result moment (codes "web1") None code
@@ -84,6 +88,23 @@ strangers =
 
 pub strangers-outcomes : outcomes_of table strangers ≡ NoSuchHost ∷ NoSuchHost ∷ NoSuchService ∷ Accepted ∷ []
 strangers-outcomes = refl
+
+-- other bodies that name an object: of an unknown host, and of an unknown service
+abbrev window : ℕ → ℕ → List ℕ → Option (List ℕ) → Body
+window starts ends host service =
+    Schedule host service (record { 0 = starts }) (record { 0 = ends }) 1 0 0 (codes "ann") (codes "x")
+
+abbrev unknown : List Record
+unknown =
+    record_of 1100 (AddComment (codes "db1") None 0 (codes "ann") (codes "x"))
+    ∷ record_of 1100 (DelAllComments (codes "db1") (Some (codes "HTTP")))
+    ∷ record_of 1100 (Acknowledge (codes "web1") (Some (codes "FTP")) 2 0 0 (codes "ann") (codes "x"))
+    ∷ record_of 1100 (RemoveAck (codes "web1") (Some (codes "FTP")))
+    ∷ record_of 1100 (window 1200 1300 (codes "db1") None)
+    ∷ []
+
+pub unknown-outcomes : outcomes_of table unknown ≡ NoSuchHost ∷ NoSuchHost ∷ NoSuchService ∷ NoSuchService ∷ NoSuchHost ∷ []
+unknown-outcomes = refl
 
 -- a refused result between two accepted ones: it counts as a record, and changes no state
 abbrev mixed : List Record

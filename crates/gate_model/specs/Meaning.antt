@@ -1,7 +1,7 @@
--- The meaning of a list of records: the outcome of each, and the states that the accepted ones leave.
--- The main definitions are `judged`, and `outcomes_of`, `outcome_after` and `state_at`, which take
--- records in their order. All others take the newest first, so the records after one in a list are
--- those that came before it.
+-- The meaning of a list of records: the outcome of each, and the states that the accepted ones
+-- leave. The main definitions are `judged`, and `outcomes_of`, `outcome_after` and `state_at`, which
+-- take records in their order. All others take the newest first, so the records after one in a list
+-- are those that came before it.
 -- Own rules: the refusals and their order.
 use Rattle.std.specs.Prelude.{ℕ, ℤ, List, [], ◌∷◌, length, map, reverse, Option, Some, None, option_map, if◌then◌else◌, filter_map}
 use Rattle.gate_model.specs.declared.record.Moment.{Moment}
@@ -35,13 +35,16 @@ result_event table host service code moment log_index =
 
 -- what a body is to the objects, if it is accepted: so far only a result changes one
 abbrev pub object_event_of : List ObjectLine → Moment → ℕ → Body → Option ObjectEvent
-object_event_of table moment log_index (body.Result host service code output) = result_event table host service code moment log_index
+object_event_of table moment log_index (body.Result host service code output) =
+    result_event table host service code moment log_index
 object_event_of table moment log_index (body.AddComment host service persistent author text) = None
 object_event_of table moment log_index (body.DelComment kind id) = None
 object_event_of table moment log_index (body.DelAllComments host service) = None
-object_event_of table moment log_index (body.Acknowledge host service sticky notify persistent author text) = None
+object_event_of table moment log_index (body.Acknowledge host service sticky notify persistent author text) =
+    None
 object_event_of table moment log_index (body.RemoveAck host service) = None
-object_event_of table moment log_index (body.Schedule host service starts ends fixed trigger lasts author text) = None
+object_event_of table moment log_index (body.Schedule host service starts ends fixed trigger lasts author text) =
+    None
 object_event_of table moment log_index (body.DelDowntime kind id) = None
 object_event_of table moment log_index body.Shutdown = None
 
@@ -63,25 +66,32 @@ abbrev pub outcome_at_place : (ℕ → Outcome) → Option ℕ → Outcome
 outcome_at_place judge None = NoSuchService
 outcome_at_place judge (Some place) = judge place
 
--- of a body that names an object the host is looked up, then the object, and then its place is judged
+-- of a body that names an object: the host is looked up, then the object, then its place is judged
 abbrev pub outcome_for : List ObjectLine → List ℕ → Option (List ℕ) → (ℕ → Outcome) → Outcome
 outcome_for table host service judge =
-    if has_object table host None then outcome_at_place judge (place_of table host service) else NoSuchHost
+    if has_object table host None
+    then outcome_at_place judge (place_of table host service)
+    else NoSuchHost
 
 -- the outcome of a body for which it is enough that its object is in the table
 abbrev pub outcome_if_known : List ObjectLine → List ℕ → Option (List ℕ) → Outcome
 outcome_if_known table host service = outcome_for table host service (λ place. Accepted)
 
 -- the outcome of a body at this moment, after these judged records
--- comments, acknowledgements and downtime are not judged yet, because no applier applies those bodies: of these only the names are looked up
+-- comments and downtime are not judged yet, because no applier applies those bodies: only names are looked up
 abbrev pub outcome_at : List ObjectLine → List Judged → Moment → Body → Outcome
-outcome_at table before moment (body.Result host service code output) = outcome_if_known table host service
-outcome_at table before moment (body.AddComment host service persistent author text) = outcome_if_known table host service
+outcome_at table before moment (body.Result host service code output) =
+    outcome_if_known table host service
+outcome_at table before moment (body.AddComment host service persistent author text) =
+    outcome_if_known table host service
 outcome_at table before moment (body.DelComment kind id) = Accepted
-outcome_at table before moment (body.DelAllComments host service) = outcome_if_known table host service
-outcome_at table before moment (body.Acknowledge host service sticky notify persistent author text) = outcome_if_known table host service
+outcome_at table before moment (body.DelAllComments host service) =
+    outcome_if_known table host service
+outcome_at table before moment (body.Acknowledge host service sticky notify persistent author text) =
+    outcome_if_known table host service
 outcome_at table before moment (body.RemoveAck host service) = outcome_if_known table host service
-outcome_at table before moment (body.Schedule host service starts ends fixed trigger lasts author text) = outcome_if_known table host service
+outcome_at table before moment (body.Schedule host service starts ends fixed trigger lasts author text) =
+    outcome_if_known table host service
 outcome_at table before moment (body.DelDowntime kind id) = Accepted
 outcome_at table before moment body.Shutdown = Accepted
 
@@ -98,7 +108,8 @@ judgement_of table before applied = record {
 -- each record, judged after those before it
 abbrev pub judged : List ObjectLine → List Record → List Judged
 judged table [] = []
-judged table (applied ∷ before) = judgement_of table (judged table before) applied ∷ judged table before
+judged table (applied ∷ before) =
+    judgement_of table (judged table before) applied ∷ judged table before
 
 -- the judged records, newest first, of records in their order
 abbrev pub history_of : List ObjectLine → List Record → List Judged

@@ -13,4 +13,5 @@ is_padded name = (slice_index name 0 == 32) || (slice_index name (length name - 
 
 -- a name of at most this many bytes
 abbrev pub is_name : ℕ → List ℕ → Bool
-is_name most name = not (length name == 0) && nat_le (length name) most && not (is_padded name) && not (list_any is_barred name)
+is_name most name =
+    not (length name == 0) && nat_le (length name) most && not (is_padded name) && not (list_any is_barred name)

@@ -52,7 +52,9 @@ state_of_code Service (negsuc below) = Unknown
 -- the check result that the event is, if it is one of the object at this place
 abbrev pub check_result_of : ℕ → ObjectEvent → Option CheckResult
 check_result_of object (Result place state moment log_index) =
-    if place == object then Some (record { state = state; moment = moment; log_index = log_index }) else None
+    if place == object
+    then Some (record { state = state; moment = moment; log_index = log_index })
+    else None
 
 -- the accepted results of the object, newest first
 abbrev pub results_of : ℕ → List ObjectEvent → List CheckResult

@@ -44,7 +44,8 @@ object_at kind place = record { place = place; kind = kind }
 
 -- the object of these names
 abbrev pub object_of : List ObjectLine → List ℕ → Option (List ℕ) → Option ObjectId
-object_of table host service = option_map (object_at (object_kind service)) (place_of table host service)
+object_of table host service =
+    option_map (object_at (object_kind service)) (place_of table host service)
 
 -- ---- faults of a list of lines
 

@@ -50,7 +50,8 @@ fn service_key(host: &[u8], service: &[u8]) -> Option<Key>
 
 /// The key of an object's names. Names that are longer than any of a table have none.
 pub fn key_of(host: &[u8], service: Option<&[u8]>) -> Option<Key>
-    ensures value { IfSome result (λ key. key.items ≡ key_of host.now (option_copied service.entry)) }
+    ensures value { IfSome result (λ key.
+        key.items ≡ key_of host.now (option_copied service.entry)) }
     ensures short { is_some result ≡ is_short host.now (option_copied service.entry) }
 {
     match service {

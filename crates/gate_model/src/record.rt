@@ -36,7 +36,7 @@ pub enum Outcome {
     NoSuchComment,
     /// No live downtime entry has that number.
     NoSuchDowntime,
-    /// The comment or downtime entry is of a host where a service was named, or the other way round.
+    /// The comment or downtime entry is of a host and a service's was named, or the reverse.
     WrongKind,
     /// There is no problem to acknowledge.
     NoProblem,

@@ -28,8 +28,8 @@ pub enum State {
 impl State {
     /// Returns the state that a return code means for an object of that kind.
     ///
-    /// Source: Nagios Core 4 manual, Passive Checks. Own rule: an unknown code, also one below 0, is
-    /// a service's UNKNOWN and a host's DOWN.
+    /// Source: Nagios Core 4 manual, Passive Checks. Own rule: an unknown code, also one below 0,
+    /// is a service's UNKNOWN and a host's DOWN.
     pub fn of_code(kind: Kind, code: i16) -> State
         ensures { result ≡ state_of_code kind code }
     {

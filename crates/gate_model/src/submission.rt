@@ -5,9 +5,9 @@ use crate::object::Kind;
 use crate::record::Moment;
 use crate::text::Text;
 
-/// What a client hands in: one variant for each external command, or pair of commands for a host and
-/// a service (External Command List). A host's form names no service. Numbers are kept as they were
-/// sent.
+/// A submission: what a client hands in. There is one variant for each external command, or pair of
+/// commands for a host and a service (External Command List). A host's form names no service.
+/// Numbers are kept as they were sent.
 #[derive(Debug, Drop, PartialEq)]
 pub enum Body {
     /// A passive check result (Nagios Core 4 manual, Passive Checks).
@@ -15,7 +15,7 @@ pub enum Body {
         host: Text,
         /// The service's name. A host's result has none.
         service: Option<Text>,
-        /// The return code as it was sent.
+        /// The return code, as it was sent.
         code: i16,
         /// The plugin's output, performance data included.
         output: Text,
@@ -32,7 +32,7 @@ pub enum Body {
     /// DEL_HOST_COMMENT, DEL_SVC_COMMENT.
     DelComment {
         kind: Kind,
-        /// The comment's number, from 1.
+        /// The number of the comment, from 1.
         id: u32,
     },
     /// DEL_ALL_HOST_COMMENTS, DEL_ALL_SVC_COMMENTS.
@@ -46,7 +46,7 @@ pub enum Body {
         service: Option<Text>,
         /// 2 means sticky, any other number normal.
         sticky: u32,
-        /// Read, and of no effect: nobody is notified.
+        /// It has no effect: nobody is notified.
         notify: u32,
         /// Any number but 0 means that the comment is persistent.
         persistent: u32,
@@ -66,7 +66,7 @@ pub enum Body {
         ends: Moment,
         /// 1 means fixed, any other number flexible.
         fixed: u32,
-        /// The number of the entry that starts this one, or 0.
+        /// The number of the downtime entry that triggers this one, or 0.
         trigger: u32,
         /// How many seconds a flexible entry lasts.
         lasts: u32,
@@ -76,7 +76,7 @@ pub enum Body {
     /// DEL_HOST_DOWNTIME, DEL_SVC_DOWNTIME.
     DelDowntime {
         kind: Kind,
-        /// The downtime entry's number, from 1.
+        /// The number of the downtime entry, from 1.
         id: u32,
     },
     /// SHUTDOWN_PROGRAM.
@@ -92,12 +92,12 @@ impl Body {
     }
 }
 
-/// A submission that was queued.
+/// An item: a submission with its client and its number.
 #[derive(Debug, Drop, PartialEq)]
 pub struct Numbered {
-    /// The client's number, from 1.
+    /// The number of the client, from 1.
     pub client: u32,
-    /// The submission's number among those of its client, from 1.
+    /// The number of the submission among those of its client, from 1.
     pub number: u64,
     pub body: Body,
 }

@@ -31,6 +31,8 @@ pub const SERVICE_NAME: usize = 127;
 
 /// Why lines are no table: what is wrong with the first faulty line, which is given by its number,
 /// from 1. The faults of one line are tested in this order. Own rule.
+///
+/// It is shown as a short phrase, for example "line 3: a host of that name stands before it".
 #[derive(Clone, Copy, Debug, PartialEq, Eq)]
 pub enum TableFault {
     /// A name is empty or too long (a host's has at most 63 bytes, a service's 127), begins or ends
@@ -42,8 +44,8 @@ pub enum TableFault {
     DuplicateHost(u32),
     /// A service of that name, of the same host, is before it.
     DuplicateService(u32),
-    /// It is the 1,025th host, or the 1,025th service of its host. Line 0 stands for the whole list:
-    /// it has more than 16,384 lines.
+    /// It is the 1,025th host, or the 1,025th service of its host. Line 0 stands for the whole
+    /// list, which has more than 16,384 lines.
     TooMany(u32),
     OutOfMemory,
 }
@@ -53,7 +55,7 @@ impl fmt::Display for TableFault {
         match self {
             TableFault::BadName(line) => write!(
                 f,
-                "line {line}: bad name: empty, too long, or with a semicolon, a control byte or a space at an end"
+                "line {line}: a name is empty or too long, has a space at an end, or contains a `;` or a control byte"
             ),
             TableFault::NoSuchHost(line) => {
                 write!(f, "line {line}: no host of that name stands before it")

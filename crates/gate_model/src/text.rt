@@ -6,7 +6,7 @@ ghost use Rattle.std.specs.Cmp.Lexicographic.{nat_list_eq_equiv};
 use std::alloc::{AllocError, Global};
 use std::marker::Model;
 
-/// The bytes of a name, of an output or of a comment. Any bytes are allowed, also such as are not UTF-8.
+/// The bytes of a name, an output or a comment. Any bytes are allowed, UTF-8 or not.
 #[derive(Debug, Drop)]
 pub struct Text {
     bytes: Vec<u8>,

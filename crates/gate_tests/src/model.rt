@@ -106,7 +106,7 @@ fn the_later_of_two_moments_is_the_greater(rt: HostRuntime) {
 
 #[rattlefmt::skip]
 const TEXTS: [(TableFault, &str); 7] = [
-    (TableFault::BadName(1), "line 1: bad name: empty, too long, or with a semicolon, a control byte or a space at an end"),
+    (TableFault::BadName(1), "line 1: a name is empty or too long, has a space at an end, or contains a `;` or a control byte"),
     (TableFault::NoSuchHost(2), "line 2: no host of that name stands before it"),
     (TableFault::DuplicateHost(3), "line 3: a host of that name stands before it"),
     (TableFault::DuplicateService(4), "line 4: a service of that name, of the same host, stands before it"),

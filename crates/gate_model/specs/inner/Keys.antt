@@ -1,5 +1,5 @@
--- Only proofs and private functions use these definitions: by which bytes the table finds an object.
--- Each pair of names has one key.
+-- Only proofs and private functions use these definitions: by which bytes an object is found. Each
+-- pair of names has one key.
 use Rattle.std.specs.Prelude.{◌≡◌, ℕ, ◌+◌, Bool, true, ◌&&◌, nat_le, List, ◌∷◌, ◌++◌, length, map, Option, Some, None}
 use Rattle.std.specs.List.{list_all}
 use Rattle.gate_model.specs.declared.object.ObjectLine.{ObjectLine}

@@ -14,13 +14,15 @@ abbrev pub count_at : List ℕ → Option ℕ → ℕ
 count_at counts None = 0
 count_at counts (Some place) = slice_index counts place
 
--- these are the keys of the lines, how many hosts there are, and at each host's place how many services it has
-pub record AreKeysAndCounts (lines : List ObjectLine) (keys : List (List ℕ)) (hosts : ℕ) (services : List ℕ) : Type 0 where
+-- the keys of the lines, the number of hosts, and at each host's place the number of its services
+pub record AreKeysAndCounts (lines : List ObjectLine) (keys : List (List ℕ)) (hosts : ℕ) (services : List ℕ)
+    : Type 0 where
   pub keys_are : keys ≡ map line_key lines
   pub short : list_all is_short_line lines ≡ true
   pub hosts_are : hosts ≡ count_by is_host_line lines
   pub one_each : length services ≡ length lines
-  pub services_are : (host : List ℕ) → count_at services (place_of lines host None) ≡ count_by (is_service_line_of host) lines
+  pub services_are : (host : List ℕ)
+      → count_at services (place_of lines host None) ≡ count_by (is_service_line_of host) lines
 
 -- the builder keeps the keys and the counts of these lines
 abbrev pub TracksLines : List ObjectLine → TableBuilder → Type 0
