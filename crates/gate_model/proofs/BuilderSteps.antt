@@ -85,13 +85,13 @@ pub record IsServiceLine (lines : List ObjectLine) (i : ℕ) (line : ObjectLine)
   pub named : is_named line ≡ true
   pub service_is : line.service ≡ Some service
 
--- a host's line, as the check of it is given it
+-- a host's line, from what `add_host` requires
 pub host_line : (lines : List ObjectLine) (i : ℕ) (line : ObjectLine) → i < length lines → line ≡ get_or lines i line → IfSome (slice_get lines i) (λ l. (is_named l ≡ true) × (l.service ≡ None)) → IsHostLine lines i line
 host_line lines i line lt there h =
     let f = subst (λ (o : Option ObjectLine). IfSome o (λ l. (is_named l ≡ true) × (l.service ≡ None))) (line_there lines i line lt there) h in
     record { within = lt; there = there; named = f.0; service_is = f.1 }
 
--- a service's line, as the check of it is given it
+-- a service's line, from what `add_service` requires
 pub service_line : (lines : List ObjectLine) (i : ℕ) (line : ObjectLine) (service : List ℕ) → i < length lines → line ≡ get_or lines i line → IfSome (slice_get lines i) (λ l. (is_named l ≡ true) × (l.service ≡ Some service)) → IsServiceLine lines i line service
 service_line lines i line service lt there h =
     let f = subst (λ (o : Option ObjectLine). IfSome o (λ l. (is_named l ≡ true) × (l.service ≡ Some service))) (line_there lines i line lt there) h in

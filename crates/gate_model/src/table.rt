@@ -155,6 +155,8 @@ impl ObjectTable {
     pub fn find_service(&self, host: &[u8], service: &[u8]) -> Option<ObjectId>
         ensures value { result ≡ object_of self.now host.now (Some service.now) }
         ensures within { IfSome result (λ object. object.place < length self.now) }
+
+        // The host of a service that is found is in the table too.
         ensures host { IfSome result (λ _. has_object self.now host.now None ≡ true) }
     {
         match self.place(host, Some(service)) {
