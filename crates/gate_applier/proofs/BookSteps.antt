@@ -13,8 +13,8 @@ use Rattle.gate_model.specs.declared.record.Outcome.{Outcome}
 use Rattle.gate_model.specs.declared.record.Outcome.TheVariants.{Accepted}
 use Rattle.gate_model.specs.Meaning.{Judged, judgement_of, object_event_of, object_events, outcome_at}
 use Rattle.gate_applier.specs.declared.books.Books.{Books}
-use Rattle.gate_applier.specs.Taken.{is_taken}
-use Rattle.gate_applier.specs.Standing.{BooksStand, BooksFollow}
+use Rattle.gate_applier.specs.Applier.{is_supported}
+use Rattle.gate_applier.specs.inner.Books.{BooksStand, BooksFollow}
 
 state-set-cases : {A : Type 0} (xs : List A) (place object : ℕ) (x other : A) → place < length xs
     → (((place == object) ≡ true) × (place ≡ object)) ⊎ (((place == object) ≡ false) × (place ≢ object))
@@ -36,12 +36,12 @@ pub unwrap_or-slice_get-slice_set : {A : Type 0} (xs : List A) (place object : �
 unwrap_or-slice_get-slice_set xs place object x other within = state-set-cases xs place object x other within (eqb_tells place object)
 
 -- books that follow a body follow any other that is the same to the objects
-pub follow-same : (table : List ObjectLine) (body : Body) {told : Body} (outcome : Outcome) (old new : Books)
-    → BooksFollow table told outcome old new
-    → ((moment : Moment) (log_place : ℕ) → object_event_of table moment log_place told ≡ object_event_of table moment log_place body)
+pub follow-same : (table : List ObjectLine) (body : Body) {other : Body} (outcome : Outcome) (old new : Books)
+    → BooksFollow table other outcome old new
+    → ((moment : Moment) (log_index : ℕ) → object_event_of table moment log_index other ≡ object_event_of table moment log_index body)
     → BooksFollow table body outcome old new
 follow-same table body outcome old new follow same = record {
-  objects = λ history moment log_place keeps. rw (same moment log_place) at (follow.objects history moment log_place keeps);
+  objects = λ history moment log_index keeps. rw (same moment log_index) at (follow.objects history moment log_index keeps);
 }
 
 -- books that stand after judged records, and follow one more, stand after it too
@@ -53,22 +53,22 @@ stand-judged table before applied outcome old new is follow stands = record {
   objects = rw is at (follow.objects (object_events table before) applied.moment (length before) stands.objects);
 }
 
--- a body that is taken and is no result is a shutdown
-pub taken-other : (body : Body) → IsTrue (is_taken body)
+-- a body that is supported and is no result is a shutdown
+pub supported-other : (body : Body) → IsTrue (is_supported body)
     → ((host : List ℕ) (service : Option (List ℕ)) (code : ℤ) (output : List ℕ) → body ≡ bodies.Result host service code output → ⊥)
     → body ≡ bodies.Shutdown
-taken-other (bodies.Result host service code output) taken other = absurd (other host service code output refl)
-taken-other (bodies.AddComment host service persistent author text) taken other = absurd cc
-taken-other (bodies.DelComment kind id) taken other = absurd cc
-taken-other (bodies.DelAllComments host service) taken other = absurd cc
-taken-other (bodies.Acknowledge host service sticky notify persistent author text) taken other = absurd cc
-taken-other (bodies.RemoveAck host service) taken other = absurd cc
-taken-other (bodies.Schedule host service starts ends fixed trigger lasts author text) taken other = absurd cc
-taken-other (bodies.DelDowntime kind id) taken other = absurd cc
-taken-other bodies.Shutdown taken other = refl
+supported-other (bodies.Result host service code output) supported other = absurd (other host service code output refl)
+supported-other (bodies.AddComment host service persistent author text) supported other = absurd cc
+supported-other (bodies.DelComment kind id) supported other = absurd cc
+supported-other (bodies.DelAllComments host service) supported other = absurd cc
+supported-other (bodies.Acknowledge host service sticky notify persistent author text) supported other = absurd cc
+supported-other (bodies.RemoveAck host service) supported other = absurd cc
+supported-other (bodies.Schedule host service starts ends fixed trigger lasts author text) supported other = absurd cc
+supported-other (bodies.DelDowntime kind id) supported other = absurd cc
+supported-other bodies.Shutdown supported other = refl
 
 -- books that stand follow a shutdown as they are
 pub follow-shutdown : (table : List ObjectLine) (body : Body) (books : Books) → body ≡ bodies.Shutdown → BooksFollow table body Accepted books books
 follow-shutdown table body books is =
-    follow-same table body {told = bodies.Shutdown} Accepted books books (record { objects = λ history moment log_place keeps. keeps })
-    (λ moment log_place. ap (object_event_of table moment log_place) (sym is))
+    follow-same table body {other = bodies.Shutdown} Accepted books books (record { objects = λ history moment log_index keeps. keeps })
+    (λ moment log_index. ap (object_event_of table moment log_index) (sym is))

@@ -1,6 +1,3 @@
-mod ScriptRows
 pub mod BookSteps
-pub mod ScriptSteps
-pub mod ReplaySteps
-pub mod ReplayEnds
-pub mod ReplayTexts
+pub mod RoomSteps
+pub mod EscapeSteps

@@ -1,12 +1,3 @@
-pub mod Taken
-pub mod View
-pub mod Standing
-pub mod Parts
-pub mod LogPage
-pub mod Lines
-pub mod ScriptLine
-pub mod Script
-pub mod ScriptParts
-pub mod Faults
-pub mod Replay
-pub mod ReplayParts
+pub mod inner
+pub mod Applier
+pub mod Page

@@ -1,75 +1,114 @@
-ghost use Rattle.std.specs.Prelude.{◌≡◌, ◌≤◌, length, false, IsTrue, IfOk, IfErr, IsErrAnd};
+ghost use Rattle.std.specs.Prelude.{◌≡◌, ◌<◌, ◌≤◌, ◌+◌, length, max, vec_len, vec_capacity, false, IsTrue, IsOk, IfOk, IfErr, IsOkAnd, IsErrAnd, OnOk, OnErr};
 ghost use Rattle.gate_model.specs.Record.{AreInOrder};
 ghost use Rattle.gate_model.specs.Meaning.{outcomes_of, state_at};
 ghost use Rattle.gate_applier.specs.declared.applier.OpenCause.TheVariants.{BadLimit};
 ghost use Rattle.gate_applier.specs.declared.applier.PrepareCause.TheVariants.{LogFull};
-ghost use Rattle.gate_applier.specs.Parts.{view_of, IsSound};
-ghost use Rattle.gate_applier.specs.View.{opened, is_limit};
+ghost use Rattle.gate_applier.specs.Applier.{opened, is_limit, is_supported};
 
-use crate::parts::Parts;
+use crate::books::Books;
 use crate::ready::Ready;
-use gate_model::{Moment, ObjectId, ObjectTable, Outcome, Record, State};
-use std::alloc::Global;
+use gate_model::{Body, Moment, ObjectId, ObjectTable, Outcome, Record, State};
+use std::alloc::{AllocError, Global};
+use std::fmt;
 use std::marker::Model;
+use thiserror::Error;
 
 /// The most records to which a log can be limited.
 pub const MOST_RECORDS: u32 = 1_000_000;
 
+/// Whether an applier supports the body so far: a check result, or a shutdown, which is accepted
+/// and has no effect.
+pub fn takes(body: &Body) -> bool
+    ensures { result ≡ is_supported body.now }
+{
+    matches!(body, Body::Result { .. } | Body::Shutdown)
+}
+
 /// The records that were applied, with their outcomes, and what they mean.
 ///
-/// Contracts see the table, the opening moment, the moment, the limit of the log, the records and
-/// their outcomes. All else that is shown follows from these records.
+/// Contracts see the table, the opening, the moment, the limit of the log, the records with their
+/// outcomes, and for how many more records there is room. All else that is shown follows from these
+/// records.
 #[derive(Drop)]
 pub struct Applier {
-    parts: Parts,
+    pub(crate) table: ObjectTable,
+    opening: Moment,
+    pub(crate) moment: Moment,
+    limit: u32,
+    pub(crate) records: Vec<Record>,
+    pub(crate) outcomes: Vec<Outcome>,
+    pub(crate) books: Books,
 }
 
 impl Model for Applier {
-    ghost use Rattle.gate_applier.specs.View.{ApplierView};
+    ghost use Rattle.gate_applier.specs.Applier.{ApplierView};
 
     ghost Value = { ApplierView };
 
-    ghost use Rattle.gate_applier.specs.Parts.{view_of, IsSound};
+    ghost use Rattle.gate_applier.specs.inner.Applier.{view_of, IsSound};
 
-    ghost view = { λ applier. view_of applier.parts };
+    ghost view = { view_of };
 
-    ghost invariant = { λ applier. IsSound applier.parts };
+    ghost invariant = { IsSound };
 }
 
 /// Why an applier isn't opened. They are tested in this order.
-#[derive(Clone, Copy, Debug, PartialEq, Eq)]
+#[derive(Clone, Copy, Debug, PartialEq, Eq, Error)]
 pub enum OpenCause {
     /// The limit is 0 or above 1,000,000.
+    #[error("log limit out of range: 1 to 1000000 records are allowed")]
     BadLimit,
+    #[error("out of memory")]
     OutOfMemory,
 }
 
 /// A refused opening: its cause, and the table as it was given.
-#[derive(Drop)]
+#[derive(Drop, Error)]
+#[error("{cause}")]
 pub struct OpenFault {
     pub cause: OpenCause,
     pub table: ObjectTable,
 }
 
+impl fmt::Debug for OpenFault {
+    fn fmt<W: fmt::Write>(&self, f: &mut fmt::Formatter<W>) -> fmt::Result {
+        f.debug_struct("OpenFault")
+            .field("cause", &self.cause)
+            .finish_non_exhaustive()
+    }
+}
+
 /// Why no further record can be applied. They are tested in this order.
-#[derive(Clone, Copy, Debug, PartialEq, Eq)]
+#[derive(Clone, Copy, Debug, PartialEq, Eq, Error)]
 pub enum PrepareCause {
     /// The records number the limit.
+    #[error("the log is full")]
     LogFull,
+    #[error("out of memory")]
     OutOfMemory,
 }
 
 /// A refused preparation: its cause, and the applier as it was.
-#[derive(Drop)]
+#[derive(Drop, Error)]
+#[error("{cause}")]
 pub struct PrepareFault {
     pub cause: PrepareCause,
     pub applier: Applier,
 }
 
+impl fmt::Debug for PrepareFault {
+    fn fmt<W: fmt::Write>(&self, f: &mut fmt::Formatter<W>) -> fmt::Result {
+        f.debug_struct("PrepareFault")
+            .field("cause", &self.cause)
+            .finish_non_exhaustive()
+    }
+}
+
 impl Applier {
-    /// An applier without records, opened at that moment, for a log of at most `limit` records.
+    /// Opens an applier without records at that moment, for a log of at most `limit` records.
     ///
-    /// A limit of 0 or above 1,000,000 is BadLimit, before want of memory. The table comes back.
+    /// BadLimit: the limit is 0 or above 1,000,000. OutOfMemory: memory for the state of each
+    /// object is missing. The fault has the table. Own rule.
     pub fn open(
         alloc: Global,
         table: ObjectTable,
@@ -90,9 +129,17 @@ impl Applier {
                 table,
             });
         }
-        match Parts::open(alloc, table, moment, limit) {
-            Ok(parts) => Ok(Applier { parts }),
-            Err(table) => Err(OpenFault {
+        match Books::open(alloc, table.len()) {
+            Ok(books) => Ok(Applier {
+                table,
+                opening: moment,
+                moment,
+                limit,
+                records: Vec::new(alloc),
+                outcomes: Vec::new(alloc),
+                books,
+            }),
+            Err(_) => Err(OpenFault {
                 cause: OpenCause::OutOfMemory,
                 table,
             }),
@@ -101,10 +148,14 @@ impl Applier {
 
     /// Makes room for one more record and all that it can add, so that applying it needs no memory.
     ///
-    /// It is LogFull exactly where the records number the limit, before want of memory. The applier
-    /// comes back.
+    /// LogFull: the records number the limit. OutOfMemory: memory is missing, and there is no room
+    /// left. The fault has the applier. Own rule.
     pub fn prepare(self) -> Result<Ready, PrepareFault>
-        ensures ready { IfOk result (λ ready. ready ≡ self) }
+        ensures ready { IfOk result (λ ready. ready ≡ record self { room = ready.room }) }
+        ensures room { IfOk result (λ ready. 1 ≤ ready.room) }
+        ensures modest { IfOk result (λ ready. ready.room ≤ max 16 (length self.records)) }
+        // Where there is room already, no memory is needed.
+        ensures has_room { 1 ≤ self.room → IsOkAnd result (λ ready. ready ≡ self) }
 
         ensures kept { IfErr result (λ fault. fault.applier ≡ self) }
         ensures log_full { length self.records ≡ self.limit
@@ -112,42 +163,50 @@ impl Applier {
         ensures only_log_full { IfErr result (λ fault.
             fault.cause ≡ LogFull → length self.records ≡ self.limit) }
     {
-        let mut parts = self.parts;
-        if parts.is_full() {
+        let mut applier = self;
+        if applier.records.len() == applier.limit as usize {
             return Err(PrepareFault {
                 cause: PrepareCause::LogFull,
-                applier: Applier { parts },
+                applier,
             });
         }
-        match parts.make_room() {
-            Ok(()) => Ok(Ready::from_parts(parts)),
+        match applier.make_room() {
+            Ok(()) => Ok(Ready { applier }),
             Err(_) => Err(PrepareFault {
                 cause: PrepareCause::OutOfMemory,
-                applier: Applier { parts },
+                applier,
             }),
         }
     }
 
-    /// The applier of these parts.
-    pub(crate) fn from_parts(parts: Parts) -> Applier
-        requires { IsSound parts }
-        ensures { result ≡ view_of parts }
+    /// Makes room for one record and its outcome, and where it needs memory, takes it for as many
+    /// as there are, for 16 at least, and for none past the limit.
+    fn make_room(&mut self) -> Result<(), AllocError>
+        requires { length self.old.records < self.old.limit }
+        ensures shown { self.new ≡ record self.old { room = self.new.room } }
+        ensures room { OnOk result (1 ≤ self.new.room) }
+        ensures modest { self.new.room ≤ max 16 (length self.old.records) }
+        ensures has_room { 1 ≤ self.old.room → IsOk result × (self.new ≡ self.old) }
+        ensures kept { OnErr result (self.new ≡ self.old) }
     {
-        Applier { parts }
+        let count = self.records.len();
+        let additional = count.max(16).min(self.limit as usize - count);
+        reserve(&mut self.records, additional)?;
+        reserve(&mut self.outcomes, additional)
     }
 
     /// The monitored objects.
     pub fn table(&self) -> &ObjectTable
         ensures { result.now ≡ self.now.table }
     {
-        &self.parts.table
+        &self.table
     }
 
     /// The moment at which the applier was opened.
     pub fn opening(&self) -> Moment
         ensures { result ≡ self.now.opening }
     {
-        self.parts.opening
+        self.opening
     }
 
     /// The latest moment so far: that of the opening, or of the last record.
@@ -155,7 +214,7 @@ impl Applier {
         ensures moment { result ≡ self.now.moment }
         ensures in_order { AreInOrder self.now.opening self.now.records self.now.moment }
     {
-        self.parts.moment
+        self.moment
     }
 
     /// The most records that the log takes: 1 to 1,000,000.
@@ -163,7 +222,7 @@ impl Applier {
         ensures limit { result ≡ self.now.limit }
         ensures within { IsTrue (is_limit result) }
     {
-        self.parts.limit
+        self.limit
     }
 
     /// The records, in the order in which they were applied. Refused ones are among them.
@@ -171,22 +230,41 @@ impl Applier {
         ensures records { result.now ≡ self.now.records }
         ensures few { length self.now.records ≤ self.now.limit }
     {
-        self.parts.records.as_slice()
+        self.records.as_slice()
     }
 
-    /// What came of each record.
+    /// The outcome of each record, in the order of the records.
     pub fn outcomes(&self) -> &[Outcome]
         ensures outcomes { result.now ≡ self.now.outcomes }
         ensures meaning { self.now.outcomes ≡ outcomes_of self.now.table self.now.records }
         ensures one_each { length self.now.outcomes ≡ length self.now.records }
     {
-        self.parts.outcomes.as_slice()
+        self.outcomes.as_slice()
     }
 
-    /// The state of an object, which is told by its place. It is PENDING at a place outside the table.
+    /// The state of the object at this place, whatever its kind is. It is PENDING at a place
+    /// outside the table. Nagios Core 4 manual, Passive Checks.
     pub fn state(&self, object: ObjectId) -> State
         ensures { result ≡ state_at self.now.table self.now.records object.place }
     {
-        self.parts.books.state(object.place)
+        self.books.state(object.place)
     }
+}
+
+/// Makes room at the end of a list that has none, for so many more.
+fn reserve<T>(list: &mut Vec<T>, additional: usize) -> Result<(), AllocError>
+    requires { 1 ≤ additional }
+    ensures items { list.new.items ≡ list.old.items }
+    ensures len { vec_len list.new ≡ vec_len list.old }
+    ensures room { OnOk result (vec_len list.new < vec_capacity list.new) }
+    ensures modest { vec_capacity list.new
+        ≤ max (vec_capacity list.old) (vec_len list.old + additional) }
+    ensures has_room { vec_len list.old < vec_capacity list.old
+        → IsOk result × (vec_capacity list.new ≡ vec_capacity list.old) }
+    ensures kept { OnErr result (vec_capacity list.new ≡ vec_capacity list.old) }
+{
+    if list.len() < list.capacity() {
+        return Ok(());
+    }
+    list.reserve_exact(additional)
 }

@@ -5,13 +5,14 @@ ghost use Rattle.gate_model.specs.declared.record.Outcome.TheVariants.{Accepted}
 ghost use Rattle.gate_model.specs.declared.state.ObjectEvent.{ObjectEvent};
 ghost use Rattle.gate_model.specs.declared.state.ObjectEvent.TheVariants.{Result as ResultEvent};
 ghost use Rattle.gate_model.specs.Meaning.{Judged, judgement_of, outcome_for, outcome_at};
-ghost use Rattle.gate_applier.specs.Taken.{is_taken};
-ghost use Rattle.gate_applier.specs.Standing.{kept_state, BooksKeep, BooksStand, BooksFollow};
+ghost use Rattle.gate_applier.specs.Applier.{is_supported};
+ghost use Rattle.gate_applier.specs.inner.Books.{kept_state, BooksKeep, BooksStand, BooksFollow};
 
 use gate_model::{Body, ObjectId, ObjectTable, Outcome, Record, State, Text, find_object};
 use std::alloc::{AllocError, Global};
 
-/// What the judged records leave, kept so that it is answered and followed without a scan.
+/// What the judged records leave, kept so that no question and no further record needs a scan of
+/// the log.
 #[derive(Drop)]
 pub struct Books {
     /// The state of each object of the table, by its place.
@@ -19,7 +20,7 @@ pub struct Books {
 }
 
 impl Books {
-    /// The books of so many objects, before any record.
+    /// Opens the books of so many objects, before any record. It fails only where memory runs out.
     pub fn open(alloc: Global, objects: usize) -> Result<Books, AllocError>
         ensures count { IfOk result (λ books. length books.states.items ≡ objects) }
         ensures keep { IfOk result (λ books. BooksKeep [] books) }
@@ -39,10 +40,10 @@ impl Books {
         }
     }
 
-    /// Judges a record after those before it, and follows it where it is accepted.
+    /// Judges a record after those before it, and where it is accepted keeps what it changes.
     pub fn judge(&mut self, table: &ObjectTable, applied: &Record) -> Outcome
         requires objects { length self.old.states.items ≡ length table.now }
-        requires taken { IsTrue (is_taken applied.now.item.body) }
+        requires supported { IsTrue (is_supported applied.now.item.body) }
         ensures outcome { (before : List Judged) → BooksStand table.now before self.old
             → let body = applied.now.item.body in
             result ≡ outcome_at table.now before applied.now.moment body }
@@ -58,12 +59,12 @@ impl Books {
                 code,
                 ..
             } => self.judge_result(table, host, service, *code),
-            // Of the other bodies only a shutdown is taken.
+            // Of the other bodies only a shutdown is supported.
             _ => Outcome::Accepted,
         }
     }
 
-    /// A passive check result.
+    /// Judges a passive check result, and where it is accepted keeps the state that it leaves.
     fn judge_result(
         &mut self,
         table: &ObjectTable,
@@ -81,18 +82,18 @@ impl Books {
         match find_object(table, host, service) {
             Err(refusal) => refusal,
             Ok(object) => {
-                self.take_result(object, State::of_code(object.kind, code));
+                self.keep_state(object, State::of_code(object.kind, code));
                 Outcome::Accepted
             }
         }
     }
 
-    /// A result of an object of the table.
-    fn take_result(&mut self, object: ObjectId, state: State)
+    /// Keeps the state that an accepted result leaves an object of the table in.
+    fn keep_state(&mut self, object: ObjectId, state: State)
         requires { object.place < length self.old.states.items }
-        ensures keeps { (history : List ObjectEvent) (moment : Moment) (log_place : ℕ)
+        ensures keeps { (history : List ObjectEvent) (moment : Moment) (log_index : ℕ)
             → BooksKeep history self.old
-            → BooksKeep (ResultEvent object.place state moment log_place ∷ history) self.new }
+            → BooksKeep (ResultEvent object.place state moment log_index ∷ history) self.new }
         ensures count { length self.new.states.items ≡ length self.old.states.items }
     {
         self.states[object.place as usize] = state;

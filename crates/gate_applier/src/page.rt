@@ -1,8 +1,7 @@
-ghost use Rattle.std.specs.Prelude.{◌≡◌, ◌++◌, ◌<◌, length, IfOk, OnOk};
-ghost use Rattle.std.specs.List.{flat_map};
-ghost use Rattle.gate_applier.specs.LogPage.{name_of, escaped_byte, stamp_of, line_of, page_of};
+ghost use Rattle.std.specs.Prelude.{◌≡◌, ◌++◌, ◌<◌, length, position, IfOk, IfSome, OnOk};
+ghost use Rattle.gate_applier.specs.Page.{outcome_name, is_escaped, escape_of, escaped, stamp_of, log_line, log_text};
 
-use gate_grammar::write_body;
+use gate_grammar::push_body;
 use gate_model::{Outcome, Record, push_number};
 use std::alloc::{AllocError, Global};
 
@@ -10,7 +9,7 @@ const HEX: [u8; 16] = *b"0123456789abcdef";
 
 /// The name by which a page shows an outcome.
 pub fn outcome_name(outcome: Outcome) -> &'static [u8]
-    ensures { result.now ≡ name_of outcome }
+    ensures { result.now ≡ outcome_name outcome }
 {
     match outcome {
         Outcome::Accepted => b"Accepted",
@@ -27,44 +26,45 @@ pub fn outcome_name(outcome: Outcome) -> &'static [u8]
     }
 }
 
-fn push_escaped_byte(out: &mut Vec<u8>, byte: u8) -> Result<(), AllocError>
-    ensures { OnOk result (out.new.items ≡ out.old.items ++ escaped_byte byte) }
+/// Whether a page shows the byte by an escape.
+fn is_escaped(byte: u8) -> bool
+    ensures { result ≡ is_escaped byte }
+{
+    byte == b'\\' || byte < 0x20 || byte == 0x7f
+}
+
+/// Appends the escape of a byte that has one.
+fn push_escape(out: &mut Vec<u8>, byte: u8) -> Result<(), AllocError>
+    ensures { OnOk result (out.new.items ≡ out.old.items ++ escape_of byte) }
 {
     if byte == b'\\' {
         out.extend_from_slice(b"\\\\")
-    } else if byte < 0x20 || byte == 0x7f {
+    } else {
         let high = HEX[(byte / 16) as usize];
         let low = HEX[(byte % 16) as usize];
         out.extend_from_slice(&[b'\\', b'x', high, low])
-    } else {
-        out.extend_from_slice(&[byte])
     }
 }
 
-/// Appends a text as a page shows it.
+/// The index of the first byte that has an escape.
+fn first_escaped(text: &[u8]) -> Option<usize>
+    ensures first { result ≡ position is_escaped text.now }
+    ensures within { IfSome result (λ index. index < length text.now) }
+{
+    text.iter().position(|byte| is_escaped(*byte))
+}
+
+/// Appends a text as a page shows it, each run of bytes without an escape at once.
 fn push_escaped(out: &mut Vec<u8>, text: &[u8]) -> Result<(), AllocError>
-    ensures { OnOk result (out.new.items ≡ out.old.items ++ flat_map escaped_byte text.now) }
+    ensures { OnOk result (out.new.items ≡ out.old.items ++ escaped text.now) }
 {
-    for byte in text {
-        push_escaped_byte(out, *byte)?;
+    let mut rest = text;
+    while let Some(run) = first_escaped(rest) {
+        out.extend_from_slice(&rest[..run])?;
+        push_escape(out, rest[run])?;
+        rest = &rest[run + 1..];
     }
-    Ok(())
-}
-
-fn push_line(
-    alloc: Global,
-    out: &mut Vec<u8>,
-    record: &Record,
-    outcome: Outcome,
-) -> Result<(), AllocError>
-    ensures { OnOk result (out.new.items ≡ out.old.items ++ line_of («record».now, outcome)) }
-{
-    let text = write_body(alloc, &record.item.body)?;
-    push_stamp(out, record)?;
-    push_escaped(out, &text)?;
-    out.extend_from_slice(b" -> ")?;
-    out.extend_from_slice(outcome_name(outcome))?;
-    out.extend_from_slice(b"\n")
+    out.extend_from_slice(rest)
 }
 
 /// Appends a record's moment, its client and its number, and a space.
@@ -80,21 +80,40 @@ fn push_stamp(out: &mut Vec<u8>, record: &Record) -> Result<(), AllocError>
     out.extend_from_slice(b" ")
 }
 
-/// The log page: the number of records, then a line for each record in order, with its outcome.
-/// Only want of memory refuses it.
+/// Appends the line of a record. What `body` holds is replaced by the text of the record's body.
+fn push_line(
+    out: &mut Vec<u8>,
+    body: &mut Vec<u8>,
+    record: &Record,
+    outcome: Outcome,
+) -> Result<(), AllocError>
+    ensures { OnOk result (out.new.items ≡ out.old.items ++ log_line («record».now, outcome)) }
+{
+    body.clear();
+    push_body(body, &record.item.body)?;
+    push_stamp(out, record)?;
+    push_escaped(out, body)?;
+    out.extend_from_slice(b" -> ")?;
+    out.extend_from_slice(outcome_name(outcome))?;
+    out.extend_from_slice(b"\n")
+}
+
+/// Writes the log page: the number of records, then a line for each record in order, with its
+/// outcome. It fails only where memory runs out. Own rule.
 pub fn log_page(
     alloc: Global,
     records: &[Record],
     outcomes: &[Outcome],
 ) -> Result<Vec<u8>, AllocError>
     requires { length records.now ≡ length outcomes.now }
-    ensures { IfOk result (λ page. page.items ≡ page_of records.now outcomes.now) }
+    ensures { IfOk result (λ page. page.items ≡ log_text records.now outcomes.now) }
 {
     let mut page = Vec::from_slice(alloc, b"log ")?;
     push_number(&mut page, records.len() as u64)?;
     page.extend_from_slice(b"\n")?;
-    for (place, record) in records.iter().enumerate() {
-        push_line(alloc, &mut page, record, outcomes[place])?;
+    let mut body = Vec::new(alloc);
+    for (index, record) in records.iter().enumerate() {
+        push_line(&mut page, &mut body, record, outcomes[index])?;
     }
     Ok(page)
 }

@@ -1,16 +1,11 @@
-//! Tests of the libraries that need no private item. The crate has no code of its own.
+//! Tests of the libraries through their public items: the happy path of each call, and devices that fail.
 #![tactic(auto)]
 
+#[cfg(test)]
+mod applier;
 #[cfg(test)]
 mod machine;
-//! Tests of the libraries from outside: what no clause of theirs says.
-//! Tests of the libraries through their public items.
-#![tactic(auto)]
-
-#[cfg(test)]
-mod packet;
-//! Tests of the gateway's crates through their public items.
-#![tactic(auto)]
-
 #[cfg(test)]
 mod model;
+#[cfg(test)]
+mod packet;

@@ -1,7 +1,9 @@
-use Rattle.std.proofs.Common.{◌≡◌, ◌++◌, drop}
-use Rattle.std.specs.List.{flat_map}
-use Rattle.gate_applier.specs.LogPage.{escaped_byte}
+use Rattle.std.proofs.Common.{◌≡◌, ◌++◌, length}
+use Rattle.gate_applier.specs.Page.{escaped}
 use Rattle.gate_applier.proofs.page.push_escaped.Given as goal
 
-abbrev pub invariant-loop-byte : goal.invariant-loop-byte
-invariant-loop-byte l = l.out.items ++ flat_map escaped_byte (drop l.byte-index l.text) ≡ l.fn.out.items ++ flat_map escaped_byte l.text
+abbrev pub invariant-loop-run : goal.invariant-loop-run
+invariant-loop-run l = l.out.items ++ escaped l.rest ≡ l.fn.out.items ++ escaped l.fn.text
+
+abbrev pub decreases-loop-run : goal.decreases-loop-run
+decreases-loop-run l = length l.rest

@@ -4,4 +4,4 @@ use Rattle.gate_applier.proofs.applier.Applier.outcomes.Goals as goal
 
 pub returns-clause-one_each : goal.returns-clause-one_each
 returns-clause-one_each c =
-    rw (← c.self.view_is) (ap length c.self.invariant.outcomes_are ∙ length-outcomes_of c.self.inside.parts.table c.self.inside.parts.records.items)
+    rw (← c.self.view_is) (ap length c.self.invariant.outcomes_are ∙ length-outcomes_of c.self.inside.table c.self.inside.records.items)

@@ -1,0 +1,21 @@
+-- What the memory for a list is after it is taken, and after one more element.
+use Rattle.std.proofs.Common.{◌≡◌, ℕ, ◌+◌, ◌-◌, ◌≤◌, arith}
+use Rattle.std.specs.Prelude.{min, max}
+use Rattle.gate_applier.specs.inner.Applier.{IsModest}
+
+-- memory is taken for as many again, or 16, and for none past the limit
+pub modest-grown : (limit count capacity additional grown : ℕ) → IsModest limit count capacity → count ≤ limit
+    → additional ≡ min (max count 16) (limit - count)
+    → grown ≤ max capacity (count + additional)
+    → IsModest limit count grown
+modest-grown limit count capacity additional grown is few more taken = record {
+  within_limit = omega (arith, is.within_limit, is.modest);
+  modest = omega (arith, is.within_limit, is.modest);
+}
+
+-- one more element
+pub modest-pushed : (limit count capacity : ℕ) → IsModest limit count capacity → IsModest limit (count + 1) capacity
+modest-pushed limit count capacity is = record {
+  within_limit = is.within_limit;
+  modest = omega (arith, is.modest);
+}

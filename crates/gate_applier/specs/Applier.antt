@@ -1,0 +1,41 @@
+-- What an applier shows. Own rules: the limits of a log, and which bodies are supported so far.
+use Rattle.std.specs.Prelude.{ℕ, Bool, true, false, ◌&&◌, nat_le, List, []}
+use Rattle.gate_model.specs.declared.record.Moment.{Moment}
+use Rattle.gate_model.specs.declared.object.ObjectLine.{ObjectLine}
+use Rattle.gate_model.specs.declared.submission.Body.{Body}
+use Rattle.gate_model.specs.declared.submission.Body.TheVariants.{Result, Shutdown}
+use Rattle.gate_model.specs.declared.record.Record.{Record}
+use Rattle.gate_model.specs.declared.record.Outcome.{Outcome}
+
+-- what an applier shows: what it was opened with, its moment, the records that were applied with
+-- their outcomes, and how many more records it can take with no more memory
+pub record ApplierView : Type 0 where
+  pub table : List ObjectLine
+  pub opening : Moment
+  pub moment : Moment
+  pub limit : ℕ
+  pub records : List Record
+  pub outcomes : List Outcome
+  pub room : ℕ
+
+-- a log may be limited to so many records
+abbrev pub is_limit : ℕ → Bool
+is_limit limit = nat_le 1 limit && nat_le limit 1000000
+
+-- an applier that was opened at this moment, and has no record yet
+abbrev pub opened : List ObjectLine → Moment → ℕ → ApplierView
+opened table moment limit = record {
+  table = table;
+  opening = moment;
+  moment = moment;
+  limit = limit;
+  records = [];
+  outcomes = [];
+  room = 0;
+}
+
+-- an applier supports the body: a check result, or a shutdown, which has no effect
+abbrev pub is_supported : Body → Bool
+is_supported (Result host service code output) = true
+is_supported Shutdown = true
+is_supported _ = false
