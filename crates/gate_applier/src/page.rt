@@ -1,8 +1,8 @@
 ghost use Rattle.std.specs.Prelude.{◌≡◌, ◌++◌, ◌<◌, length, position, IfOk, IfSome, OnOk};
 ghost use Rattle.gate_applier.specs.Page.{outcome_name, is_escaped, escape_of, escaped, stamp_of, log_line, log_text};
 
-use gate_grammar::push_body;
-use gate_model::{Outcome, Record, push_number};
+use gate_grammar::{push_body, push_number};
+use gate_model::{Outcome, Record};
 use std::alloc::{AllocError, Global};
 
 const HEX: [u8; 16] = *b"0123456789abcdef";

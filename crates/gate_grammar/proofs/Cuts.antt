@@ -1,4 +1,4 @@
--- Parts of a line: what stands before a byte, and the blanks at the end.
+-- Cuts of a line: what stands before a byte, and the blanks at the end.
 use Rattle.std.proofs.Common.{◌≡◌, ℕ, zero, suc, ◌+◌, ◌-◌, ◌<◌, ◌⊎◌, inl, inr, Bool, true, false, List, [], ◌∷◌, ◌++◌, length, get_or, ◌==◌, ◌||◌, refl, sym, ap, ◌∙◌, arith}
 use Rattle.std.specs.List.{list_all, position_or_len, suffix_len}
 use Rattle.std.proofs.lemmas.Bool.{cases_Bool, eqb-true, eq-eqb, or_parts, and_from, and_parts}
@@ -8,7 +8,7 @@ use Rattle.std.proofs.Math.ListN.{get_or-append}
 use Rattle.bstr.specs.Bytes.{is_in}
 use Rattle.gate_grammar.specs.Spelling.{is_blank, holds, ends_in_blank}
 use Rattle.gate_grammar.specs.Faults.{Begins}
-use Rattle.gate_grammar.specs.Reading.{text_before, text_from, without_blanks}
+use Rattle.gate_grammar.specs.Parsing.{text_before, text_from, without_blanks}
 
 -- ---- up to a byte
 
@@ -35,19 +35,19 @@ pub from_begins : (mark : ℕ) (text : List ℕ) → Begins mark (text_from mark
 from_begins mark [] = tt
 from_begins mark (byte ∷ text) = from_begins_step mark byte text (from_begins mark text) (cases_Bool (byte == mark))
 
--- the mark is found behind a text that doesn't hold it
-mark_place : (mark : ℕ) (text rest : List ℕ) → holds mark text ≡ false → Begins mark rest → position_or_len (λ byte. byte == mark) (text ++ rest) ≡ length text
-mark_place mark [] [] clean begins = refl
-mark_place mark [] (byte ∷ rest) clean begins = rw (eq-eqb byte mark begins) refl
-mark_place mark (byte ∷ text) rest clean begins =
-    let parts = or_parts (byte == mark) (holds mark text) clean in
-    rw (parts.0, one_more (position_or_len (λ x. x == mark) (text ++ rest))) (ap suc (mark_place mark text rest parts.1 begins))
+-- the mark is found after a text that doesn't hold it
+mark_offset : (mark : ℕ) (text rest : List ℕ) → holds mark text ≡ false → Begins mark rest → position_or_len (λ byte. byte == mark) (text ++ rest) ≡ length text
+mark_offset mark [] [] clean begins = refl
+mark_offset mark [] (byte ∷ rest) clean begins = rw (eq-eqb byte mark begins) refl
+mark_offset mark (byte ∷ text) rest clean begins =
+    let facts = or_parts (byte == mark) (holds mark text) clean in
+    rw (facts.0, one_more (position_or_len (λ x. x == mark) (text ++ rest))) (ap suc (mark_offset mark text rest facts.1 begins))
 
 pub before_again : (mark : ℕ) (text rest : List ℕ) → holds mark text ≡ false → Begins mark rest → text_before mark (text ++ rest) ≡ text
-before_again mark text rest clean begins = take_at text rest _ (sym (mark_place mark text rest clean begins))
+before_again mark text rest clean begins = take_at text rest _ (sym (mark_offset mark text rest clean begins))
 
 pub from_again : (mark : ℕ) (text rest : List ℕ) → holds mark text ≡ false → Begins mark rest → text_from mark (text ++ rest) ≡ rest
-from_again mark text rest clean begins = drop_at text rest _ (sym (mark_place mark text rest clean begins))
+from_again mark text rest clean begins = drop_at text rest _ (sym (mark_offset mark text rest clean begins))
 
 -- ---- the blanks at the end
 
@@ -57,7 +57,7 @@ ends_append (first ∷ []) byte rest = refl
 ends_append (first ∷ next ∷ front) byte rest = ends_append (next ∷ front) byte rest
 
 last_step : (byte : ℕ) (text : List ℕ) → 0 < length text → get_or (byte ∷ text) (length (byte ∷ text) - 1) 0 ≡ get_or text (length text - 1) 0
-last_step byte text some = let place : length (byte ∷ text) - 1 ≡ suc (length text - 1) = omega arith in ap (λ i. get_or (byte ∷ text) i 0) place
+last_step byte text some = let at : length (byte ∷ text) - 1 ≡ suc (length text - 1) = omega arith in ap (λ i. get_or (byte ∷ text) i 0) at
 
 pub ends_in_blank_last : (text : List ℕ) → 0 < length text → ends_in_blank text ≡ is_blank (get_or text (length text - 1) 0)
 ends_in_blank_last [] some = absurd (omega arith)
@@ -69,7 +69,7 @@ all_at test [] i low all = absurd (omega arith)
 all_at test (byte ∷ text) zero low all = (and_parts (test byte) (list_all test text) all).0
 all_at test (byte ∷ text) (suc i) low all = all_at test text i (omega arith) (and_parts (test byte) (list_all test text) all).1
 
--- the blanks behind a text that ends in none are counted
+-- the blanks after a text that ends in none are counted
 blanks_counted : (front blanks : List ℕ) → ends_in_blank front ≡ false → list_all is_blank blanks ≡ true → suffix_len is_blank (front ++ blanks) ≡ length (front ++ blanks) - length front
 blanks_counted front blanks tight blank =
     let size = length-append front blanks in
@@ -83,25 +83,25 @@ without_blanks_again front blanks tight blank =
     let size = length-append front blanks in
     take_at front blanks _ (omega arith)
 
--- a line is a part that ends in no blank, and blanks
-pub record Parted (line : List ℕ) : Type 0 where
+-- a line is a text that ends in no blank, and blanks
+pub record Padded (line : List ℕ) : Type 0 where
   pub front : List ℕ
   pub blanks : List ℕ
   pub whole : line ≡ front ++ blanks
   pub tight : ends_in_blank front ≡ false
   pub blank : list_all is_blank blanks ≡ true
 
-parted_first : (byte : ℕ) (line : List ℕ) → list_all is_blank line ≡ true → (is_blank byte ≡ true) ⊎ (is_blank byte ≡ false) → Parted (byte ∷ line)
-parted_first byte line blank (inl is) = record { front = []; blanks = byte ∷ line; whole = refl; tight = refl; blank = and_from (is_blank byte) (list_all is_blank line) is blank }
-parted_first byte line blank (inr is) = record { front = byte ∷ []; blanks = line; whole = refl; tight = is; blank = blank }
+padded_first : (byte : ℕ) (line : List ℕ) → list_all is_blank line ≡ true → (is_blank byte ≡ true) ⊎ (is_blank byte ≡ false) → Padded (byte ∷ line)
+padded_first byte line blank (inl is) = record { front = []; blanks = byte ∷ line; whole = refl; tight = refl; blank = and_from (is_blank byte) (list_all is_blank line) is blank }
+padded_first byte line blank (inr is) = record { front = byte ∷ []; blanks = line; whole = refl; tight = is; blank = blank }
 
-parted_more : (byte : ℕ) (line front blanks : List ℕ) → line ≡ front ++ blanks → ends_in_blank front ≡ false → list_all is_blank blanks ≡ true → Parted (byte ∷ line)
-parted_more byte line [] blanks whole tight blank = parted_first byte line (ap (list_all is_blank) whole ∙ blank) (cases_Bool (is_blank byte))
-parted_more byte line (first ∷ front) blanks whole tight blank = record { front = byte ∷ first ∷ front; blanks = blanks; whole = ap (λ rest. byte ∷ rest) whole; tight = tight; blank = blank }
+padded_more : (byte : ℕ) (line front blanks : List ℕ) → line ≡ front ++ blanks → ends_in_blank front ≡ false → list_all is_blank blanks ≡ true → Padded (byte ∷ line)
+padded_more byte line [] blanks whole tight blank = padded_first byte line (ap (list_all is_blank) whole ∙ blank) (cases_Bool (is_blank byte))
+padded_more byte line (first ∷ front) blanks whole tight blank = record { front = byte ∷ first ∷ front; blanks = blanks; whole = ap (λ rest. byte ∷ rest) whole; tight = tight; blank = blank }
 
-pub parted : (line : List ℕ) → Parted line
-parted [] = record { front = []; blanks = []; whole = refl; tight = refl; blank = refl }
-parted (byte ∷ line) = let rest = parted line in parted_more byte line rest.front rest.blanks rest.whole rest.tight rest.blank
+pub padded : (line : List ℕ) → Padded line
+padded [] = record { front = []; blanks = []; whole = refl; tight = refl; blank = refl }
+padded (byte ∷ line) = let rest = padded line in padded_more byte line rest.front rest.blanks rest.whole rest.tight rest.blank
 
 -- ---- the set of blanks, as a search takes it
 

@@ -1,8 +1,11 @@
+pub mod Digits
 pub mod Numerals
+pub mod Starts
 pub mod Cuts
 pub mod ArgumentSteps
-pub mod ArgumentsRead
+pub mod ArgumentLaws
 pub mod Tables
 pub mod ReadLaws
 pub mod FaultLaws
+pub mod FaultIsFirst
 pub mod WriteLaws

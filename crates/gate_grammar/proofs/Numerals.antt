@@ -1,4 +1,4 @@
--- Numbers in a line: what is told is digits, and what is written in digits is told.
+-- Numbers in a line: what is read is digits, and what is written in digits is read.
 use Rattle.std.proofs.Common.{◌≡◌, ◌≢◌, ◌∙◌, ap, sym, refl, subst, ℕ, zero, suc, ◌≤◌, ◌<◌, ◌^◌, Bool, true, false, List, [], ◌∷◌, length, get_or, ◌==◌, cond, Option, Some, None, ℤ, pos, negsuc, neg_ℤ, inl, inr, arith}
 use Rattle.std.specs.List.{list_any}
 use Rattle.std.specs.Option.{option_map}
@@ -9,27 +9,27 @@ use Rattle.std.proofs.lemmas.Bool.{ne_eqb, and_from, and_parts, or_from, cond-tr
 use Rattle.std.proofs.lemmas.Fmt.{decimal_is_IsNumeral, decimal_nonempty, length-decimal-le}
 use Rattle.std.proofs.lemmas.Int.Digits.{digits_value-lt}
 use Rattle.std.proofs.lemmas.Str.Parse.{IsNumeralModel, numerals_by_value, tells_all_ascii_digits, digit_from_value, digit_at}
-use Rattle.gate_model.specs.Numbers.{number_below, code_of}
+use Rattle.gate_grammar.specs.Numbers.{number_below, code_of}
 
 digits_tell : IsNumeralModel (λ text. all_ascii_digits text ≡ true) (digits_value 10)
 digits_tell = numerals_by_value _ tells_all_ascii_digits
 
--- ---- what is told
+-- ---- what is read
 
-chosen : (test : Bool) (value told : ℕ) → cond test (Some value) None ≡ Some told → (test ≡ true) × (value ≡ told)
-chosen true value told is = (refl, cc)
-chosen false value told is = cc
+chosen : (test : Bool) (value found : ℕ) → cond test (Some value) None ≡ Some found → (test ≡ true) × (value ≡ found)
+chosen true value found is = (refl, cc)
+chosen false value found is = cc
 
-pub record IsTold (limit : ℕ) (text : List ℕ) (told : ℕ) : Type 0 where
+pub record IsNumberText (limit : ℕ) (text : List ℕ) (found : ℕ) : Type 0 where
   pub some : 0 < length text
   pub digits : AllDigits 10 text
-  pub value : digits_value 10 text ≡ told
-  pub small : told < limit
+  pub value : digits_value 10 text ≡ found
+  pub small : found < limit
 
-pub told_parts : (limit : ℕ) (text : List ℕ) (told : ℕ) → number_below limit text ≡ Some told → IsTold limit text told
+pub number_facts : (limit : ℕ) (text : List ℕ) (found : ℕ) → number_below limit text ≡ Some found → IsNumberText limit text found
 unfolding number_below
-told_parts limit text told is =
-    let both = chosen _ (digits_value 10 text) told is in
+number_facts limit text found is =
+    let both = chosen _ (digits_value 10 text) found is in
     let numeral = and_parts _ _ both.0 in
     let digits = and_parts _ _ numeral.0 in
     let sizes = and_parts _ _ digits.0 in
@@ -42,14 +42,14 @@ told_parts limit text told is =
       small = omega (arith, less);
     }
 
--- a text isn't shorter than the number that it tells
-pub number_short : (limit : ℕ) (text : List ℕ) (told : ℕ) → limit ≤ 2 ^ 32 → number_below limit text ≡ Some told → length (decimal told) ≤ length text
-number_short limit text told small is =
-    let parts = told_parts limit text told is in
-    let value = parts.value in
-    let few = digits_value-lt 10 text parts.digits in
-    let less = parts.small in
-    length-decimal-le (length text) told parts.some (omega arith) (omega arith)
+-- a text isn't shorter than its number in decimal
+pub number_short : (limit : ℕ) (text : List ℕ) (found : ℕ) → limit ≤ 2 ^ 32 → number_below limit text ≡ Some found → length (decimal found) ≤ length text
+number_short limit text found small is =
+    let facts = number_facts limit text found is in
+    let value = facts.value in
+    let few = digits_value-lt 10 text facts.digits in
+    let less = facts.small in
+    length-decimal-le (length text) found facts.some (omega arith) (omega arith)
 
 short_negated : (found : Option ℕ) (code : ℤ) (size : ℕ) → ((number : ℕ) → found ≡ Some number → length (decimal number) ≤ size) → option_map (λ number. neg_ℤ (pos number)) found ≡ Some code → length (signed_decimal code) ≤ suc size
 short_negated None code size short is = cc
@@ -62,7 +62,7 @@ short_plain (Some number) code size short is = let same : pos number ≡ code = 
 
 pub code_short : (text : List ℕ) (code : ℤ) → code_of text ≡ Some code → length (signed_decimal code) ≤ length text
 code_short [] code is = cc
-code_short (first ∷ rest) code is = elim (cases_Bool (first == 45)) [ inl minus ↦ short_negated (number_below 32769 rest) code (length rest) (λ number told. number_short 32769 rest number (omega arith) told) (sym (cond-true _ _ _ minus) ∙ is) | inr other ↦ short_plain (number_below 32768 (first ∷ rest)) code (length (first ∷ rest)) (λ number told. number_short 32768 (first ∷ rest) number (omega arith) told) (sym (cond-false _ _ _ other) ∙ is) ]
+code_short (first ∷ rest) code is = elim (cases_Bool (first == 45)) [ inl minus ↦ short_negated (number_below 32769 rest) code (length rest) (λ number found. number_short 32769 rest number (omega arith) found) (sym (cond-true _ _ _ minus) ∙ is) | inr other ↦ short_plain (number_below 32768 (first ∷ rest)) code (length (first ∷ rest)) (λ number found. number_short 32768 (first ∷ rest) number (omega arith) found) (sym (cond-false _ _ _ other) ∙ is) ]
 
 -- ---- what is written
 

@@ -6,14 +6,14 @@ use Rattle.std.specs.Str.Parse.{AllDigits}
 use Rattle.std.proofs.lemmas.Bool.{or_from, or_parts}
 use Rattle.std.proofs.lemmas.List.{append-nil, length-append}
 use Rattle.std.proofs.lemmas.Str.Parse.{digit_from_value}
-use Rattle.gate_grammar.specs.declared.command.Command.{Command}
-use Rattle.gate_grammar.specs.declared.command_name.CommandName.{CommandName}
-use Rattle.gate_grammar.specs.declared.fault.LineFault.{LineFault}
+use Rattle.gate_grammar.specs.declared.commands.Command.{Command}
+use Rattle.gate_grammar.specs.declared.commands.CommandName.{CommandName}
+use Rattle.gate_grammar.specs.declared.faults.LineFault.{LineFault}
 use Rattle.gate_grammar.specs.Arguments.{ArgumentValue, Name, Number, Code, Text}
-use Rattle.gate_grammar.specs.Canonical.{shown, body_text, line_of}
+use Rattle.gate_grammar.specs.Canonical.{shown, body_text, canonical_line}
 use Rattle.gate_grammar.specs.Commands.{text_of, name_of, values_of}
 use Rattle.gate_grammar.specs.Spelling.{joined, call, timed, IsSplit, SpellEach, SpellsValue, Spells, holds, is_barred, is_blank, ends_in_blank}
-use Rattle.gate_grammar.specs.Writable.{IsClean, HoldsNoSemicolon, EndsInNoBlank, AreWritable, IsWritable, IsInRange, AreInRange}
+use Rattle.gate_grammar.specs.Writability.{IsClean, HoldsNoSemicolon, EndsInNoBlank, AreWritable, IsWritable, IsInRange, AreInRange}
 use Rattle.gate_grammar.proofs.Cuts.{ends_append}
 use Rattle.gate_grammar.proofs.Numerals.{number_short, code_short, decimal_digits, number_decimal, code_decimal_plain, code_decimal_minus, none_in_digits, digit_isnt}
 use Rattle.gate_grammar.proofs.Tables.{text_clean, text_tight}
@@ -41,15 +41,15 @@ minus_tight : (digits : List ℕ) → AllDigits 10 digits → ends_in_blank (45 
 minus_tight [] all = refl
 minus_tight (byte ∷ digits) all = digits_tight (byte ∷ digits) all
 
--- ---- parts of a line
+-- ---- texts of a line
 
 none_append : (test : ℕ → Bool) (front back : List ℕ) → list_any test front ≡ false → list_any test back ≡ false → list_any test (front ++ back) ≡ false
 none_append test [] back one other = other
-none_append test (byte ∷ front) back one other = let parts = or_parts (test byte) (list_any test front) one in or_from (test byte) (list_any test (front ++ back)) parts.0 (none_append test front back parts.1 other)
+none_append test (byte ∷ front) back one other = let facts = or_parts (test byte) (list_any test front) one in or_from (test byte) (list_any test (front ++ back)) facts.0 (none_append test front back facts.1 other)
 
 none_front : (test : ℕ → Bool) (front back : List ℕ) → list_any test (front ++ back) ≡ false → list_any test front ≡ false
 none_front test [] back none = refl
-none_front test (byte ∷ front) back none = let parts = or_parts (test byte) (list_any test (front ++ back)) none in or_from (test byte) (list_any test front) parts.0 (none_front test front back parts.1)
+none_front test (byte ∷ front) back none = let facts = or_parts (test byte) (list_any test (front ++ back)) none in or_from (test byte) (list_any test front) facts.0 (none_front test front back facts.1)
 
 none_back : (test : ℕ → Bool) (front back : List ℕ) → list_any test (front ++ back) ≡ false → list_any test back ≡ false
 none_back test [] back none = none
@@ -127,7 +127,7 @@ name_tight text (byte ∷ rest) tight more = ends_append (32 ∷ text) byte rest
 pub line_tight : (time : List ℕ) (name : CommandName) (rest : List ℕ) → ends_in_blank rest ≡ false → ends_in_blank (timed time (text_of name ++ rest)) ≡ false
 line_tight time name rest tight = ends_append (91 ∷ time) 93 (32 ∷ (text_of name ++ rest)) ∙ name_tight (text_of name) rest (text_tight name) tight
 
-pub written_spells : (command : Command) → command.entered.0 < 2 ^ 32 → AreInRange command.body → IsWritable command → Spells (line_of command) command
+pub written_spells : (command : Command) → command.entered.0 < 2 ^ 32 → AreInRange command.body → IsWritable command → Spells (canonical_line command) command
 written_spells command small range writable =
     let texts = map shown (values_of command.body) in
     let arguments = are_shown (values_of command.body) range writable.arguments in
@@ -137,7 +137,7 @@ written_spells command small range writable =
       time = decimal command.entered.0;
       arguments = texts;
       blanks = [];
-      whole = sym (append-nil (line_of command));
+      whole = sym (append-nil (canonical_line command));
       moment = number_decimal (2 ^ 32) command.entered.0 (omega arith) small;
       split = arguments.split;
       each = arguments.each;
@@ -145,7 +145,7 @@ written_spells command small range writable =
       blank = refl;
     }
 
-pub line_spells : (line : List ℕ) (command : Command) → line ≡ line_of command → command.entered.0 < 2 ^ 32 → AreInRange command.body → IsWritable command → Spells line command
+pub line_spells : (line : List ℕ) (command : Command) → line ≡ canonical_line command → command.entered.0 < 2 ^ 32 → AreInRange command.body → IsWritable command → Spells line command
 line_spells line command is small range writable = let P : List ℕ → Type 0 = λ x. Spells x command in subst P (sym is) (written_spells command small range writable)
 
 -- ---- what is spelled can be written

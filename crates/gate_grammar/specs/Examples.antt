@@ -2,20 +2,20 @@
 -- definitions.
 use Rattle.std.specs.Prelude.{◌≡◌, ⊤, ℕ, [], ◌++◌, Some, None, Ok, pos, codes, refl, replicate}
 use Rattle.std.specs.Fmt.{digits}
-use Rattle.gate_model.specs.Numbers.{number_below}
+use Rattle.gate_grammar.specs.Numbers.{number_below}
 use Rattle.gate_model.specs.declared.object.Kind.TheVariants.{Service}
 use Rattle.gate_model.specs.declared.submission.Body.{Body}
 use Rattle.gate_model.specs.declared.submission.Body.TheVariants as body
-use Rattle.gate_grammar.specs.declared.command.Command.{Command}
-use Rattle.gate_grammar.specs.declared.fault.LineFault.TheVariants as fault
-use Rattle.gate_grammar.specs.Answers.{answer_of}
-use Rattle.gate_grammar.specs.Canonical.{line_of}
-use Rattle.gate_grammar.specs.Commands.{text_of}
-use Rattle.gate_grammar.specs.Reading.{reading, call_at, time_at, name_at, values_at, value_at, first_fault}
+use Rattle.gate_grammar.specs.declared.commands.Command.{Command}
+use Rattle.gate_grammar.specs.declared.faults.LineFault.TheVariants as fault
+use Rattle.gate_grammar.specs.inner.Answers.{answer_of}
+use Rattle.gate_grammar.specs.Canonical.{canonical_line}
+use Rattle.gate_grammar.specs.Commands.{row_of, text_of, kinds_of, command_body}
+use Rattle.gate_grammar.specs.Parsing.{parsed_line, fields_at, time_at, name_at, values_at, value_at, first_fault}
 
 -- what an equation on literal lines unfolds
 unfoldable pub on_literals : ⊤
-unfolding digits number_below text_of reading call_at time_at name_at values_at value_at
+unfolding digits number_below row_of text_of kinds_of command_body parsed_line fields_at time_at name_at values_at value_at
 on_literals = tt
 
 -- the command with this body, entered at this moment
@@ -39,21 +39,21 @@ blanks_at_the_end_are_dropped :
 unfolding on_literals
 blanks_at_the_end_are_dropped = refl
 
-remark_is_written : line_of remark ≡ codes "[1000] ADD_SVC_COMMENT;web1;HTTP;1;ann;a;b;c"
+remark_is_written : canonical_line remark ≡ codes "[1000] ADD_SVC_COMMENT;web1;HTTP;1;ann;a;b;c"
 unfolding on_literals
 remark_is_written = refl
 
-zeros_in_front_are_read :
+leading_zeros_are_read :
     answer_of (codes "[0001000] DEL_SVC_COMMENT;0007")
     ≡ Ok (entered_at 1000 (body.DelComment Service 7))
 unfolding on_literals
-zeros_in_front_are_read = refl
+leading_zeros_are_read = refl
 
-zeros_in_front_are_not_written :
-    line_of (entered_at 1000 (body.DelComment Service 7))
+leading_zeros_are_not_written :
+    canonical_line (entered_at 1000 (body.DelComment Service 7))
     ≡ codes "[1000] DEL_SVC_COMMENT;7"
 unfolding on_literals
-zeros_in_front_are_not_written = refl
+leading_zeros_are_not_written = refl
 
 minus_zero_is_zero :
     answer_of (codes "[1000] PROCESS_HOST_CHECK_RESULT;web1;-0;")
@@ -62,7 +62,7 @@ unfolding on_literals
 minus_zero_is_zero = refl
 
 empty_output_ends_with_its_semicolon :
-    line_of (entered_at 1000 (body.Result (codes "web1") None (pos 0) []))
+    canonical_line (entered_at 1000 (body.Result (codes "web1") None (pos 0) []))
     ≡ codes "[1000] PROCESS_HOST_CHECK_RESULT;web1;0;"
 unfolding on_literals
 empty_output_ends_with_its_semicolon = refl
@@ -113,11 +113,11 @@ argument_missing :
 unfolding on_literals
 argument_missing = refl
 
-bad_argument_is_told_before_a_missing_one :
+bad_argument_is_reported_before_a_missing_one :
     first_fault (codes "[1000] ADD_HOST_COMMENT;web1;x")
     ≡ Some (fault.BadNumber 2)
 unfolding on_literals
-bad_argument_is_told_before_a_missing_one = refl
+bad_argument_is_reported_before_a_missing_one = refl
 
 empty_name : first_fault (codes "[1000] REMOVE_HOST_ACKNOWLEDGEMENT;") ≡ Some (fault.EmptyName 1)
 unfolding on_literals

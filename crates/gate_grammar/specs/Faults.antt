@@ -1,16 +1,15 @@
--- Why a line spells no command, by its parts. Own rules: the faults and their order. Each fault of a line supposes
--- that those before it don't apply; arguments are judged from the left. `HasFault` is the main definition.
+-- Why a line spells no command, by its fields. Own rules: the faults and their order. Each fault of a line supposes
+-- that those before it don't apply; arguments are read from the left. `HasFault` is the main definition.
 use Rattle.std.specs.Prelude.{◌≡◌, ◌≢◌, ℕ, ◌+◌, ◌<◌, ◌≤◌, List, [], ◌∷◌, ◌++◌, length, map, true, false, IsSome, Result, MatchResult}
 use Rattle.std.specs.List.{list_any, list_all}
-use Rattle.gate_model.specs.Numbers.{number_of}
-use Rattle.gate_grammar.specs.declared.argument.ArgumentKind.{ArgumentKind}
-use Rattle.gate_grammar.specs.declared.argument.ArgumentKind.TheVariants.{Name}
-use Rattle.gate_grammar.specs.declared.command.Command.{Command}
-use Rattle.gate_grammar.specs.declared.command.TheConstants.{LINE_LENGTH}
-use Rattle.gate_grammar.specs.declared.command_name.CommandName.{CommandName}
-use Rattle.gate_grammar.specs.declared.fault.LineFault.{LineFault}
-use Rattle.gate_grammar.specs.declared.fault.LineFault.TheVariants as fault
-use Rattle.gate_grammar.specs.Arguments.{ArgumentValue, kind_of}
+use Rattle.gate_grammar.specs.Numbers.{number_of}
+use Rattle.gate_grammar.specs.declared.arguments.ArgumentKind.{ArgumentKind}
+use Rattle.gate_grammar.specs.declared.arguments.ArgumentKind.TheVariants.{Name}
+use Rattle.gate_grammar.specs.declared.commands.Command.{Command}
+use Rattle.gate_grammar.specs.declared.commands.CommandName.{CommandName}
+use Rattle.gate_grammar.specs.declared.faults.LineFault.{LineFault}
+use Rattle.gate_grammar.specs.declared.faults.LineFault.TheVariants as fault
+use Rattle.gate_grammar.specs.Arguments.{ArgumentValue, argument_kind}
 use Rattle.gate_grammar.specs.Commands.{text_of, kinds_of}
 use Rattle.gate_grammar.specs.Spelling.{Spells, SpellsValue, SpellEach, is_barred, is_blank, ends_in_blank, holds, joined, timed}
 
@@ -19,11 +18,11 @@ abbrev pub Begins : ℕ → List ℕ → Type 0
 Begins mark [] = Unit {0}
 Begins mark (byte ∷ rest) = byte ≡ mark
 
--- ---- the front of a line
+-- ---- the start of a line
 
 -- the line isn't too long, and holds no byte that no line holds
 pub record IsPlain (line : List ℕ) : Type 0 where
-  pub short : length line ≤ LINE_LENGTH
+  pub short : length line ≤ 8192
   pub clean : list_any is_barred line ≡ false
 
 -- the line is a time, then this, then blanks; what stands before the blanks ends in none
@@ -36,7 +35,7 @@ pub record IsTimed (line rest : List ℕ) : Type 0 where
   pub tight : ends_in_blank (timed time rest) ≡ false
   pub blank : list_all is_blank blanks ≡ true
 
--- the line calls this command, and this stands behind its name: nothing, or a semicolon and more
+-- the line calls this command, and this stands after its name: nothing, or a semicolon and more
 pub record IsCall (line : List ℕ) (name : CommandName) (left : List ℕ) : Type 0 where
   pub rest : List ℕ
   pub timed : IsTimed line rest
@@ -51,12 +50,12 @@ CallsNothing rest = (name : CommandName) (left : List ℕ) → Begins 59 left �
 
 -- the text spells nothing of this kind
 abbrev pub SpellsNothing : ArgumentKind → List ℕ → Type 0
-SpellsNothing kind text = (value : ArgumentValue) → kind_of value ≡ kind → SpellsValue text value → ⊥
+SpellsNothing kind text = (value : ArgumentValue) → argument_kind value ≡ kind → SpellsValue text value → ⊥
 
 -- an argument that arguments of these kinds follow: it ends before the next semicolon, and the last with the line
 abbrev pub IsArgument : List ArgumentKind → List ℕ → List ℕ → Type 0
-IsArgument [] text behind = behind ≡ []
-IsArgument (kind ∷ later) text behind = (holds 59 text ≡ false) × Begins 59 behind
+IsArgument [] text after = after ≡ []
+IsArgument (kind ∷ later) text after = (holds 59 text ≡ false) × Begins 59 after
 
 -- no text holds a semicolon
 abbrev pub AreSplit : List (List ℕ) → Type 0
@@ -67,7 +66,7 @@ AreSplit (text ∷ texts) = (holds 59 text ≡ false) × AreSplit texts
 pub record IsAt (first : ℕ) (kinds : List ArgumentKind) (rest : List ℕ) (number : ℕ) (kind : ArgumentKind) (later : List ArgumentKind) (left : List ℕ) : Type 0 where
   pub texts : List (List ℕ)
   pub values : List ArgumentValue
-  pub of_kinds : kinds ≡ map kind_of values ++ kind ∷ later
+  pub of_kinds : kinds ≡ map argument_kind values ++ kind ∷ later
   pub whole : rest ≡ joined texts ++ left
   pub split : AreSplit texts
   pub each : SpellEach texts values
@@ -83,9 +82,9 @@ pub record IsMissing (first : ℕ) (kinds : List ArgumentKind) (rest : List ℕ)
 pub record IsWrong (first : ℕ) (kinds : List ArgumentKind) (rest : List ℕ) (number : ℕ) (kind : ArgumentKind) : Type 0 where
   pub later : List ArgumentKind
   pub text : List ℕ
-  pub behind : List ℕ
-  pub at : IsAt first kinds rest number kind later (59 ∷ (text ++ behind))
-  pub argument : IsArgument later text behind
+  pub after : List ℕ
+  pub at : IsAt first kinds rest number kind later (59 ∷ (text ++ after))
+  pub argument : IsArgument later text after
   pub nothing : SpellsNothing kind text
 
 -- an argument that is a number or a code spells none
@@ -113,18 +112,18 @@ pub record IsFaultyCall (line : List ℕ) (cause : LineFault) : Type 0 where
 
 -- the first fault of the line is this one
 abbrev pub HasFault : List ℕ → LineFault → Type 0
-HasFault line fault.TooLong = LINE_LENGTH < length line
-HasFault line fault.BadByte = (length line ≤ LINE_LENGTH) × (list_any is_barred line ≡ true)
+HasFault line fault.TooLong = 8192 < length line
+HasFault line fault.BadByte = (length line ≤ 8192) × (list_any is_barred line ≡ true)
 HasFault line fault.NoTime = IsPlain line × ((rest : List ℕ) → IsTimed line rest → ⊥)
 HasFault line fault.UnknownCommand = (rest : List ℕ) × IsTimed line rest × CallsNothing rest
 HasFault line cause = IsFaultyCall line cause
 
--- the line is refused for this cause: want of memory only where it spells a command, any other as its first fault
+-- the line is refused for this cause: out of memory only where it spells a command, any other as its first fault
 abbrev pub IsRefusal : List ℕ → LineFault → Type 0
 IsRefusal line fault.OutOfMemory = (command : Command) × Spells line command
 IsRefusal line cause = HasFault line cause
 
--- the answer is the only command that the line spells, or want of memory
+-- the answer is the only command that the line spells, or out of memory
 abbrev pub IsOnlyCommand : List ℕ → Result Command LineFault → Type 0
 IsOnlyCommand line answer =
     (command : Command) → Spells line command

@@ -1,11 +1,12 @@
+pub mod Numbers
 pub mod Arguments
+pub mod Bodies
 pub mod Commands
 pub mod Spelling
 pub mod Faults
 pub mod Canonical
-pub mod Writable
-pub mod Bodies
-pub mod Reading
-pub mod Answers
+pub mod Writability
+pub mod Parsing
 pub mod RoundTrip
+pub mod inner
 pub mod Examples

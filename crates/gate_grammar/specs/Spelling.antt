@@ -2,9 +2,8 @@
 -- length, the bytes that it can't hold, its time, and the blanks at its end. `Spells` is the last definition.
 use Rattle.std.specs.Prelude.{◌≡◌, ℕ, ◌<◌, ◌≤◌, List, [], ◌∷◌, ◌++◌, length, Bool, true, false, ◌||◌, ◌==◌, Some}
 use Rattle.std.specs.List.{flat_map, list_any, list_all}
-use Rattle.gate_model.specs.Numbers.{number_of, code_of}
-use Rattle.gate_grammar.specs.declared.command.Command.{Command}
-use Rattle.gate_grammar.specs.declared.command.TheConstants.{LINE_LENGTH}
+use Rattle.gate_grammar.specs.Numbers.{number_of, code_of}
+use Rattle.gate_grammar.specs.declared.commands.Command.{Command}
 use Rattle.gate_grammar.specs.Arguments.{ArgumentValue, Name, Number, Code, Text}
 use Rattle.gate_grammar.specs.Commands.{text_of, name_of, values_of}
 
@@ -26,7 +25,7 @@ ends_in_blank [] = false
 ends_in_blank (byte ∷ []) = is_blank byte
 ends_in_blank (byte ∷ next ∷ rest) = ends_in_blank (next ∷ rest)
 
--- each text behind a semicolon
+-- each text after a semicolon
 abbrev pub joined : List (List ℕ) → List ℕ
 joined texts = flat_map (λ text. 59 ∷ text) texts
 
@@ -49,7 +48,7 @@ SpellEach [] [] = Unit {0}
 SpellEach (text ∷ texts) (value ∷ values) = SpellsValue text value × SpellEach texts values
 SpellEach _ _ = ⊥
 
--- a command's name, and each argument behind a semicolon
+-- a command's name, and each argument after a semicolon
 abbrev pub call : List ℕ → List (List ℕ) → List ℕ
 call name arguments = name ++ joined arguments
 
@@ -59,7 +58,7 @@ timed time rest = 91 ∷ (time ++ 93 ∷ 32 ∷ rest)
 
 -- the line is a time, the command's name, its arguments and then blanks; what stands before the blanks ends in none
 pub record Spells (line : List ℕ) (command : Command) : Type 0 where
-  pub short : length line ≤ LINE_LENGTH
+  pub short : length line ≤ 8192
   pub clean : list_any is_barred line ≡ false
   pub time : List ℕ
   pub arguments : List (List ℕ)

@@ -1,14 +1,44 @@
 ghost use Rattle.std.specs.Prelude.{◌≡◌, ◌<◌, ◌≤◌, ◌++◌, ◌∷◌, [], List, length, map};
-ghost use Rattle.gate_grammar.specs.Arguments.{ArgumentValue, value_of, value_in, text_in, number_in, code_in};
+ghost use Rattle.gate_grammar.specs.Arguments.{ArgumentValue};
+ghost use Rattle.gate_grammar.specs.Arguments.{value_in, text_in, number_in, code_in};
+ghost use Rattle.gate_grammar.specs.inner.Values.{value_of};
 
-use crate::argument::Argument;
 use arrayvec::ArrayVec;
 use std::marker::Model;
+
+/// What kind of argument a command takes.
+#[derive(Clone, Copy)]
+pub enum ArgumentKind {
+    /// One byte or more.
+    Name,
+    /// An unsigned number of 32 bits.
+    Number,
+    /// A signed number of 16 bits.
+    Code,
+    /// Any bytes, also none.
+    Text,
+}
+
+/// An argument of a command.
+#[derive(Clone, Copy)]
+pub enum Argument<'a> {
+    Name(&'a [u8]),
+    Number(u32),
+    Code(i16),
+    Text(&'a [u8]),
+}
+
+/// What fills the unused capacity of a list.
+impl Default for Argument<'_> {
+    fn default() -> Self {
+        Argument::Number(0)
+    }
+}
 
 /// The most arguments of a command.
 pub const ARGUMENTS: usize = 9;
 
-/// The arguments of a command, which contracts see as the list of their values. They take no memory.
+/// The arguments of a command, which contracts see as the list of their values. No memory is taken.
 #[derive(Drop)]
 pub struct Arguments<'a> {
     items: ArrayVec<Argument<'a>, ARGUMENTS>,
@@ -51,43 +81,43 @@ impl<'a> Arguments<'a> {
         self.items.as_slice()
     }
 
-    /// The argument at a place, from 0, or a number 0 past the end.
-    fn get(&self, place: usize) -> Argument<'a>
-        ensures { value_of result ≡ value_in self.now place }
+    /// The argument at an index, from 0, or a number 0 past the end.
+    fn get(&self, index: usize) -> Argument<'a>
+        ensures { value_of result ≡ value_in self.now index }
     {
         let items = self.items.as_slice();
-        if place < items.len() {
-            items[place]
+        if index < items.len() {
+            items[index]
         } else {
             Argument::Number(0)
         }
     }
 
-    /// The name or text at a place, from 0; nothing where there is none.
-    pub fn text(&self, place: usize) -> &'a [u8]
-        ensures { result.now ≡ text_in self.now place }
+    /// The name or text at an index, from 0; nothing where there is none.
+    pub fn text(&self, index: usize) -> &'a [u8]
+        ensures { result.now ≡ text_in self.now index }
     {
-        match self.get(place) {
+        match self.get(index) {
             Argument::Name(text) | Argument::Text(text) => text,
             Argument::Number(_) | Argument::Code(_) => b"",
         }
     }
 
-    /// The number at a place, from 0; 0 where there is none.
-    pub fn number(&self, place: usize) -> u32
-        ensures { result ≡ number_in self.now place }
+    /// The number at an index, from 0; 0 where there is none.
+    pub fn number(&self, index: usize) -> u32
+        ensures { result ≡ number_in self.now index }
     {
-        match self.get(place) {
+        match self.get(index) {
             Argument::Number(number) => number,
             Argument::Name(_) | Argument::Code(_) | Argument::Text(_) => 0,
         }
     }
 
-    /// The code at a place, from 0; 0 where there is none.
-    pub fn code(&self, place: usize) -> i16
-        ensures { result ≡ code_in self.now place }
+    /// The code at an index, from 0; 0 where there is none.
+    pub fn code(&self, index: usize) -> i16
+        ensures { result ≡ code_in self.now index }
     {
-        match self.get(place) {
+        match self.get(index) {
             Argument::Code(code) => code,
             Argument::Name(_) | Argument::Number(_) | Argument::Text(_) => 0,
         }

@@ -1,21 +1,22 @@
-//! The body that a call asks for. Here the texts of a line are copied.
+//! The body that a command makes of its arguments. Here the texts of a line are copied.
 
 ghost use Rattle.std.specs.Prelude.{◌≡◌, ◌+◌, ◌^◌, ◌<◌, IfOk};
 ghost use Rattle.gate_grammar.specs.Arguments.{text_in, number_in, code_in};
-ghost use Rattle.gate_grammar.specs.Bodies.{names_of, service_in, check_result, comment, all_comments_deleted, acknowledgement, acknowledgement_removed, downtime, body_of};
+ghost use Rattle.gate_grammar.specs.Bodies.{names_of, service_in, check_result, comment, all_comments_deleted, acknowledgement, acknowledgement_removed, downtime};
+ghost use Rattle.gate_grammar.specs.Commands.{command_body};
 
 use crate::arguments::Arguments;
-use crate::command_name::CommandName;
+use crate::commands::CommandName;
 use gate_model::{Body, Kind, Moment, Text};
 use std::alloc::{AllocError, Global};
 
-fn text(alloc: Global, arguments: &Arguments<'_>, place: usize) -> Result<Text, AllocError>
-    ensures { IfOk result (λ text. text ≡ text_in arguments.now place) }
+fn text(alloc: Global, arguments: &Arguments<'_>, index: usize) -> Result<Text, AllocError>
+    ensures { IfOk result (λ text. text ≡ text_in arguments.now index) }
 {
-    Text::copied(alloc, arguments.text(place))
+    Text::copied(alloc, arguments.text(index))
 }
 
-/// How many names tell an object of this kind.
+/// How many names stand for an object of this kind.
 fn names(kind: Kind) -> usize
     ensures names { result ≡ names_of kind }
     ensures few { result < 3 }
@@ -35,9 +36,10 @@ fn service(alloc: Global, kind: Kind, arguments: &Arguments<'_>) -> Result<Optio
     }
 }
 
-/// The body of the command of this name. It takes memory for the texts alone.
+/// The body that the command makes. It takes memory for the texts alone.
+#[tactic(auto, unfolding(crate::specs::Commands::command_body, crate::specs::Commands::row_of))]
 pub fn body(alloc: Global, name: CommandName, arguments: &Arguments<'_>) -> Result<Body, AllocError>
-    ensures { IfOk result (λ body. body ≡ body_of name arguments.now) }
+    ensures { IfOk result (λ body. body ≡ command_body name arguments.now) }
 {
     match name {
         CommandName::ProcessHostCheckResult => check_result(alloc, Kind::Host, arguments),
@@ -79,25 +81,25 @@ pub fn body(alloc: Global, name: CommandName, arguments: &Arguments<'_>) -> Resu
 fn check_result(alloc: Global, kind: Kind, arguments: &Arguments<'_>) -> Result<Body, AllocError>
     ensures { IfOk result (λ body. body ≡ check_result kind arguments.now) }
 {
-    let place = names(kind);
+    let index = names(kind);
     Ok(Body::Result {
         host: text(alloc, arguments, 0)?,
         service: service(alloc, kind, arguments)?,
-        code: arguments.code(place),
-        output: text(alloc, arguments, place + 1)?,
+        code: arguments.code(index),
+        output: text(alloc, arguments, index + 1)?,
     })
 }
 
 fn comment(alloc: Global, kind: Kind, arguments: &Arguments<'_>) -> Result<Body, AllocError>
     ensures { IfOk result (λ body. body ≡ comment kind arguments.now) }
 {
-    let place = names(kind);
+    let index = names(kind);
     Ok(Body::AddComment {
         host: text(alloc, arguments, 0)?,
         service: service(alloc, kind, arguments)?,
-        persistent: arguments.number(place),
-        author: text(alloc, arguments, place + 1)?,
-        text: text(alloc, arguments, place + 2)?,
+        persistent: arguments.number(index),
+        author: text(alloc, arguments, index + 1)?,
+        text: text(alloc, arguments, index + 2)?,
     })
 }
 
@@ -117,15 +119,15 @@ fn all_comments_deleted(
 fn acknowledgement(alloc: Global, kind: Kind, arguments: &Arguments<'_>) -> Result<Body, AllocError>
     ensures { IfOk result (λ body. body ≡ acknowledgement kind arguments.now) }
 {
-    let place = names(kind);
+    let index = names(kind);
     Ok(Body::Acknowledge {
         host: text(alloc, arguments, 0)?,
         service: service(alloc, kind, arguments)?,
-        sticky: arguments.number(place),
-        notify: arguments.number(place + 1),
-        persistent: arguments.number(place + 2),
-        author: text(alloc, arguments, place + 3)?,
-        text: text(alloc, arguments, place + 4)?,
+        sticky: arguments.number(index),
+        notify: arguments.number(index + 1),
+        persistent: arguments.number(index + 2),
+        author: text(alloc, arguments, index + 3)?,
+        text: text(alloc, arguments, index + 4)?,
     })
 }
 
@@ -145,16 +147,16 @@ fn acknowledgement_removed(
 fn downtime(alloc: Global, kind: Kind, arguments: &Arguments<'_>) -> Result<Body, AllocError>
     ensures { IfOk result (λ body. body ≡ downtime kind arguments.now) }
 {
-    let place = names(kind);
+    let index = names(kind);
     Ok(Body::Schedule {
         host: text(alloc, arguments, 0)?,
         service: service(alloc, kind, arguments)?,
-        starts: Moment(arguments.number(place)),
-        ends: Moment(arguments.number(place + 1)),
-        fixed: arguments.number(place + 2),
-        trigger: arguments.number(place + 3),
-        lasts: arguments.number(place + 4),
-        author: text(alloc, arguments, place + 5)?,
-        text: text(alloc, arguments, place + 6)?,
+        starts: Moment(arguments.number(index)),
+        ends: Moment(arguments.number(index + 1)),
+        fixed: arguments.number(index + 2),
+        trigger: arguments.number(index + 3),
+        lasts: arguments.number(index + 4),
+        author: text(alloc, arguments, index + 5)?,
+        text: text(alloc, arguments, index + 6)?,
     })
 }

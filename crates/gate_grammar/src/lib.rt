@@ -1,26 +1,21 @@
-//! Command lines of operators, both ways: a line is read to the command that it spells or to its
-//! first fault, and a command is written as its canonical line. A written line is read as the same
-//! command, and no line spells two (External Command List; Nagios Core 4 manual, External Commands).
+//! Command lines of operators, both directions: a line is read as the command that it spells or
+//! refused with its first fault, and a command is written as its canonical line. A written line is
+//! read as the same command, and no line spells two (External Command List; Nagios Core 4 manual,
+//! External Commands).
 #![tactic(auto)]
 
-mod argument;
 mod arguments;
-mod body_arguments;
 mod building;
-mod call;
-mod command;
-mod command_name;
-mod fault;
-mod reading;
-mod scanning;
+mod canonical;
+mod commands;
+mod faults;
+mod numbers;
+mod parsing;
 mod writability;
-mod writing;
 
-pub use command::{Command, LINE_LENGTH};
-pub use fault::LineFault;
-pub use reading::read_line;
+pub use canonical::{push_body, round_trip, write_body, write_line};
+pub use commands::{Command, LINE_LENGTH};
+pub use faults::LineFault;
+pub use numbers::{push_code, push_number, read_code, read_number};
+pub use parsing::read_line;
 pub use writability::writable;
-pub use writing::{round_trip, write_body, write_line};
-
-#[cfg(test)]
-mod tests;

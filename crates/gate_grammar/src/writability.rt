@@ -1,29 +1,33 @@
 ghost use Rattle.std.specs.Prelude.{◌≡◌, ◌↔◌, ◌≤◌, ◌<◌, length, IsTrue, map};
-ghost use Rattle.gate_grammar.specs.Arguments.{value_of};
-ghost use Rattle.gate_grammar.specs.Spelling.{joined, holds, is_blank, ends_in_blank};
+ghost use Rattle.gate_grammar.specs.inner.Values.{value_of};
+ghost use Rattle.gate_grammar.specs.inner.Written.{written};
+ghost use Rattle.gate_grammar.specs.Spelling.{holds, is_blank, ends_in_blank};
 ghost use Rattle.gate_grammar.specs.Canonical.{shown};
-ghost use Rattle.gate_grammar.specs.Writable.{IsWritable, AreWritable, IsClean, HoldsNoSemicolon, EndsInNoBlank};
+ghost use Rattle.gate_grammar.specs.Writability.{IsWritable, AreWritable, IsClean, HoldsNoSemicolon, EndsInNoBlank};
 
-use crate::argument::Argument;
-use crate::body_arguments::{arguments_of, name_of};
-use crate::command::{Command, LINE_LENGTH};
-use crate::scanning::is_barred_in;
+use crate::arguments::Argument;
+use crate::commands::{Command, LINE_LENGTH, command_of};
+use crate::parsing::is_barred_in;
 use itoa::Buffer;
 
-/// Whether a command has a line: of at most 8192 bytes, with no NUL or LF in a text, no semicolon in
-/// an argument but the last, no empty name, and no blank at the end of the last argument.
+/// Whether a command has a line that reads as it.
+///
+/// The line has at most 8192 bytes, no text holds a NUL or an LF, no argument but the last holds a
+/// semicolon, no name is empty, and the last argument doesn't end in a space, a tab or a CR. Own
+/// rule.
 pub fn writable(command: &Command) -> bool
     ensures { IsTrue result ↔ IsWritable command.now }
 {
     let mut time = Buffer::new();
-    let front = time.format(command.entered.0).len() + name_of(&command.body).text().len() + 3;
-    let arguments = arguments_of(&command.body);
-    fit(LINE_LENGTH - front, arguments.as_slice()) && are_writable(arguments.as_slice())
+    let called = command_of(&command.body);
+    let start = time.format(command.entered.0).len() + called.name.syntax().text.len() + 3;
+    let arguments = called.arguments.as_slice();
+    fit(LINE_LENGTH - start, arguments) && are_writable(arguments)
 }
 
-/// Whether the arguments, each behind a semicolon, take at most `room` bytes.
+/// Whether the arguments, each after a semicolon, take at most `room` bytes.
 fn fit(room: usize, arguments: &[Argument<'_>]) -> bool
-    ensures { IsTrue result ↔ (length (joined (map shown (map value_of arguments.now))) ≤ room) }
+    ensures { IsTrue result ↔ (length (written arguments.now) ≤ room) }
 {
     match arguments {
         [] => true,

@@ -3,7 +3,6 @@ pub mod KeySteps
 pub mod BuilderSteps
 pub mod Hosts
 pub mod Faults
-pub mod Digits
 mod Rows
 pub mod ObjectSteps
 pub mod MeaningSteps

@@ -1,5 +1,4 @@
 pub mod Names
-pub mod Numbers
 pub mod Table
 pub mod Submission
 pub mod State

@@ -4,7 +4,6 @@
 
 mod keys;
 mod names;
-mod numbers;
 mod object;
 mod record;
 mod state;
@@ -13,7 +12,6 @@ mod table;
 mod table_builder;
 mod text;
 
-pub use numbers::{push_code, push_number, read_code, read_number};
 pub use object::{Kind, ObjectId, ObjectLine};
 pub use record::{Moment, Outcome, Record};
 pub use state::{CheckResult, ObjectEvent, State};

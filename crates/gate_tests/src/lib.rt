@@ -4,6 +4,8 @@
 #[cfg(test)]
 mod applier;
 #[cfg(test)]
+mod grammar;
+#[cfg(test)]
 mod machine;
 #[cfg(test)]
 mod model;

@@ -1,8 +1,0 @@
-use Rattle.std.proofs.Common.{◌≡◌, ◌++◌, map, drop}
-use Rattle.gate_grammar.specs.Arguments.{value_of}
-use Rattle.gate_grammar.specs.Spelling.{joined}
-use Rattle.gate_grammar.specs.Canonical.{shown}
-use Rattle.gate_grammar.proofs.writing.push_arguments.Given as goal
-
-abbrev pub invariant-loop-argument : goal.invariant-loop-argument
-invariant-loop-argument l = l.out.items ++ joined (map shown (map value_of (drop l.argument-index l.arguments))) ≡ l.fn.out.items ++ joined (map shown (map value_of l.arguments))
