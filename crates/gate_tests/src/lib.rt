@@ -11,3 +11,5 @@ mod machine;
 mod model;
 #[cfg(test)]
 mod packet;
+#[cfg(test)]
+mod replay;

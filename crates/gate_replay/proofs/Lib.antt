@@ -1,0 +1,5 @@
+mod ScriptRows
+pub mod ScriptSteps
+pub mod ReplaySteps
+pub mod ReplayEnds
+pub mod ReplayTexts

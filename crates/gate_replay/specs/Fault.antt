@@ -1,0 +1,36 @@
+-- What is reported of a replay that stops: a line on standard error, and an exit status.
+-- Own rules: both.
+use Rattle.std.specs.Prelude.{ℕ, List, ◌++◌, codes, Option, Some, None}
+use Rattle.std.specs.Fmt.{decimal}
+use Rattle.gate_replay.specs.declared.script.ScriptFault.{ScriptFault}
+use Rattle.gate_replay.specs.declared.script.ScriptFault.TheVariants as script
+use Rattle.gate_replay.specs.declared.fault.ReplayFault.{ReplayFault}
+use Rattle.gate_replay.specs.declared.fault.ReplayFault.TheVariants.{TooLong, Line, LogFull, OutOfMemory, ReadFault, WriteFault}
+
+-- a script's fault, as a fault of its replay
+abbrev pub replay_fault : ScriptFault → ReplayFault
+replay_fault (script.Line number) = Line number
+replay_fault script.OutOfMemory = OutOfMemory
+
+-- the exit status of a program that stops so
+abbrev pub status_of : ReplayFault → ℕ
+status_of TooLong = 2
+status_of (Line number) = 2
+status_of LogFull = 3
+status_of OutOfMemory = 3
+status_of ReadFault = 3
+status_of WriteFault = 3
+
+-- the exit status at the end of a replay, which a fault may have stopped
+abbrev pub status_at_end : Option ReplayFault → ℕ
+status_at_end None = 0
+status_at_end (Some fault) = status_of fault
+
+-- the line that reports the fault
+abbrev pub message_of : ReplayFault → List ℕ
+message_of TooLong = codes "nscagate: script too long\n"
+message_of (Line number) = codes "nscagate: script line " ++ decimal number ++ codes "\n"
+message_of LogFull = codes "nscagate: LogFull\n"
+message_of OutOfMemory = codes "nscagate: OutOfMemory\n"
+message_of ReadFault = codes "nscagate: ReadFault\n"
+message_of WriteFault = codes "nscagate: WriteFault\n"

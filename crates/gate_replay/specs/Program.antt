@@ -1,0 +1,34 @@
+-- What the program does with the words after its name, and what it reports where it does nothing.
+-- Own rules: the one word `replay` replays a script, and all other words are bad arguments.
+use Rattle.std.specs.Prelude.{◌≡◌, ◌≢◌, ℕ, List, [], ◌∷◌, codes}
+use Rattle.std.specs.IoError.{error_kind}
+use Rattle.std.specs.declared.io.Error.{Error}
+use Rattle.std.specs.declared.io.ErrorKind.TheVariants as kind
+use Rattle.gate_replay.specs.declared.program.ProgramFault.{ProgramFault}
+use Rattle.gate_replay.specs.declared.program.ProgramFault.TheVariants.{BadArguments, OutOfMemory}
+use Rattle.gate_replay.specs.Sink.{SinkState}
+use Rattle.gate_replay.specs.Replay.{IsReported}
+
+-- the words are the one word `replay`
+abbrev pub IsReplayAsked : List (List ℕ) → Type 0
+IsReplayAsked words = words ≡ codes "replay" ∷ []
+
+-- an error on the words is out of memory, or they are bad arguments
+pub record IsWordsFault (error : Error) (fault : ProgramFault) : Type 0 where
+  pub memory : error_kind error ≡ kind.OutOfMemory → fault ≡ OutOfMemory
+  pub other : error_kind error ≢ kind.OutOfMemory → fault ≡ BadArguments
+
+-- the exit status of a program that does nothing for this cause
+abbrev pub status_without : ProgramFault → ℕ
+status_without BadArguments = 2
+status_without OutOfMemory = 3
+
+-- the line that reports the cause
+abbrev pub line_on : ProgramFault → List ℕ
+line_on BadArguments = codes "nscagate: bad arguments\n"
+line_on OutOfMemory = codes "nscagate: OutOfMemory\n"
+
+-- the program ends with this status, after a line on the cause
+pub record IsRefusal (fault : ProgramFault) (errors errors_after : SinkState) (status : ℕ) : Type 0 where
+  pub status_is : status ≡ status_without fault
+  pub reported : IsReported (line_on fault) errors errors_after

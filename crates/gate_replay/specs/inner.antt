@@ -1,0 +1,3 @@
+-- Only proofs and private functions use these.
+pub mod Parsing
+pub mod Playing

@@ -1,0 +1,136 @@
+ghost use Rattle.std.specs.Prelude.{◌≡◌, ◌≤◌, length, IfOk, IfErr, OnOk};
+ghost use Rattle.gate_model.specs.Meaning.{outcomes_of};
+ghost use Rattle.gate_applier.specs.Page.{log_text};
+ghost use Rattle.gate_replay.specs.Sink.{sink_state, Delivers, IsDelivered, Fails};
+ghost use Rattle.std.specs.Io.KnownBytes.{Keeps};
+ghost use Rattle.gate_replay.specs.Replay.{IsWholeInput, fault_in, EndsWith, IsReplayRun};
+ghost use Rattle.gate_replay.specs.inner.Playing.{IsWriteEnd, EndsPlaying, IsInputFault};
+
+use crate::fault::{ReplayFault, read_fault, write_fault};
+use crate::player::{Player, Stopped, print};
+use crate::script::{Script, read_script};
+use crate::sink::Sink;
+use gate_applier::{Applier, log_page};
+use std::alloc::Global;
+use std::io::Read;
+
+/// The most bytes of a script.
+pub const SCRIPT_BYTES: u64 = 1_048_576;
+
+fn read_input<R: Read>(alloc: Global, input: &mut R) -> Result<Vec<u8>, ReplayFault>
+    ensures whole { IfOk result (λ text. IsWholeInput (R.remaining input.old) text.items) }
+    ensures short { IfOk result (λ text. length text.items ≤ 1048576) }
+    ensures err { IfErr result (IsInputFault (R.remaining input.old)) }
+{
+    let mut text = Vec::new(alloc);
+    let mut input = input.take(SCRIPT_BYTES + 1);
+    match input.read_to_end(&mut text) {
+        Ok(_) => {}
+        Err(error) => return Err(read_fault(&error)),
+    }
+    if text.len() as u64 > SCRIPT_BYTES {
+        return Err(ReplayFault::TooLong);
+    }
+    Ok(text)
+}
+
+fn deliver<W: Sink>(output: &mut W) -> Result<(), ReplayFault>
+    ensures kept { Keeps (W.contents output.old) (W.contents output.new) }
+    ensures ok { OnOk result (IsDelivered (W.pending output.new)
+        × Fails (W.failures output.old) (W.failures output.new) 0) }
+    ensures err { let state = sink_state W.contents W.pending W.failures in
+        IfErr result (IsWriteEnd (state output.old) (state output.new)) }
+{
+    match output.deliver() {
+        Ok(()) => Ok(()),
+        Err(error) => Err(write_fault(&error)),
+    }
+}
+
+// Prints the log page, and flushes, also where there is no memory for the page.
+fn print_log<W: Sink>(alloc: Global, applier: &Applier, output: &mut W) -> Result<(), ReplayFault>
+    ensures ok { let state = sink_state W.contents W.pending W.failures in
+        OnOk result (Delivers (state output.old) (state output.new)
+        (log_text applier.now.records (outcomes_of applier.now.table applier.now.records))) }
+    ensures few { length applier.now.records ≤ applier.now.limit }
+    ensures err { let state = sink_state W.contents W.pending W.failures in
+        IfErr result (IsWriteEnd (state output.old) (state output.new)) }
+{
+    match log_page(alloc, applier.records(), applier.outcomes()) {
+        Ok(page) => {
+            print(output, &page)?;
+            deliver(output)
+        }
+        Err(_) => {
+            deliver(output)?;
+            Err(ReplayFault::OutOfMemory)
+        }
+    }
+}
+
+// Plays a script, and prints the log of what was applied, unless a write failed.
+fn run<W: Sink>(alloc: Global, script: Script, output: &mut W) -> Result<(), ReplayFault>
+    ensures { let state = sink_state W.contents W.pending W.failures in
+        EndsPlaying script (state output.old) (state output.new) (fault_in result) }
+{
+    let Script { setup, steps } = script;
+    let player = Player::open(alloc, setup)?;
+    match player.play(alloc, &steps, output) {
+        Ok(player) => print_log(alloc, &player.applier, output),
+        Err(Stopped::Full(applier)) => {
+            print_log(alloc, &applier, output)?;
+            Err(ReplayFault::LogFull)
+        }
+        Err(Stopped::OutOfMemory(applier)) => {
+            print_log(alloc, &applier, output)?;
+            Err(ReplayFault::OutOfMemory)
+        }
+        Err(Stopped::Unwritten(fault)) => Err(fault),
+    }
+}
+
+/// Reads a script, checks it whole and plays it: it prints a line for each packet that arrives, and
+/// in the end the log page, also where the log was full with an item left.
+///
+/// TooLong and Line are faults of the input, before anything is printed: it has more than 1,048,576
+/// bytes, or a first faulty line. LogFull is an item that finds the log full. ReadFault is a failed
+/// call of `input` and WriteFault one of `output`, unless its error is out of memory. After a failed
+/// call of `output` no other is made. OutOfMemory may come instead of any other answer, and the log
+/// page is printed then too, if it can be made. Own rules.
+pub fn replay_script<R: Read, W: Sink>(
+    alloc: Global,
+    input: &mut R,
+    output: &mut W,
+) -> Result<(), ReplayFault>
+    ensures { let state = sink_state W.contents W.pending W.failures in
+        EndsWith (R.remaining input.old) (state output.old) (state output.new) (fault_in result) }
+{
+    let text = read_input(alloc, input)?;
+    let script = read_script(alloc, &text)?;
+    run(alloc, script, output)
+}
+
+/// Replays a script, reports what stops it in one line on `errors`, and returns the exit status.
+///
+/// The status is 0 where all of the script was replayed and delivered; 2 where the input is no
+/// script, and then nothing was printed; 3 where the log is full with an item left, memory ran out,
+/// or input or output failed. That a line can't be written to `errors` changes nothing. Own rules.
+pub fn run_replay<R: Read, W: Sink, E: Sink>(
+    alloc: Global,
+    input: &mut R,
+    output: &mut W,
+    errors: &mut E,
+) -> u8
+    ensures { let of_output = sink_state W.contents W.pending W.failures in
+        let of_errors = sink_state E.contents E.pending E.failures in
+        IsReplayRun (R.remaining input.old) (of_output output.old) (of_output output.new)
+        (of_errors errors.old) (of_errors errors.new) result }
+{
+    match replay_script(alloc, input, output) {
+        Ok(()) => 0,
+        Err(fault) => {
+            let _ = fault.report(errors);
+            fault.status()
+        }
+    }
+}

@@ -1,0 +1,173 @@
+ghost use Rattle.std.specs.Prelude.{◌≡◌, ◌<◌, ◌==◌, length, position, IfSome};
+ghost use Rattle.std.specs.Option.{option_map};
+ghost use Rattle.gate_replay.specs.ScriptLine.{cut, number_field, code_field, value_of, parsed_object, parsed_open, parsed_clock, parsed_packet, parsed_form, parsed_line};
+
+use gate_applier::MOST_RECORDS;
+use gate_grammar::{read_code, read_number};
+use gate_model::Moment;
+
+/// The greatest age that a script may open with, in seconds.
+pub const GREATEST_AGE: u32 = 900;
+/// The most items that a script may ask a queue to hold.
+pub const MOST_CAPACITY: u32 = 65_536;
+
+/// A parsed line of a script. Its texts are those of the line.
+#[derive(Clone, Copy, Debug, PartialEq, Eq)]
+pub enum ScriptLine<'a> {
+    /// A host, or a service of a host, with the seconds for which a result keeps it fresh.
+    Object {
+        threshold: u32,
+        host: &'a [u8],
+        service: Option<&'a [u8]>,
+    },
+    /// The line that opens: its moment, the greatest age of a packet in seconds, how many items the
+    /// queue holds and how many records the log holds.
+    Open {
+        moment: Moment,
+        age: u32,
+        capacity: u32,
+        limit: u32,
+    },
+    /// The clock is set.
+    Clock {
+        moment: Moment,
+    },
+    /// A packet arrives.
+    Packet {
+        timestamp: Moment,
+        code: i16,
+        host: &'a [u8],
+        service: &'a [u8],
+        output: &'a [u8],
+    },
+}
+
+fn semicolon(text: &[u8]) -> Option<usize>
+    ensures offset { result ≡ position (λ byte. byte == 59) text.now }
+    ensures within { IfSome result (λ offset. offset < length text.now) }
+{
+    text.iter().position(|byte| *byte == b';')
+}
+
+// The text before the first semicolon, and the text after it.
+#[tactic(auto, unfolding(crate::specs::ScriptLine::cut))]
+fn cut(text: &[u8]) -> Option<(&[u8], &[u8])>
+    ensures { option_map (λ pair. (pair.0.now, pair.1.now)) result ≡ cut text.now }
+{
+    match semicolon(text) {
+        Some(offset) => Some((&text[..offset], &text[offset + 1..])),
+        None => None,
+    }
+}
+
+#[tactic(auto, unfolding(crate::specs::ScriptLine::number_field))]
+fn number_field(text: &[u8]) -> Option<(u32, &[u8])>
+    ensures { option_map (λ pair. (pair.0, pair.1.now)) result ≡ number_field text.now }
+{
+    let (field, rest) = cut(text)?;
+    let number = read_number(field)?;
+    Some((number, rest))
+}
+
+#[tactic(auto, unfolding(crate::specs::ScriptLine::code_field))]
+fn code_field(text: &[u8]) -> Option<(i16, &[u8])>
+    ensures { option_map (λ pair. (pair.0, pair.1.now)) result ≡ code_field text.now }
+{
+    let (field, rest) = cut(text)?;
+    let code = read_code(field)?;
+    Some((code, rest))
+}
+
+#[tactic(auto, unfolding(crate::specs::ScriptLine::parsed_object))]
+fn read_object(text: &[u8]) -> Option<ScriptLine<'_>>
+    ensures { option_map value_of result ≡ parsed_object text.now }
+{
+    let (threshold, names) = number_field(text)?;
+    let (host, service) = match cut(names) {
+        Some((host, service)) => (host, Some(service)),
+        None => (names, None),
+    };
+    Some(ScriptLine::Object {
+        threshold,
+        host,
+        service,
+    })
+}
+
+#[tactic(auto, unfolding(crate::specs::ScriptLine::parsed_open))]
+fn read_open(text: &[u8]) -> Option<ScriptLine<'static>>
+    ensures { option_map value_of result ≡ parsed_open text.now }
+{
+    let (moment, rest) = number_field(text)?;
+    let (age, rest) = number_field(rest)?;
+    let (capacity, rest) = number_field(rest)?;
+    let limit = read_number(rest)?;
+    if age > GREATEST_AGE || capacity == 0 || capacity > MOST_CAPACITY {
+        return None;
+    }
+    if limit == 0 || limit > MOST_RECORDS {
+        return None;
+    }
+    Some(ScriptLine::Open {
+        moment: Moment(moment),
+        age,
+        capacity,
+        limit,
+    })
+}
+
+#[tactic(auto, unfolding(crate::specs::ScriptLine::parsed_clock))]
+fn read_clock(text: &[u8]) -> Option<ScriptLine<'static>>
+    ensures { option_map value_of result ≡ parsed_clock text.now }
+{
+    let moment = read_number(text)?;
+    Some(ScriptLine::Clock {
+        moment: Moment(moment),
+    })
+}
+
+#[tactic(auto, unfolding(crate::specs::ScriptLine::parsed_packet))]
+fn read_packet(text: &[u8]) -> Option<ScriptLine<'_>>
+    ensures { option_map value_of result ≡ parsed_packet text.now }
+{
+    let (timestamp, rest) = number_field(text)?;
+    let (code, rest) = code_field(rest)?;
+    let (host, rest) = cut(rest)?;
+    let (service, output) = cut(rest)?;
+    Some(ScriptLine::Packet {
+        timestamp: Moment(timestamp),
+        code,
+        host,
+        service,
+        output,
+    })
+}
+
+#[tactic(auto, unfolding(crate::specs::ScriptLine::parsed_form))]
+fn read_form<'a>(word: &[u8], text: &'a [u8]) -> Option<ScriptLine<'a>>
+    ensures { option_map value_of result ≡ parsed_form word.now text.now }
+{
+    if word == b"object".as_slice() {
+        read_object(text)
+    } else if word == b"open".as_slice() {
+        read_open(text)
+    } else if word == b"clock".as_slice() {
+        read_clock(text)
+    } else if word == b"packet".as_slice() {
+        read_packet(text)
+    } else {
+        None
+    }
+}
+
+/// Parses a line of a script, without the LF that ends it.
+///
+/// It is None where the line has another form, or a number out of range: an age above 900 seconds,
+/// a capacity of 0 or above 65,536, a limit of 0 or above 1,000,000. Own rules.
+#[tactic(auto, unfolding(crate::specs::ScriptLine::parsed_line))]
+pub fn read_script_line(line: &[u8]) -> Option<ScriptLine<'_>>
+    ensures { option_map value_of result ≡ parsed_line line.now }
+{
+    let (word, text) = cut(line)?;
+    read_form(word, text)
+}

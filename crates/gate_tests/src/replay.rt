@@ -1,0 +1,285 @@
+use gate_replay::{Sink, run_program, run_replay};
+use std::alloc::Global;
+use std::io;
+use std::io::{Error, ErrorKind, Read, Write};
+
+const SCRIPT: &[u8] = b"open;1000;9;4;1\npacket;1000;0;web1;;a\npacket;1;0;web1;;b\n";
+
+const PRINTED: &[u8] = b"queued 1\nStale\nlog 1\n\
+[1000] 1:1 PROCESS_HOST_CHECK_RESULT;web1;0;a -> NoSuchHost\n";
+
+/// A reader of so many line ends, which then ends, or fails with this kind of error.
+#[derive(Drop)]
+struct LineEnds {
+    left: u64,
+    fails: Option<ErrorKind>,
+}
+
+impl Read for LineEnds {
+    fn read(&mut self, buf: &mut [u8]) -> io::Result<usize> {
+        if self.left == 0
+            && let Some(kind) = self.fails
+        {
+            return Err(Error::from(kind));
+        }
+        let count = buf.len().min(self.left as usize);
+        for byte in &mut buf[..count] {
+            *byte = b'\n';
+        }
+        self.left -= count as u64;
+        Ok(count)
+    }
+}
+
+/// A reader that is interrupted once, and then reads its text.
+#[derive(Drop)]
+struct Interrupted<'a> {
+    pending: bool,
+    text: &'a [u8],
+}
+
+impl Read for Interrupted<'_> {
+    fn read(&mut self, buf: &mut [u8]) -> io::Result<usize> {
+        if self.pending {
+            self.pending = false;
+            return Err(Error::from(ErrorKind::Interrupted));
+        }
+        self.text.read(buf)
+    }
+}
+
+/// A writer that fails once, after so many bytes, and takes all that is written later.
+#[derive(Drop)]
+struct FailsOnce {
+    left: usize,
+    failed: bool,
+    kind: ErrorKind,
+    taken: Vec<u8>,
+}
+
+impl Write for FailsOnce {
+    fn write(&mut self, buf: &[u8]) -> io::Result<usize> {
+        if self.left == 0 && !self.failed {
+            self.failed = true;
+            return Err(Error::from(self.kind));
+        }
+        let count = if self.failed {
+            buf.len()
+        } else {
+            buf.len().min(self.left)
+        };
+        self.taken.extend_from_slice(&buf[..count])?;
+        if !self.failed {
+            self.left -= count;
+        }
+        Ok(count)
+    }
+
+    fn flush(&mut self) -> io::Result<()> {
+        Ok(())
+    }
+}
+
+impl Sink for FailsOnce {
+    fn put(&mut self, bytes: &[u8]) -> io::Result<()> {
+        self.write_all(bytes)
+    }
+
+    fn deliver(&mut self) -> io::Result<()> {
+        self.flush()
+    }
+}
+
+/// A writer that takes all, and fails when it is flushed.
+#[derive(Drop)]
+struct FailsToFlush;
+
+impl Write for FailsToFlush {
+    fn write(&mut self, buf: &[u8]) -> io::Result<usize> {
+        Ok(buf.len())
+    }
+
+    fn flush(&mut self) -> io::Result<()> {
+        Err(Error::from(ErrorKind::StorageFull))
+    }
+}
+
+impl Sink for FailsToFlush {
+    fn put(&mut self, bytes: &[u8]) -> io::Result<()> {
+        self.write_all(bytes)
+    }
+
+    fn deliver(&mut self) -> io::Result<()> {
+        self.flush()
+    }
+}
+
+fn fails_after(alloc: Global, left: usize, kind: ErrorKind) -> FailsOnce {
+    FailsOnce {
+        left,
+        failed: false,
+        kind,
+        taken: Vec::new(alloc),
+    }
+}
+
+/// Whether the replay of this input ends so.
+fn ends<R: Read>(
+    alloc: Global,
+    input: &mut R,
+    status: u8,
+    printed: &[u8],
+    reported: &[u8],
+) -> bool {
+    let mut output = Vec::new(alloc);
+    let mut errors = Vec::new(alloc);
+    run_replay(alloc, input, &mut output, &mut errors) == status
+        && output.as_slice() == printed
+        && errors.as_slice() == reported
+}
+
+/// Whether the replay of the script to this output ends so.
+fn ends_to<W: Sink>(alloc: Global, output: &mut W, status: u8, reported: &[u8]) -> bool {
+    let mut input = SCRIPT;
+    let mut errors = Vec::new(alloc);
+    run_replay(alloc, &mut input, output, &mut errors) == status && errors.as_slice() == reported
+}
+
+/// Whether nothing is written after the one write that fails, at this offset of the output.
+fn stops_at(alloc: Global, offset: usize, kind: ErrorKind, reported: &[u8]) -> bool {
+    let mut output = fails_after(alloc, offset, kind);
+    ends_to(alloc, &mut output, 3, reported)
+        && output.taken.len() == offset
+        && PRINTED.starts_with(&output.taken)
+}
+
+/// Whether the status is this one where the errors can't be written.
+fn ends_unreported(alloc: Global, script: &[u8], status: u8) -> bool {
+    let mut input = script;
+    let mut output = Vec::new(alloc);
+    let mut errors = fails_after(alloc, 0, ErrorKind::BrokenPipe);
+    run_replay(alloc, &mut input, &mut output, &mut errors) == status
+}
+
+fn text_of(alloc: Global, words: &[&str]) -> Option<Vec<String>> {
+    let mut texts = Vec::new(alloc);
+    for word in words {
+        texts.push(String::from_str(alloc, word).ok()?).ok()?;
+    }
+    Some(texts)
+}
+
+/// Whether the program with these words ends so, with the script as its input.
+fn runs(alloc: Global, words: &[&str], status: u8, printed: &[u8], reported: &[u8]) -> bool {
+    let Some(words) = text_of(alloc, words) else {
+        return false;
+    };
+    let mut input = SCRIPT;
+    let mut output = Vec::new(alloc);
+    let mut errors = Vec::new(alloc);
+    run_program(alloc, &words, &mut input, &mut output, &mut errors) == status
+        && output.as_slice() == printed
+        && errors.as_slice() == reported
+}
+
+#[test]
+fn a_script_is_replayed(rt: HostRuntime) {
+    let mut input = SCRIPT;
+    assert!(rt; ends(rt.alloc(), &mut input, 0, PRINTED, b""));
+}
+
+#[test]
+fn an_interrupted_read_is_made_again(rt: HostRuntime) {
+    let mut input = Interrupted {
+        pending: true,
+        text: SCRIPT,
+    };
+    assert!(rt; ends(rt.alloc(), &mut input, 0, PRINTED, b""));
+}
+
+#[rattlefmt::skip]
+const LENGTHS: [(u64, Option<ErrorKind>, u8, &[u8]); 6] = [
+    // left    fails                          status  reported
+    (1_048_576, None,                         2, b"nscagate: script line 1\n"),
+    (1_048_577, None,                         2, b"nscagate: script too long\n"),
+    (1_048_577, Some(ErrorKind::Other),       2, b"nscagate: script too long\n"),
+    (1_048_576, Some(ErrorKind::Other),       3, b"nscagate: ReadFault\n"),
+    (0,         Some(ErrorKind::BrokenPipe),  3, b"nscagate: ReadFault\n"),
+    (9,         Some(ErrorKind::OutOfMemory), 3, b"nscagate: OutOfMemory\n"),
+];
+
+#[test]
+fn a_long_or_unreadable_input_is_reported_by_its_cause(rt: HostRuntime) {
+    for (left, fails, status, reported) in LENGTHS {
+        let mut input = LineEnds { left, fails };
+        assert!(&rt;
+            ends(rt.alloc(), &mut input, status, b"", reported),
+            "{left}"
+        );
+    }
+}
+
+#[test]
+fn a_failed_flush_is_a_failed_output(rt: HostRuntime) {
+    assert!(rt; ends_to(rt.alloc(), &mut FailsToFlush, 3, b"nscagate: WriteFault\n"));
+}
+
+#[test]
+fn nothing_is_written_after_a_failed_write(rt: HostRuntime) {
+    for offset in 0..PRINTED.len() {
+        assert!(&rt;
+            stops_at(
+                rt.alloc(),
+                offset,
+                ErrorKind::BrokenPipe,
+                b"nscagate: WriteFault\n"
+            ),
+            "{offset}"
+        );
+    }
+}
+
+#[test]
+fn a_writer_that_is_out_of_memory_is_no_failed_output(rt: HostRuntime) {
+    for offset in 0..PRINTED.len() {
+        assert!(&rt;
+            stops_at(
+                rt.alloc(),
+                offset,
+                ErrorKind::OutOfMemory,
+                b"nscagate: OutOfMemory\n"
+            ),
+            "{offset}"
+        );
+    }
+}
+
+#[test]
+fn errors_that_cannot_be_written_change_no_status(rt: HostRuntime) {
+    for (script, status) in [
+        (b"page\n".as_slice(), 2),
+        (b"open;0;0;1;1\npacket;0;0;a;;\npacket;0;0;a;;\n", 3),
+        (SCRIPT, 0),
+    ] {
+        assert!(&rt; ends_unreported(rt.alloc(), script, status), "{status}");
+    }
+}
+
+#[test]
+fn only_the_one_word_replay_replays(rt: HostRuntime) {
+    assert!(rt; runs(rt.alloc(), &["replay"], 0, PRINTED, b""));
+}
+
+#[test]
+fn other_words_are_bad_arguments(rt: HostRuntime) {
+    for words in [
+        [].as_slice(),
+        &["serve"],
+        &["replay", "x"],
+        &["x", "replay"],
+        &["Replay"],
+        &[""],
+    ] {
+        assert!(&rt; runs(rt.alloc(), words, 2, b"", b"nscagate: bad arguments\n"));
+    }
+}
