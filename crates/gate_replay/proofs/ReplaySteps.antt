@@ -184,10 +184,10 @@ write_ends a b c WriteFault h k = fails_then a.failures b.failures c.failures 1 
 
 -- ---- what a step returns
 
-pub stops_for : (P P2 : ApplierView → Type 0) (Q Q2 : Type 0) (R R2 : ReplayFault → Type 0) (stop : Stopped) → ((applier : ApplierView) → P applier → P2 applier) → (Q → Q2) → ((fault : ReplayFault) → R fault → R2 fault) → StopsBy P Q R stop → StopsBy P2 Q2 R2 stop
-stops_for P P2 Q Q2 R R2 (stopped.Full applier) f g w h = f applier h
-stops_for P P2 Q Q2 R R2 (stopped.OutOfMemory applier) f g w h = g h
-stops_for P P2 Q Q2 R R2 (stopped.Unwritten fault) f g w h = w fault h
+pub stops_for : (P P' : ApplierView → Type 0) (Q Q' : Type 0) (R R' : ReplayFault → Type 0) (stop : Stopped) → ((applier : ApplierView) → P applier → P' applier) → (Q → Q') → ((fault : ReplayFault) → R fault → R' fault) → StopsBy P Q R stop → StopsBy P' Q' R' stop
+stops_for P P' Q Q' R R' (stopped.Full applier) f g w h = f applier h
+stops_for P P' Q Q' R R' (stopped.OutOfMemory applier) f g w h = g h
+stops_for P P' Q Q' R R' (stopped.Unwritten fault) f g w h = w fault h
 
 pub step_played : (r : Result Player Stopped) (was : Player) (given : Step) (p : Content) (a b : SinkState) → given ≡ step.Packet p → IfOk r (λ now. MatchBool (is_stale p.timestamp was.clock.0 was.age) ((now ≡ was) × Writes a b (codes "Stale\n")) (TakesItem was now (check_result_of p) × Writes a b (queued_line (next_of was)))) → IfOk r (λ now. (left : List Step) → PlayedSteps was now (given ∷ left) left a b)
 step_played (Ok now) was given p a b is h = rw is (λ left. played_packet was now p a b h left)
