@@ -64,5 +64,5 @@ abbrev pub service_of : List ℕ → Option (List ℕ)
 service_of text = if length text == 0 then None else Some text
 
 -- the check result that a packet reports: the host's own where the packet names no service
-abbrev pub check_result_of : Content → Body
-check_result_of p = bodies.Result p.host (service_of p.service) p.code p.output
+abbrev pub reported_body : Content → Body
+reported_body p = bodies.Result p.host (service_of p.service) p.code p.output

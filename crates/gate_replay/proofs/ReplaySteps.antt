@@ -7,7 +7,7 @@ use Rattle.std.proofs.lemmas.List.{append-nil, take-append-le}
 use Rattle.std.proofs.lemmas.Bool.{cases_Bool, MatchBool-at_true, MatchBool-at_false, ne_eqb, eq-eqb}
 use Rattle.gate_model.specs.declared.record.Record.{Record}
 use Rattle.gate_model.specs.Record.{later}
-use Rattle.gate_packet.specs.Packet.{Content, check_result_of}
+use Rattle.gate_packet.specs.Packet.{Content, reported_body}
 use Rattle.gate_packet.specs.Decoding.{is_stale}
 use Rattle.gate_applier.specs.Applier.{ApplierView}
 use Rattle.gate_replay.specs.declared.fault.ReplayFault.{ReplayFault}
@@ -80,26 +80,26 @@ played_stale was p left a b late printed = record {
 
 -- ---- a packet that becomes an item
 
-longer : (was now : Player) (p : Content) → TakesItem was now (check_result_of p) → length now.applier.records ≡ length was.applier.records + 1
-longer was now p h = ap length h.records ∙ length-append was.applier.records (record_of (later was.applier.moment was.clock) (next_of was) (check_result_of p) ∷ [])
+longer : (was now : Player) (p : Content) → TakesItem was now (reported_body p) → length now.applier.records ≡ length was.applier.records + 1
+longer was now p h = ap length h.records ∙ length-append was.applier.records (record_of (later was.applier.moment was.clock) (next_of was) (reported_body p) ∷ [])
 
-left_after : (was now : Player) (p : Content) (left : List Step) → TakesItem was now (check_result_of p) → to_print now left ≡ answers was.age (next_of was + 1) (answered was.age ((was.applier.limit - length was.applier.records) - 1) (arrivals was.clock left))
+left_after : (was now : Player) (p : Content) (left : List Step) → TakesItem was now (reported_body p) → to_print now left ≡ answers was.age (next_of was + 1) (answered was.age ((was.applier.limit - length was.applier.records) - 1) (arrivals was.clock left))
 left_after was now p left h =
     let number : next_of now ≡ next_of was + 1 = ap (λ n. n + 1) (longer was now p h) in
     let room : now.applier.limit - length now.applier.records ≡ (was.applier.limit - length was.applier.records) - 1 = omega (arith, longer was now p h, h.limit) in
     rw (number, room, h.age, h.clock) refl
 
-print_taken : (was now : Player) (p : Content) (left : List Step) → is_stale p.timestamp was.clock.0 was.age ≡ false → TakesItem was now (check_result_of p) → to_print was (step.Packet p ∷ left) ≡ queued_line (next_of was) ++ to_print now left
+print_taken : (was now : Player) (p : Content) (left : List Step) → is_stale p.timestamp was.clock.0 was.age ≡ false → TakesItem was now (reported_body p) → to_print was (step.Packet p ∷ left) ≡ queued_line (next_of was) ++ to_print now left
 print_taken was now p left late h =
     let some : (was.applier.limit - length was.applier.records == 0) ≡ false = ne_eqb _ _ (λ e. omega (arith, e, h.room)) in
     rw (late, some, late) (ap (λ t. queued_line (next_of was) ++ t) (sym (left_after was now p left h)))
 
-record_taken : (was now : Player) (p : Content) (left : List Step) → is_stale p.timestamp was.clock.0 was.age ≡ false → TakesItem was now (check_result_of p) → to_record now left ≡ to_record was (step.Packet p ∷ left)
+record_taken : (was now : Player) (p : Content) (left : List Step) → is_stale p.timestamp was.clock.0 was.age ≡ false → TakesItem was now (reported_body p) → to_record now left ≡ to_record was (step.Packet p ∷ left)
 record_taken was now p left late h =
     let number : next_of now ≡ next_of was + 1 = ap (λ n. n + 1) (longer was now p h) in
-    rw (late, number, h.records, h.moment, h.age, h.clock) (append_assoc was.applier.records (record_of (later was.applier.moment was.clock) (next_of was) (check_result_of p) ∷ []) (records_of (later was.applier.moment was.clock) (next_of was + 1) (timely was.age (arrivals was.clock left))))
+    rw (late, number, h.records, h.moment, h.age, h.clock) (append_assoc was.applier.records (record_of (later was.applier.moment was.clock) (next_of was) (reported_body p) ∷ []) (records_of (later was.applier.moment was.clock) (next_of was + 1) (timely was.age (arrivals was.clock left))))
 
-played_taken : (was now : Player) (p : Content) (left : List Step) (a b : SinkState) → is_stale p.timestamp was.clock.0 was.age ≡ false → TakesItem was now (check_result_of p) → Writes a b (queued_line (next_of was)) → PlayedSteps was now (step.Packet p ∷ left) left a b
+played_taken : (was now : Player) (p : Content) (left : List Step) (a b : SinkState) → is_stale p.timestamp was.clock.0 was.age ≡ false → TakesItem was now (reported_body p) → Writes a b (queued_line (next_of was)) → PlayedSteps was now (step.Packet p ∷ left) left a b
 played_taken was now p left a b late h printed = record {
   printed = rw (print_taken was now p left late h) (owed_more a.written b.written (queued_line (next_of was)) (to_print now left) printed.appended);
   none_failed = printed.none_failed;
@@ -109,7 +109,7 @@ played_taken was now p left a b late h printed = record {
   age = h.age;
 }
 
-pub played_packet : (was now : Player) (p : Content) (a b : SinkState) → MatchBool (is_stale p.timestamp was.clock.0 was.age) ((now ≡ was) × Writes a b (codes "Stale\n")) (TakesItem was now (check_result_of p) × Writes a b (queued_line (next_of was))) → (left : List Step) → PlayedSteps was now (step.Packet p ∷ left) left a b
+pub played_packet : (was now : Player) (p : Content) (a b : SinkState) → MatchBool (is_stale p.timestamp was.clock.0 was.age) ((now ≡ was) × Writes a b (codes "Stale\n")) (TakesItem was now (reported_body p) × Writes a b (queued_line (next_of was))) → (left : List Step) → PlayedSteps was now (step.Packet p ∷ left) left a b
 played_packet was now p a b h left =
     elim (cases_Bool (is_stale p.timestamp was.clock.0 was.age)) [
       | inl late ↦ (let k = MatchBool-at_true _ _ late h in subst (λ (n : Player). PlayedSteps was n (step.Packet p ∷ left) left a b) (sym k.0) (played_stale was p left a b late k.1))
@@ -123,7 +123,7 @@ print_full was p left late full =
     let none : (was.applier.limit - length was.applier.records == 0) ≡ true = eq-eqb _ _ (omega (arith, full)) in
     rw (late, none, late) (append-nil (queued_line (next_of was)))
 
-record_full : (was : Player) (p : Content) (left : List Step) → is_stale p.timestamp was.clock.0 was.age ≡ false → to_record was (step.Packet p ∷ left) ≡ was.applier.records ++ record_of (later was.applier.moment was.clock) (next_of was) (check_result_of p) ∷ records_of (later was.applier.moment was.clock) (next_of was + 1) (timely was.age (arrivals was.clock left))
+record_full : (was : Player) (p : Content) (left : List Step) → is_stale p.timestamp was.clock.0 was.age ≡ false → to_record was (step.Packet p ∷ left) ≡ was.applier.records ++ record_of (later was.applier.moment was.clock) (next_of was) (reported_body p) ∷ records_of (later was.applier.moment was.clock) (next_of was + 1) (timely was.age (arrivals was.clock left))
 record_full was p left late = rw late refl
 
 front_of : (limit : ℕ) (xs ys : List Record) → length xs ≡ limit → xs ≡ take limit (xs ++ ys)
@@ -189,7 +189,7 @@ stops_for P P' Q Q' R R' (stopped.Full applier) f g w h = f applier h
 stops_for P P' Q Q' R R' (stopped.OutOfMemory applier) f g w h = g h
 stops_for P P' Q Q' R R' (stopped.Unwritten fault) f g w h = w fault h
 
-pub step_played : (r : Result Player Stopped) (was : Player) (given : Step) (p : Content) (a b : SinkState) → given ≡ step.Packet p → IfOk r (λ now. MatchBool (is_stale p.timestamp was.clock.0 was.age) ((now ≡ was) × Writes a b (codes "Stale\n")) (TakesItem was now (check_result_of p) × Writes a b (queued_line (next_of was)))) → IfOk r (λ now. (left : List Step) → PlayedSteps was now (given ∷ left) left a b)
+pub step_played : (r : Result Player Stopped) (was : Player) (given : Step) (p : Content) (a b : SinkState) → given ≡ step.Packet p → IfOk r (λ now. MatchBool (is_stale p.timestamp was.clock.0 was.age) ((now ≡ was) × Writes a b (codes "Stale\n")) (TakesItem was now (reported_body p) × Writes a b (queued_line (next_of was)))) → IfOk r (λ now. (left : List Step) → PlayedSteps was now (given ∷ left) left a b)
 step_played (Ok now) was given p a b is h = rw is (λ left. played_packet was now p a b h left)
 step_played (Err stop) was given p a b is h = tt
 

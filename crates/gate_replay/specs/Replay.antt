@@ -10,7 +10,7 @@ use Rattle.gate_model.specs.declared.record.Record.{Record}
 use Rattle.gate_model.specs.declared.submission.Body.{Body}
 use Rattle.gate_model.specs.Record.{later}
 use Rattle.gate_model.specs.Meaning.{outcomes_of}
-use Rattle.gate_packet.specs.Packet.{Content, check_result_of}
+use Rattle.gate_packet.specs.Packet.{Content, reported_body}
 use Rattle.gate_packet.specs.Decoding.{is_stale}
 use Rattle.gate_replay.specs.declared.script.Step.{Step}
 use Rattle.gate_replay.specs.declared.script.Step.TheVariants as step
@@ -72,7 +72,7 @@ record_of moment number body = record { moment = moment; item = record { client 
 abbrev pub records_of : Moment → ℕ → List Arrival → List Record
 records_of moment number [] = []
 records_of moment number (one ∷ more) =
-    record_of (later moment one.clock) number (check_result_of one.packet) ∷ records_of (later moment one.clock) (number + 1) more
+    record_of (later moment one.clock) number (reported_body one.packet) ∷ records_of (later moment one.clock) (number + 1) more
 
 -- the packets of a script, each with the moment at which it arrives
 abbrev pub arriving_in : Script → List Arrival

@@ -1,6 +1,6 @@
 ghost use Rattle.std.specs.Prelude.{◌≡◌, ◌≤◌, [], ◌∷◌, false, length, if◌then◌else◌, None, Some, List, codes, IfOk, IfErr, IfSome, IsTrue, OnOk};
 ghost use Rattle.std.specs.Bool.{MatchBool};
-ghost use Rattle.gate_packet.specs.Packet.{check_result_of};
+ghost use Rattle.gate_packet.specs.Packet.{reported_body};
 ghost use Rattle.gate_packet.specs.Decoding.{is_stale};
 ghost use Rattle.gate_applier.specs.Applier.{is_supported};
 ghost use Rattle.gate_applier.specs.Applier.{opened};
@@ -48,7 +48,7 @@ fn received(
     greatest_age: u32,
 ) -> Result<Option<Body>, AllocError>
     ensures body { IfOk result (λ body. body ≡ (if is_stale packet.now.timestamp now.0 greatest_age
-        then None else Some (check_result_of packet.now))) }
+        then None else Some (reported_body packet.now))) }
     ensures taken { IfOk result (λ body. IfSome body (λ b. IsTrue (is_supported b))) }
 {
     match round_trip(alloc, packet, now, greatest_age) {
@@ -196,7 +196,7 @@ impl Player {
         ensures ok { let state = sink_state W.contents W.pending W.failures in
             IfOk result (λ now. MatchBool (is_stale packet.now.timestamp self.clock.0 self.age)
             ((now ≡ self) × Writes (state output.old) (state output.new) (codes "Stale\n"))
-            (TakesItem self now (check_result_of packet.now)
+            (TakesItem self now (reported_body packet.now)
             × Writes (state output.old) (state output.new) (queued_line (next_of self)))) }
         ensures stopped { let state = sink_state W.contents W.pending W.failures in
             IfErr result (StopsBy
