@@ -4,6 +4,10 @@ pub mod BuilderSteps
 pub mod Hosts
 pub mod Faults
 mod Rows
+mod MeaningExamples
 pub mod ObjectSteps
+pub mod CommentSteps
+pub mod DowntimeSteps
+pub mod DowntimeGone
 pub mod MeaningSteps
 pub mod OrderSteps

@@ -7,7 +7,7 @@ use Rattle.gate_model.specs.declared.submission.Body.TheVariants.{Result, AddCom
 use Rattle.gate_model.specs.declared.record.Record.{Record}
 use Rattle.gate_model.specs.declared.record.Outcome.TheVariants.{Accepted, NoSuchHost, NoSuchService}
 use Rattle.gate_model.specs.declared.state.State.TheVariants.{Pending, Ok, Warning, Critical, Unknown, Up, Down, Unreachable}
-use Rattle.gate_model.specs.State.{last_result}
+use Rattle.gate_model.specs.Status.{last_result}
 use Rattle.gate_model.specs.Meaning.{history_of, object_events, outcomes_of, state_at}
 
 -- at place 0 the host web1, at place 1 its service HTTP

@@ -3,5 +3,8 @@ pub mod Table
 pub mod Submission
 pub mod State
 pub mod Record
+pub mod Status
+pub mod Comments
+pub mod Downtime
 pub mod Meaning
 pub mod inner

@@ -1,19 +1,11 @@
 -- The states of monitored objects (Nagios Core 4 manual, Passive Checks): which state a return code
--- means (`state_of_code`), which states are problems, and the state of an object after a history
--- (`state_of`). A history lists the newest event first, so the events after one in the list are
--- those that came before it.
--- Own rules: an unknown code is a service's UNKNOWN and a host's DOWN; an object is PENDING until a
--- result of it is accepted.
+-- means (`state_of_code`), and which states are problems.
+-- Own rule: an unknown code is a service's UNKNOWN and a host's DOWN.
 use Rattle.std.specs.Prelude.{ℕ, ℤ, pos, negsuc, Bool, true, false, ◌==◌, List, [], ◌∷◌, Option, Some, None, if◌then◌else◌, filter_map}
 use Rattle.gate_model.specs.declared.object.Kind.{Kind}
 use Rattle.gate_model.specs.declared.object.Kind.TheVariants.{Host, Service}
 use Rattle.gate_model.specs.declared.state.State.{State}
 use Rattle.gate_model.specs.declared.state.State.TheVariants.{Pending, Ok, Warning, Critical, Unknown, Up, Down, Unreachable}
-use Rattle.gate_model.specs.declared.state.ObjectEvent.{ObjectEvent}
-use Rattle.gate_model.specs.declared.state.ObjectEvent.TheVariants.{Result}
-use Rattle.gate_model.specs.declared.state.CheckResult.{CheckResult}
-
--- ---- codes
 
 -- a problem state is any but OK, UP and PENDING
 abbrev pub is_problem : State → Bool
@@ -47,33 +39,17 @@ state_of_code Host (negsuc below) = Down
 state_of_code Service (pos code) = service_state code
 state_of_code Service (negsuc below) = Unknown
 
--- ---- histories
+-- each state has a number of its own
+abbrev pub number_of_state : State → ℕ
+number_of_state Pending = 0
+number_of_state Ok = 1
+number_of_state Warning = 2
+number_of_state Critical = 3
+number_of_state Unknown = 4
+number_of_state Up = 5
+number_of_state Down = 6
+number_of_state Unreachable = 7
 
--- the check result that the event is, if it is one of the object at this place
-abbrev pub check_result_of : ℕ → ObjectEvent → Option CheckResult
-check_result_of object (Result place state moment log_index) =
-    if place == object
-    then Some (record { state = state; moment = moment; log_index = log_index })
-    else None
-
--- the accepted results of the object, newest first
-abbrev pub results_of : ℕ → List ObjectEvent → List CheckResult
-results_of object history = filter_map (check_result_of object) history
-
--- the first of a list that has the newest first
-abbrev pub newest : List CheckResult → Option CheckResult
-newest [] = None
-newest (latest ∷ older) = Some latest
-
--- the last accepted result of the object
-abbrev pub last_result : ℕ → List ObjectEvent → Option CheckResult
-last_result object history = newest (results_of object history)
-
--- the state that a last result leaves, and PENDING without one
-abbrev pub state_left_by : Option CheckResult → State
-state_left_by None = Pending
-state_left_by (Some latest) = latest.state
-
--- the state of the object at this place
-abbrev pub state_of : ℕ → List ObjectEvent → State
-state_of object history = state_left_by (last_result object history)
+-- the two are one state
+abbrev pub is_same_state : State → State → Bool
+is_same_state one other = number_of_state one == number_of_state other

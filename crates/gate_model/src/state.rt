@@ -2,7 +2,6 @@ ghost use Rattle.std.specs.Prelude.{◌≡◌};
 ghost use Rattle.gate_model.specs.State.{is_problem, state_of_code};
 
 use crate::object::Kind;
-use crate::record::Moment;
 
 /// A state of a monitored object (Nagios Core 4 manual, Passive Checks).
 #[derive(Clone, Copy, Debug, PartialEq, Eq)]
@@ -50,27 +49,4 @@ impl State {
     {
         !matches!(self, State::Pending | State::Ok | State::Up)
     }
-}
-
-/// What an accepted record changed of a monitored object.
-#[derive(Clone, Copy, Debug, PartialEq, Eq)]
-pub enum ObjectEvent {
-    /// A passive check result.
-    Result {
-        /// The index, from 0, of the object in the table.
-        place: u32,
-        state: State,
-        moment: Moment,
-        /// The index, from 0, of the record in the log, refused records counted.
-        log_index: u32,
-    },
-}
-
-/// An accepted check result of one object.
-#[derive(Clone, Copy, Debug, PartialEq, Eq)]
-pub struct CheckResult {
-    pub state: State,
-    pub moment: Moment,
-    /// The index, from 0, of the record in the log, refused records counted.
-    pub log_index: u32,
 }
