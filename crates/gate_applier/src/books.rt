@@ -2,8 +2,8 @@ ghost use Rattle.std.specs.Prelude.{◌≡◌, ℕ, ◌<◌, List, [], ◌∷◌
 ghost use Rattle.gate_model.specs.declared.record.Moment.{Moment};
 ghost use Rattle.gate_model.specs.declared.submission.Body.TheVariants.{Result as ResultBody};
 ghost use Rattle.gate_model.specs.declared.record.Outcome.TheVariants.{Accepted};
-ghost use Rattle.gate_model.specs.declared.state.ObjectEvent.{ObjectEvent};
-ghost use Rattle.gate_model.specs.declared.state.ObjectEvent.TheVariants.{Result as ResultEvent};
+ghost use Rattle.gate_model.specs.declared.status.ObjectEvent.{ObjectEvent};
+ghost use Rattle.gate_model.specs.declared.status.ObjectEvent.TheVariants.{Result as ResultEvent};
 ghost use Rattle.gate_model.specs.Meaning.{Judged, judgement_of, outcome_for, outcome_at};
 ghost use Rattle.gate_applier.specs.Applier.{is_supported};
 ghost use Rattle.gate_applier.specs.inner.Books.{kept_state, BooksKeep, BooksStand, BooksFollow};

@@ -7,9 +7,9 @@ use Rattle.gate_model.specs.declared.submission.Body.{Body}
 use Rattle.gate_model.specs.declared.record.Outcome.{Outcome}
 use Rattle.gate_model.specs.declared.state.State.{State}
 use Rattle.gate_model.specs.declared.state.State.TheVariants.{Pending}
-use Rattle.gate_model.specs.declared.state.ObjectEvent.{ObjectEvent}
+use Rattle.gate_model.specs.declared.status.ObjectEvent.{ObjectEvent}
 use Rattle.gate_model.specs.Record.{is_accepted}
-use Rattle.gate_model.specs.State.{state_of}
+use Rattle.gate_model.specs.Status.{state_of}
 use Rattle.gate_model.specs.Meaning.{Judged, object_event_of, object_events}
 use Rattle.gate_applier.specs.declared.books.Books.{Books}
 
