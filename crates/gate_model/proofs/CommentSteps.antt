@@ -1,11 +1,11 @@
 -- What one more event changes in the meaning of comments.
-use Rattle.std.proofs.Common.{◌≡◌, ℕ, ◌+◌, Bool, true, false, cond, not, ◌&&◌, ◌||◌, List, [], ◌∷◌, ◌++◌, refl, sym, ap, ◌∙◌}
+use Rattle.std.proofs.Common.{◌≡◌, ℕ, Bool, true, false, cond, not, ◌||◌, List, [], ◌∷◌, ◌++◌, refl, sym, ap, ◌∙◌}
 use Rattle.std.specs.Prelude.{filter}
 use Rattle.std.specs.List.{list_any}
 use Rattle.gate_model.specs.declared.comments.Comment.{Comment}
 use Rattle.gate_model.specs.declared.comments.CommentEvent.{CommentEvent}
 use Rattle.gate_model.specs.declared.comments.CommentEvent.TheVariants.{Add, Delete, DeleteAll, Clear, Gone}
-use Rattle.gate_model.specs.Comments.{removes, unless_removed, comments_left, comments_of, comment_made, number_made}
+use Rattle.gate_model.specs.Comments.{removes, unless_removed, comments_left, comments_of, comment_made}
 
 filter-append : {X : Type 0} (p : X → Bool) (xs ys : List X) → filter p (xs ++ ys) ≡ filter p xs ++ filter p ys
 filter-append p [] ys = refl

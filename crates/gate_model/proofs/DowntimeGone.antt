@@ -1,13 +1,11 @@
 -- A transition gives a beginning only to entries that aren't over: what is gone stays gone.
 use Rattle.std.proofs.Common.{◌≡◌, ℕ, ◌+◌, ◌≤◌, ◌<◌, min, max, Bool, true, false, cond, not, ◌&&◌, ◌||◌, List, [], ◌∷◌, map, Option, refl, sym, ap, ◌∙◌, arith, ◌⊎◌, inl, inr, ltb, leb, eqb}
-use Rattle.std.specs.Prelude.{Some, None, ◌==◌, nat_lt, nat_le, is_some, unwrap_or, option_map}
-use Rattle.std.proofs.lemmas.Bool.Decides.{eqb_tells, nat_tests}
+use Rattle.std.specs.Prelude.{Some, None, ◌==◌, nat_le, is_some, unwrap_or, option_map}
 use Rattle.std.proofs.lemmas.Bool.{leb-false, ltb-true, ltb-false, lt-ltb, le-ltb}
 use Rattle.gate_model.specs.declared.record.Moment.{Moment}
-use Rattle.gate_model.specs.declared.downtime.Scheduled.{Scheduled}
 use Rattle.gate_model.specs.declared.downtime.Entry.{Entry}
-use Rattle.gate_model.specs.Downtime.{or_else, begins_at, begin_in, over_in, over_by, over_unbegun, begin_by, begin_with, is_before, is_deleted_in, is_live_in}
-use Rattle.gate_model.proofs.DowntimeSteps.{turn, begin_in-other, over_in-other}
+use Rattle.gate_model.specs.Downtime.{or_else, begins_at, begin_in, over_in, is_before, is_deleted_in, is_live_in}
+use Rattle.gate_model.proofs.DowntimeSteps.{turn}
 
 abbrev pub IsFrom : ℕ → (begun over : Option ℕ) → Type 0
 IsFrom m None over = is_before m over ≡ true
@@ -105,22 +103,22 @@ moved-entry false fixed starts ends lasts moment transition hit m can (Some b) t
 moved-entry false true starts ends lasts moment transition hit m can None to tb' to' (inr fresh) = fresh-fixed m.0 ends lasts moment to tb' to' fresh.1 fresh.2
 moved-entry false false starts ends lasts moment transition hit m can None to tb' to' (inr fresh) = fresh-flexible m.0 ends lasts moment to tb' to' fresh.1 fresh.2
 
--- what a transition that begins an entry tells of it
-hit-tells : (free fixed place starts : Bool) (m ends : ℕ) (was_deleted : Bool) → ((not fixed && free && place && starts && ltb m ends) && not was_deleted) ≡ true → (free ≡ true) × (fixed ≡ false) × (m < ends)
-hit-tells true false true true m ends false e = (refl, refl, ltb-true m ends (and-true (ltb m ends) e))
+-- what holds of an entry that a transition begins
+facts_of_hit : (free fixed place starts : Bool) (m ends : ℕ) (was_deleted : Bool) → ((not fixed && free && place && starts && ltb m ends) && not was_deleted) ≡ true → (free ≡ true) × (fixed ≡ false) × (m < ends)
+facts_of_hit true false true true m ends false e = (refl, refl, ltb-true m ends (and-true (ltb m ends) e))
   where
     and-true : (b : Bool) → (b && true) ≡ true → b ≡ true
     and-true true h = refl
     and-true false h = h
-hit-tells true false true true m ends true e = absurd (never (ltb m ends) e)
+facts_of_hit true false true true m ends true e = absurd (never (ltb m ends) e)
   where
     never : (b : Bool) → (b && false) ≡ true → ⊥
     never true h = cc
     never false h = cc
-hit-tells true false true false m ends was_deleted e = cc
-hit-tells true false false starts m ends was_deleted e = cc
-hit-tells false false place starts m ends was_deleted e = cc
-hit-tells free true place starts m ends was_deleted e = cc
+facts_of_hit true false true false m ends was_deleted e = cc
+facts_of_hit true false false starts m ends was_deleted e = cc
+facts_of_hit false false place starts m ends was_deleted e = cc
+facts_of_hit free true place starts m ends was_deleted e = cc
 
 -- after a transition, each entry is as before, or it wasn't over at the moment and had not begun
 pub moved : (m : Moment) (p : ℕ) (es : List Entry) (k : ℕ) → Moved m.0 (begin_in es k) (over_in es k) (begin_in (map (turn m p) es) k) (over_in (map (turn m p) es) k)
@@ -128,7 +126,7 @@ moved m p [] k = inl (refl, refl)
 moved m p (e ∷ earlier) k =
     at (eqb e.scheduled.id k) (moved m p earlier k)
     (moved-entry (e.scheduled.plan.trigger == 0) e.scheduled.plan.fixed e.scheduled.plan.starts.0 e.scheduled.plan.ends.0 e.scheduled.plan.lasts e.scheduled.moment.0 e.transition (begins_at e.scheduled m p && not e.deleted) m
-    (hit-tells (e.scheduled.plan.trigger == 0) e.scheduled.plan.fixed (e.scheduled.object.place == p) (nat_le e.scheduled.plan.starts.0 m.0) m.0 e.scheduled.plan.ends.0 e.deleted)
+    (facts_of_hit (e.scheduled.plan.trigger == 0) e.scheduled.plan.fixed (e.scheduled.object.place == p) (nat_le e.scheduled.plan.starts.0 m.0) m.0 e.scheduled.plan.ends.0 e.deleted)
     (begin_in earlier e.scheduled.plan.trigger) (over_in earlier e.scheduled.plan.trigger) (begin_in (map (turn m p) earlier) e.scheduled.plan.trigger) (over_in (map (turn m p) earlier) e.scheduled.plan.trigger)
     (moved m p earlier e.scheduled.plan.trigger))
   where

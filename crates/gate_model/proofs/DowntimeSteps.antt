@@ -1,6 +1,6 @@
 -- What one more event changes in the meaning of downtime.
-use Rattle.std.proofs.Common.{◌≡◌, ℕ, suc, ◌+◌, ◌≤◌, ◌<◌, Bool, true, false, cond, not, ◌&&◌, ◌||◌, List, [], ◌∷◌, length, map, Option, refl, sym, ap, ◌∙◌, arith, ◌⊎◌, inl, inr, ltb, leb, eqb, add-one}
-use Rattle.std.specs.Prelude.{Some, None, ◌==◌, nat_lt, nat_le, IsTrue}
+use Rattle.std.proofs.Common.{◌≡◌, ℕ, suc, ◌+◌, ◌≤◌, ◌<◌, Bool, true, false, cond, not, ◌&&◌, ◌||◌, List, [], ◌∷◌, length, map, Option, refl, ap, ◌∙◌, arith, inl, inr, ltb, eqb}
+use Rattle.std.specs.Prelude.{Some, None, ◌==◌}
 use Rattle.std.proofs.lemmas.Bool.Decides.{eqb_tells}
 use Rattle.std.proofs.lemmas.Bool.Decides.{nat_tests}
 use Rattle.gate_model.specs.declared.record.Moment.{Moment}
@@ -10,7 +10,7 @@ use Rattle.gate_model.specs.declared.downtime.DowntimeEvent.{DowntimeEvent}
 use Rattle.gate_model.specs.declared.downtime.DowntimeEvent.TheVariants.{Schedule, Delete, Transition}
 use Rattle.gate_model.specs.declared.downtime.Scheduled.{Scheduled}
 use Rattle.gate_model.specs.declared.downtime.Entry.{Entry}
-use Rattle.gate_model.specs.Downtime.{scheduled_in, entries_of, entries_by, transition_of, was_deleted, or_else, begins_at, is_chained, is_live_in, begin_in, over_in, over_by, begin_by, is_deleted_in, is_before}
+use Rattle.gate_model.specs.Downtime.{scheduled_in, entries_of, entries_by, transition_of, was_deleted, or_else, begins_at, is_chained, is_live_in, begin_in, over_in, over_by, begin_by}
 
 -- an entry after a transition
 abbrev pub turn : Moment → ℕ → Entry → Entry

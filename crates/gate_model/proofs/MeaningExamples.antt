@@ -1,17 +1,14 @@
 -- Worked examples of the meaning of records: each holds by computing the definitions. The object table has the
 -- host web1, at place 0, and its service HTTP, at place 1, each with a threshold of 300 seconds; it is opened at 1000.
 use Rattle.std.proofs.Common.{◌≡◌, ℕ, Bool, true, false, List, [], ◌∷◌, ◌++◌, map, Option, refl}
-use Rattle.std.specs.Prelude.{Some, None, ℤ, pos, codes}
-use Rattle.gate_model.specs.declared.record.Moment.{Moment}
+use Rattle.std.specs.Prelude.{Some, None, pos, codes}
 use Rattle.gate_model.specs.declared.object.Kind.{Kind}
 use Rattle.gate_model.specs.declared.object.Kind.TheVariants.{Host, Service}
 use Rattle.gate_model.specs.declared.object.ObjectLine.{ObjectLine}
 use Rattle.gate_model.specs.declared.submission.Body.{Body}
 use Rattle.gate_model.specs.declared.submission.Body.TheVariants as body
 use Rattle.gate_model.specs.declared.record.Record.{Record}
-use Rattle.gate_model.specs.declared.record.Outcome.{Outcome}
-use Rattle.gate_model.specs.declared.record.Outcome.TheVariants.{Accepted, NoSuchHost, NoSuchService, NoSuchComment, NoSuchDowntime, WrongKind, NoProblem, NotAcknowledged, BadWindow, WindowPast, NoSuchTrigger}
-use Rattle.gate_model.specs.declared.status.Acknowledgement.{Acknowledgement}
+use Rattle.gate_model.specs.declared.record.Outcome.TheVariants.{Accepted, NoSuchComment, NoSuchDowntime, WrongKind, NoProblem, NotAcknowledged, BadWindow, WindowPast, NoSuchTrigger}
 use Rattle.gate_model.specs.declared.comments.Comment.{Comment}
 use Rattle.gate_model.specs.Meaning.{outcomes_of, acknowledgement_at, comments_at, depth_at, is_stale_at, LiveEntry, downtimes_at}
 

@@ -6,9 +6,8 @@
 -- A history lists the newest event first, so what stands after an event in the list came before it. Beginnings
 -- and ends depend on the history alone, and a moment is only compared with them. Ends are numbers of seconds of
 -- any size, since a beginning and a duration may add up to more than a moment can be.
-use Rattle.std.specs.Prelude.{ℕ, Bool, true, false, not, ◌&&◌, ◌||◌, ◌==◌, nat_lt, nat_le, ◌+◌, min, max, List, [], ◌∷◌, length, map, filter, Option, Some, None, option_map, unwrap_or, is_some, if◌then◌else◌, count_by}
+use Rattle.std.specs.Prelude.{ℕ, Bool, false, not, ◌&&◌, ◌||◌, ◌==◌, nat_lt, nat_le, ◌+◌, min, max, List, [], ◌∷◌, length, map, Option, Some, None, option_map, unwrap_or, is_some, if◌then◌else◌, count_by}
 use Rattle.gate_model.specs.declared.record.Moment.{Moment}
-use Rattle.gate_model.specs.declared.object.ObjectId.{ObjectId}
 use Rattle.gate_model.specs.declared.downtime.Plan.{Plan}
 use Rattle.gate_model.specs.declared.downtime.Scheduled.{Scheduled}
 use Rattle.gate_model.specs.declared.downtime.Entry.{Entry}
@@ -85,8 +84,8 @@ over_in [] id = None
 over_in (entry ∷ older) id =
     if entry.scheduled.id == id
     then Some (
-        over_by entry (begin_by entry (begin_in older entry.scheduled.plan.trigger)) (begin_in older entry.scheduled.plan.trigger)
-        (over_in older entry.scheduled.plan.trigger)
+    over_by entry (begin_by entry (begin_in older entry.scheduled.plan.trigger)) (begin_in older entry.scheduled.plan.trigger)
+    (over_in older entry.scheduled.plan.trigger)
     )
     else over_in older id
 

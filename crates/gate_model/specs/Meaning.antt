@@ -3,7 +3,7 @@
 -- `acknowledgement_at`, `is_stale_at`, `comments_at`, `depth_at`, `downtimes_at`. All others take the newest
 -- first, so what stands after a record in the list came before it.
 -- Own rules: the refusals and their order.
-use Rattle.std.specs.Prelude.{ℕ, ◌+◌, ◌==◌, nat_lt, nat_le, not, ◌&&◌, ◌||◌, Bool, true, false, List, [], ◌∷◌, length, map, filter, reverse, find, Option, Some, None, option_map, is_some, if◌then◌else◌, filter_map}
+use Rattle.std.specs.Prelude.{ℕ, ◌+◌, ◌==◌, nat_le, not, ◌&&◌, ◌||◌, Bool, true, false, List, [], ◌∷◌, length, map, filter, reverse, find, Option, Some, None, option_map, is_some, if◌then◌else◌, filter_map}
 use Rattle.std.specs.List.{cons_option}
 use Rattle.gate_model.specs.declared.record.Moment.{Moment}
 use Rattle.gate_model.specs.declared.object.Kind.{Kind}

@@ -1,7 +1,7 @@
 -- The states of monitored objects (Nagios Core 4 manual, Passive Checks): which state a return code
 -- means (`state_of_code`), and which states are problems.
 -- Own rule: an unknown code is a service's UNKNOWN and a host's DOWN.
-use Rattle.std.specs.Prelude.{ℕ, ℤ, pos, negsuc, Bool, true, false, ◌==◌, List, [], ◌∷◌, Option, Some, None, if◌then◌else◌, filter_map}
+use Rattle.std.specs.Prelude.{ℕ, ℤ, pos, negsuc, Bool, true, false, ◌==◌, if◌then◌else◌}
 use Rattle.gate_model.specs.declared.object.Kind.{Kind}
 use Rattle.gate_model.specs.declared.object.Kind.TheVariants.{Host, Service}
 use Rattle.gate_model.specs.declared.state.State.{State}

@@ -4,7 +4,7 @@
 -- Own rules: an object is PENDING until a result is accepted; what a change and a transition are; that a
 -- second acknowledgement replaces the first; when an object is stale.
 -- A history lists the newest event first, so what stands after an event in the list came before it.
-use Rattle.std.specs.Prelude.{ℕ, ◌+◌, ◌==◌, nat_lt, List, [], ◌∷◌, Option, Some, None, is_some, option_map, unwrap_or, if◌then◌else◌, filter_map, Bool, true, false, not, ◌&&◌, ◌||◌}
+use Rattle.std.specs.Prelude.{ℕ, ◌+◌, ◌==◌, nat_lt, List, [], ◌∷◌, Option, Some, None, is_some, if◌then◌else◌, filter_map, Bool, false, not, ◌&&◌, ◌||◌}
 use Rattle.std.specs.List.{list_any}
 use Rattle.gate_model.specs.declared.record.Moment.{Moment}
 use Rattle.gate_model.specs.declared.status.ObjectEvent.{ObjectEvent}

@@ -4,11 +4,15 @@
 #[cfg(test)]
 mod applier;
 #[cfg(test)]
+mod comments;
+#[cfg(test)]
 mod grammar;
 #[cfg(test)]
 mod machine;
 #[cfg(test)]
 mod model;
+#[cfg(test)]
+mod objects;
 #[cfg(test)]
 mod packet;
 #[cfg(test)]

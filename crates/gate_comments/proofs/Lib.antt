@@ -1,0 +1,4 @@
+pub mod CountSteps
+pub mod KeepingSteps
+pub mod SearchSteps
+pub mod StandingSteps

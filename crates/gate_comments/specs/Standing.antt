@@ -1,0 +1,20 @@
+-- When a book of comments stands after a history: all that it shows of comments is the meaning of that history. The
+-- main definitions are `IsStanding`, `AddsEvent` and `HoldsAfter`.
+use Rattle.std.specs.Prelude.{◌≡◌, ℕ, ◌+◌, List, ◌∷◌}
+use Rattle.gate_model.specs.declared.comments.CommentEvent.{CommentEvent}
+use Rattle.gate_model.specs.Comments.{comments_of, number_made}
+use Rattle.gate_comments.specs.Book.{CommentsView}
+
+-- the book has the comments that this history leaves, the first ever made having the id `first`
+pub record IsStanding (first : ℕ) (book : CommentsView) (history : List CommentEvent) : Type 0 where
+  pub comments_are : book.comments ≡ comments_of first history
+  pub next_id_is : book.next_id ≡ first + number_made history
+
+-- after whichever history the old book stands, the new one stands after it with the event added
+abbrev pub AddsEvent : CommentEvent → CommentsView → CommentsView → Type 0
+AddsEvent event old new =
+    (first : ℕ) (history : List CommentEvent) → IsStanding first old history → IsStanding first new (event ∷ history)
+
+-- this is so of every history after which the book stands, and of the id from which it counts
+abbrev pub HoldsAfter : CommentsView → (ℕ → List CommentEvent → Type 0) → Type 0
+HoldsAfter book Fact = (first : ℕ) (history : List CommentEvent) → IsStanding first book history → Fact first history

@@ -1,0 +1,3 @@
+-- Only proofs and private functions use what stands here.
+pub mod Counts
+pub mod Keeping

@@ -1,0 +1,4 @@
+pub mod RowSteps
+pub mod StandingSteps
+pub mod StaleSteps
+pub mod OpeningSteps

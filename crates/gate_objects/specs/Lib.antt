@@ -1,0 +1,4 @@
+pub mod Row
+pub mod Book
+pub mod Standing
+pub mod inner

@@ -1,0 +1,2 @@
+-- Only proofs and private functions use what stands here.
+pub mod Placing

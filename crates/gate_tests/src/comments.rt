@@ -1,0 +1,135 @@
+ghost use Rattle.std.specs.Prelude.{◌≤◌, IfSome};
+
+use gate_comments::{CommentBook, DeleteFault, IdsSpent};
+use gate_model::{Kind, ObjectId, Source, Steps};
+use std::alloc::Global;
+
+const WEB1: ObjectId = ObjectId {
+    place: 0,
+    kind: Kind::Host,
+};
+
+const HTTP: ObjectId = ObjectId {
+    place: 1,
+    kind: Kind::Service,
+};
+
+// A book with room for two comments.
+fn opened(alloc: Global, first_id: u32) -> Option<CommentBook>
+    ensures { IfSome result (λ book. 2 ≤ book.room) }
+{
+    if first_id == 0 {
+        return None;
+    }
+    let mut book = CommentBook::open(alloc, first_id);
+    book.reserve(2).ok()?;
+    Some(book)
+}
+
+fn two_adds(alloc: Global, first_id: u32) -> Option<[Result<u32, IdsSpent>; 2]> {
+    let mut book = opened(alloc, first_id)?;
+    let first = book.add(HTTP, Source::User, false, 0);
+    let second = book.add(WEB1, Source::User, false, 1);
+    Some([first, second])
+}
+
+// Comment 1 on HTTP and comment 2 on web1.
+fn on_both(alloc: Global) -> Option<CommentBook> {
+    let mut book = opened(alloc, 1)?;
+    book.add(HTTP, Source::User, false, 0).ok()?;
+    book.add(WEB1, Source::User, false, 1).ok()?;
+    Some(book)
+}
+
+fn deletions(alloc: Global) -> Option<[Result<(), DeleteFault>; 3]> {
+    let mut book = on_both(alloc)?;
+    let other_kind = book.delete(Kind::Host, 1);
+    let right_kind = book.delete(Kind::Service, 1);
+    let again = book.delete(Kind::Service, 1);
+    Some([other_kind, right_kind, again])
+}
+
+fn ids(alloc: Global, book: &CommentBook) -> Option<Vec<u32>> {
+    book.list()
+        .iter()
+        .map(|comment| comment.id)
+        .collect(alloc)
+        .ok()
+}
+
+fn ids_without_those_on(alloc: Global, object: ObjectId) -> Option<Vec<u32>> {
+    let mut book = on_both(alloc)?;
+    book.delete_all(object);
+    ids(alloc, &book)
+}
+
+fn are_left_without(alloc: Global, object: ObjectId, want: &[u32]) -> bool {
+    match ids_without_those_on(alloc, object) {
+        Some(ids) => ids.as_slice() == want,
+        None => false,
+    }
+}
+
+// Comments 1 to 1000.
+fn thousand(alloc: Global) -> Option<CommentBook> {
+    let mut book = CommentBook::open(alloc, 1);
+    book.reserve(1000).ok()?;
+    for log_index in 0..1000 {
+        if book.room() == 0 {
+            return None;
+        }
+        book.add(HTTP, Source::User, false, log_index).ok()?;
+    }
+    Some(book)
+}
+
+fn steps_to_find(book: &CommentBook, id: u32) -> Option<u32> {
+    let mut steps = Steps::new();
+    let index = book.find(id, &mut steps)?;
+    let comment = book.list().get(index)?;
+    if comment.id == id {
+        Some(steps.count())
+    } else {
+        None
+    }
+}
+
+fn each_is_found_in_1_to_10_steps(alloc: Global) -> bool {
+    match thousand(alloc) {
+        Some(book) => {
+            (1..1001).all(
+                |id| matches!(steps_to_find(&book, id), Some(steps) if 1 <= steps && steps <= 10),
+            )
+        }
+        None => false,
+    }
+}
+
+#[test]
+fn the_last_id_is_given_once(rt: HostRuntime) {
+    assert_eq!(rt;
+        two_adds(rt.alloc(), 4_294_967_295),
+        Some([Ok(4_294_967_295), Err(IdsSpent)])
+    );
+}
+
+#[test]
+fn a_comment_is_deleted_once_and_by_its_own_kind(rt: HostRuntime) {
+    let want = [
+        Err(DeleteFault::WrongKind),
+        Ok(()),
+        Err(DeleteFault::NoSuchComment),
+    ];
+    assert_eq!(rt; deletions(rt.alloc()), Some(want));
+}
+
+#[test]
+fn all_comments_of_one_object_leave_those_of_others(rt: HostRuntime) {
+    assert!(rt; are_left_without(rt.alloc(), HTTP, &[2]));
+    assert!(rt; are_left_without(rt.alloc(), WEB1, &[1]));
+}
+
+#[test]
+fn each_of_a_thousand_comments_is_found_in_1_to_10_comparisons(rt: HostRuntime) {
+    assert!(rt; each_is_found_in_1_to_10_steps(rt.alloc()));
+}
