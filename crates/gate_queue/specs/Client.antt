@@ -1,0 +1,25 @@
+-- What contracts see of a client, and why a submission is refused. Own rules.
+use Rattle.std.specs.Prelude.{◌≡◌, ℕ, ◌+◌, ◌-◌, ◌*◌, ◌≤◌, List, length, Option, Some, None, IfSome}
+use Rattle.crossbeam_queue.specs.Fifo.{Held}
+use Rattle.gate_model.specs.declared.record.Moment.{Moment}
+use Rattle.gate_model.specs.declared.submission.Body.{Body}
+use Rattle.gate_model.specs.declared.submission.Numbered.{Numbered}
+use Rattle.gate_core.specs.Limits.{Limits}
+use Rattle.gate_core.specs.Merge.{IsCoreState}
+use Rattle.gate_queue.specs.Gate.{GateId}
+
+-- a client, or one that has ended: its gate, its number, what it was answered is queued, and the moment of the close, once it knows of it
+pub record ClientState : Type 0 where
+  pub gate : GateId
+  pub number : ℕ
+  pub queued : List Numbered
+  pub known_close : Option Moment
+
+abbrev pub client_state : GateId → ℕ → List Numbered → Option Moment → ClientState
+client_state gate number queued known_close = record { gate = gate; number = number; queued = queued; known_close = known_close }
+
+-- the queue may hold these items where this was queued for client c: with some items taken and some queued for the others, nothing is lost, made or out of order
+abbrev pub AllowsBeside : Limits → ℕ → List Numbered → List Numbered → Type 0
+AllowsBeside limits c queued queue =
+    (sent : ℕ → List Numbered) × (taken : List Numbered)
+    × IsCoreState limits.clients limits.quota limits.capacity sent taken queue × (sent c ≡ queued)

@@ -1,0 +1,5 @@
+pub mod Gate
+pub mod Knowledge
+pub mod Client
+pub mod Taker
+pub mod inner

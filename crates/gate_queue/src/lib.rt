@@ -1,0 +1,7 @@
+//! The queue that threads run: clients submit to it, one taker empties it, and a closer closes it.
+//!
+//! In any schedule of threads, what was taken followed by the queue is a merge of what each client
+//! was answered is queued. No lock covers the queue and the close.
+#![tactic(auto)]
+
+mod rule;

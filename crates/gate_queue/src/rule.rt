@@ -1,0 +1,132 @@
+ghost use Rattle.std.specs.Prelude.{ℕ};
+
+use crossbeam_queue::RuledArrayQueue;
+use crossbeam_queue::protocol::{Join, Lesson, Outcome, Protocol, Split};
+use gate_model::Numbered;
+use std::collections::LinkedList;
+use std::marker::{Brand, PhantomData};
+
+/// What was queued for a client that the taker has taken in. No value of it is made.
+pub struct EndedList {
+    pub client: u64,
+    pub queued: LinkedList<Numbered>,
+}
+
+/// What a pass knows of the queue. Every pass knows the limits; a client's pass its number and what
+/// was queued for it; the taker's pass how many clients' passes it made, what was taken, and what
+/// was queued for the clients taken in. No value of it is made.
+pub struct View {
+    pub clients: u64,
+    pub quota: u64,
+    pub capacity: u64,
+    pub sends: bool,
+    pub number: u64,
+    pub queued: LinkedList<Numbered>,
+    pub takes: bool,
+    pub made: u64,
+    pub taken: LinkedList<Numbered>,
+    pub ended: LinkedList<EndedList>,
+}
+
+/// The limits with which a gate is opened, as the call that opens it picks them.
+pub trait PickedLimits {
+    ghost clients: { ℕ };
+    ghost quota: { ℕ };
+    ghost capacity: { ℕ };
+}
+
+impl PickedLimits for Brand {
+    ghost clients = { 0 };
+
+    ghost quota = { 0 };
+
+    ghost capacity = { 0 };
+}
+
+/// The rule of the queue: nothing is lost, made or out of order.
+pub struct Conserves;
+
+impl Protocol<Numbered, View> for Conserves {
+    ghost use Rattle.gate_queue.specs.inner.Rule.{IsRuled, opener};
+
+    ghost holds = { IsRuled };
+
+    ghost first = { opener };
+}
+
+/// The first pass becomes the taker's, and gets the limits.
+pub struct Begin<J>(PhantomData<J>);
+
+impl<J: PickedLimits> Split<View> for Begin<J> {
+    ghost use Rattle.std.specs.Prelude.{[]};
+    ghost use Rattle.gate_queue.specs.inner.Rule.{taker, blank};
+
+    ghost left = { λ v. taker J.clients J.quota J.capacity 0 [] [] };
+
+    ghost right = { λ v. blank };
+}
+
+/// The taker's pass makes the next client's pass.
+pub struct MakeClient;
+
+impl Split<View> for MakeClient {
+    ghost use Rattle.std.specs.Prelude.{[], ◌+◌};
+    ghost use Rattle.gate_queue.specs.inner.Rule.{taker, client};
+
+    ghost left = { λ v. taker v.clients v.quota v.capacity (v.made + 1) v.taken v.ended };
+
+    ghost right = { λ v. client v.clients v.quota v.capacity (v.made + 1) [] };
+}
+
+/// The taker's pass takes in the pass of a client that has ended.
+pub struct TakeIn;
+
+impl Join<View> for TakeIn {
+    ghost use Rattle.std.specs.Prelude.{◌∷◌};
+    ghost use Rattle.gate_queue.specs.Taker.{ended_list};
+    ghost use Rattle.gate_queue.specs.inner.Rule.{taker, blank};
+
+    ghost both = { λ v w.
+        taker v.clients v.quota v.capacity v.made v.taken (ended_list w.number w.queued ∷ v.ended) };
+
+    ghost spent = { blank };
+}
+
+/// A client's push: it lands, or it meets a full queue.
+pub struct Push;
+
+impl Outcome<Numbered, View> for Push {
+    ghost use Rattle.std.specs.Prelude.{◌≡◌, [], ◌∷◌, ◌++◌};
+    ghost use Rattle.gate_queue.specs.inner.Rule.{client};
+
+    ghost then = { λ v x w.
+        w ≡ client v.clients v.quota v.capacity v.number (v.queued ++ x ∷ []) };
+}
+
+impl Lesson<Numbered, View> for Push {
+    ghost use Rattle.gate_core.specs.Limits.{limits_of};
+    ghost use Rattle.gate_queue.specs.Client.{AllowsBeside};
+
+    ghost fact = { λ v items.
+        AllowsBeside (limits_of v.clients v.quota v.capacity) v.number v.queued items };
+}
+
+/// The taker's pop: it takes, or it meets an empty queue.
+pub struct Pop;
+
+impl Outcome<Numbered, View> for Pop {
+    ghost use Rattle.gate_queue.specs.inner.Rule.{TakesNext};
+
+    ghost then = { TakesNext };
+}
+
+impl Lesson<Numbered, View> for Pop {
+    ghost use Rattle.gate_core.specs.Limits.{limits_of};
+    ghost use Rattle.gate_queue.specs.Taker.{AllowsAfter};
+
+    ghost fact = { λ v items.
+        AllowsAfter (limits_of v.clients v.quota v.capacity) v.taken v.ended items };
+}
+
+/// The queue under its rule.
+pub type Ring = RuledArrayQueue<Numbered, View, Conserves>;
