@@ -4,4 +4,5 @@
 //! was answered is queued. No lock covers the queue and the close.
 #![tactic(auto)]
 
+mod knowledge;
 mod rule;
