@@ -1,5 +1,5 @@
 -- Each step keeps the rule of the queue.
-use Rattle.std.proofs.Common.{◌≡◌, ◌≢◌, ◌⊎◌, ℕ, zero, suc, ◌+◌, ◌<◌, ◌≤◌, List, [], ◌∷◌, ◌++◌, length, set, Some, None, Bool, true, false, true≢false, cond, eqb, eq-eqb, ne_eqb, refl, sym, ap, ◌∙◌, subst, inl, inr, ⊎_elim, arith}
+use Rattle.std.proofs.Common.{◌≡◌, ◌≢◌, ◌⊎◌, ℕ, zero, suc, ◌+◌, ◌<◌, ◌≤◌, List, [], ◌∷◌, ◌++◌, length, set, Some, true, false, true≢false, cond, eqb, eq-eqb, ne_eqb, refl, sym, ap, ◌∙◌, subst, inl, inr, ⊎_elim, arith}
 use Rattle.std.specs.Prelude.{All}
 use mathlib.Core.Option.{some, some-ne-none, some-injective}
 use mathlib.Core.Logic.{dite}
@@ -10,7 +10,7 @@ use Rattle.crossbeam_queue.proofs.Lists.{at_set}
 use Rattle.gate_model.specs.declared.submission.Numbered.{Numbered}
 use Rattle.gate_model.specs.declared.submission.Body.{Body}
 use Rattle.gate_core.specs.Limits.{limits_of}
-use Rattle.gate_core.specs.Merge.{numbered, IsClient, of_client, IsCoreState}
+use Rattle.gate_core.specs.Merge.{numbered, IsClient, IsCoreState}
 use Rattle.gate_core.proofs.Merges as merges
 use Rattle.gate_core.proofs.Merges.{put, put_same, put_other}
 use Rattle.gate_core.proofs.Counts.{next_number}
@@ -18,7 +18,7 @@ use Rattle.gate_queue.specs.declared.rule.EndedList.{EndedList}
 use Rattle.gate_queue.specs.declared.rule.View.{View}
 use Rattle.gate_queue.specs.Client.{AllowsBeside}
 use Rattle.gate_queue.specs.Taker.{ended_list, queued_of, AllowsAfter}
-use Rattle.gate_queue.specs.inner.Rule.{client, taker, blank, opener, HasLimits, FitsClient, FitsTaker, IsRuled, TakesNext}
+use Rattle.gate_queue.specs.inner.Rule.{client, taker, blank, opener, FitsClient, FitsTaker, IsRuled, TakesNext}
 
 off : false ≡ true → ⊥
 off e = true≢false (sym e)
@@ -89,20 +89,20 @@ sends ring index n quota capacity c s b same left items views room h at =
     let mine = h.of_clients index (client n quota capacity c s) at refl in
     let S : ℕ → List Numbered = put h.sent c l in
     let others : (j : ℕ) (u : View) → j ≢ index → get_elem? views j ≡ some u → Fits h.n h.quota h.capacity S h.owner h.taken h.reader j u = λ j u apart e. (
-          (λ sends.
-              let f = h.of_clients j u e sends in
-              let ne : u.number ≢ c = λ k. apart (sym f.owns ∙ ap h.owner k ∙ mine.owns) in
-              record { limits = f.limits; number = f.number; owns = f.owns; queued_is = put_other h.sent c l u.number ne ∙ f.queued_is }),
-          (λ takes.
-              let f = h.of_taker j u e takes in
-              let ne : (d : ℕ) → h.owner d ≡ h.reader → d ≢ c = λ d o k. apart (f.index_is ∙ sym o ∙ ap h.owner k ∙ mine.owns) in record {
-                limits = f.limits;
-                index_is = f.index_is;
-                taken_is = f.taken_is;
-                unmade = λ d more. let o = f.unmade d more in (o.0, put_other h.sent c l d (ne d o.0) ∙ o.1);
-                ended = λ d t x. let o = f.ended d t x in (o.0, o.1, put_other h.sent c l d (ne d o.1) ∙ o.2);
-              }),
-        ) in
+      (λ sends.
+          let f = h.of_clients j u e sends in
+          let ne : u.number ≢ c = λ k. apart (sym f.owns ∙ ap h.owner k ∙ mine.owns) in
+          record { limits = f.limits; number = f.number; owns = f.owns; queued_is = put_other h.sent c l u.number ne ∙ f.queued_is }),
+      (λ takes.
+          let f = h.of_taker j u e takes in
+          let ne : (d : ℕ) → h.owner d ≡ h.reader → d ≢ c = λ d o k. apart (f.index_is ∙ sym o ∙ ap h.owner k ∙ mine.owns) in record {
+            limits = f.limits;
+            index_is = f.index_is;
+            taken_is = f.taken_is;
+            unmade = λ d more. let o = f.unmade d more in (o.0, put_other h.sent c l d (ne d o.0) ∙ o.1);
+            ended = λ d t x. let o = f.ended d t x in (o.0, o.1, put_other h.sent c l d (ne d o.1) ∙ o.2);
+          }),
+    ) in
     let fits = all_set (Fits h.n h.quota h.capacity S h.owner h.taken h.reader) views index w ((λ _. record { limits = record { clients_is = mine.limits.clients_is; quota_is = mine.limits.quota_is; capacity_is = mine.limits.capacity_is }; number = mine.number; owns = mine.owns; queued_is = put_same h.sent c l }), (λ t. absurd (off t))) others in (
       w,
       record {
@@ -177,7 +177,7 @@ configures index n quota capacity items views h at =
     let others : (j : ℕ) (u : View) → j ≢ index → get_elem? views j ≡ some u → F j u = λ j u apart e. ((λ sends. absurd (nobody u.number (h.of_clients j u e sends).number)), (λ takes. absurd (apart ((h.of_taker j u e takes).index_is ∙ sym mine.index_is)))) in
     let fits = all_set F views index w ((λ s. absurd (off s)), (λ _. record { limits = record { clients_is = refl; quota_is = refl; capacity_is = refl }; index_is = refl; taken_is = refl; unmade = λ c _. (refl, refl); ended = λ c s e. absurd (cc) })) others in
     let all : (j : ℕ) (u : View) → get_elem? (set views index w ++ blank ∷ []) j ≡ some u → F j u = λ j u e. ⊎_elim (λ (x : get_elem? (set views index w) j ≡ some u). fits j u x)
-          (λ (x : (j ≡ length (set views index w)) × (blank ≡ u)). subst (λ (y : View). F j y) x.1 ((λ s. absurd (off s)), (λ t. absurd (off t)))) (snoc_at (set views index w) blank u j e) in record {
+    (λ (x : (j ≡ length (set views index w)) × (blank ≡ u)). subst (λ (y : View). F j y) x.1 ((λ s. absurd (off s)), (λ t. absurd (off t)))) (snoc_at (set views index w) blank u j e) in record {
       n = n;
       quota = quota;
       capacity = capacity;
@@ -204,27 +204,27 @@ makes_client index n quota capacity made taken ended more items views h at =
     let next : (h.owner c ≡ h.reader) × (h.sent c ≡ []) = mine.unmade c (omega arith) in
     let F : ℕ → View → Type 0 = Fits h.n h.quota h.capacity h.sent own h.taken h.reader in
     let others : (j : ℕ) (u : View) → j ≢ index → get_elem? views j ≡ some u → F j u = λ j u apart e. (
-          (λ sends.
-              let f = h.of_clients j u e sends in
-              let ne : u.number ≢ c = λ k. apart (sym f.owns ∙ ap h.owner k ∙ next.0 ∙ sym mine.index_is) in
-              record { limits = f.limits; number = f.number; owns = moved_other h.owner c (length vs) u.number ne ∙ f.owns; queued_is = f.queued_is }),
-          (λ takes. absurd (apart ((h.of_taker j u e takes).index_is ∙ sym mine.index_is))),
-        ) in
+      (λ sends.
+          let f = h.of_clients j u e sends in
+          let ne : u.number ≢ c = λ k. apart (sym f.owns ∙ ap h.owner k ∙ next.0 ∙ sym mine.index_is) in
+          record { limits = f.limits; number = f.number; owns = moved_other h.owner c (length vs) u.number ne ∙ f.owns; queued_is = f.queued_is }),
+      (λ takes. absurd (apart ((h.of_taker j u e takes).index_is ∙ sym mine.index_is))),
+    ) in
     let keeps : (d : ℕ) → d ≢ c → h.owner d ≡ h.reader → own d ≡ h.reader = λ d ne o. moved_other h.owner c (length vs) d ne ∙ o in
     let fits = all_set F views index w (
-          (λ s. absurd (off s)),
-          (λ _. record {
-            limits = record { clients_is = m.clients_is; quota_is = m.quota_is; capacity_is = m.capacity_is };
-            index_is = mine.index_is;
-            taken_is = mine.taken_is;
-            unmade = λ d above. let o = mine.unmade d (omega arith) in let ne : d ≢ c = λ k. omega arith in (keeps d ne o.0, o.1);
-            ended = λ d s e. let o = mine.ended d s e in let low = o.0 in let ne : d ≢ c = λ k. omega arith in (omega arith, keeps d ne o.1, o.2);
-          }),
-        ) others in
+      (λ s. absurd (off s)),
+      (λ _. record {
+        limits = record { clients_is = m.clients_is; quota_is = m.quota_is; capacity_is = m.capacity_is };
+        index_is = mine.index_is;
+        taken_is = mine.taken_is;
+        unmade = λ d above. let o = mine.unmade d (omega arith) in let ne : d ≢ c = λ k. omega arith in (keeps d ne o.0, o.1);
+        ended = λ d s e. let o = mine.ended d s e in let low = o.0 in let ne : d ≢ c = λ k. omega arith in (omega arith, keeps d ne o.1, o.2);
+      }),
+    ) others in
     let is_client : IsClient h.n c = let k = m.clients_is in (omega arith, omega arith) in
     let fresh : F (length vs) new = ((λ _. record { limits = record { clients_is = m.clients_is; quota_is = m.quota_is; capacity_is = m.capacity_is }; number = is_client; owns = moved_same h.owner c (length vs); queued_is = next.1 }), (λ t. absurd (off t))) in
     let all : (j : ℕ) (u : View) → get_elem? (vs ++ new ∷ []) j ≡ some u → F j u = λ j u e. ⊎_elim (λ (x : get_elem? vs j ≡ some u). fits j u x)
-          (λ (x : (j ≡ length vs) × (new ≡ u)). subst (λ (y : ℕ × View). F y.0 y.1) (λ i. (sym x.0 i, x.1 i)) fresh) (snoc_at vs new u j e) in record {
+    (λ (x : (j ≡ length vs) × (new ≡ u)). subst (λ (y : ℕ × View). F y.0 y.1) (λ i. (sym x.0 i, x.1 i)) fresh) (snoc_at vs new u j e) in record {
       n = h.n;
       quota = h.quota;
       capacity = h.capacity;
@@ -258,26 +258,26 @@ takes_in index n quota capacity made taken ended other n' quota' capacity' c s i
     let Now : ℕ → View → Type 0 = λ j u. j ≢ other → F j u in
     let keeps : (d : ℕ) → h.owner d ≡ h.reader → own d ≡ h.reader = λ d o. moved_other h.owner c h.reader d (λ k. apart_from (ap h.owner (sym k) ∙ o)) ∙ o in
     let old : (j : ℕ) (u : View) → j ≢ index → get_elem? views j ≡ some u → Now j u = λ j u apart e gone. (
-          (λ sends.
-              let f = h.of_clients j u e sends in
-              let ne : u.number ≢ c = λ k. gone (sym f.owns ∙ ap h.owner k ∙ theirs.owns) in
-              record { limits = f.limits; number = f.number; owns = moved_other h.owner c h.reader u.number ne ∙ f.owns; queued_is = f.queued_is }),
-          (λ takes. absurd (apart ((h.of_taker j u e takes).index_is ∙ sym mine.index_is))),
-        ) in
+      (λ sends.
+          let f = h.of_clients j u e sends in
+          let ne : u.number ≢ c = λ k. gone (sym f.owns ∙ ap h.owner k ∙ theirs.owns) in
+          record { limits = f.limits; number = f.number; owns = moved_other h.owner c h.reader u.number ne ∙ f.owns; queued_is = f.queued_is }),
+      (λ takes. absurd (apart ((h.of_taker j u e takes).index_is ∙ sym mine.index_is))),
+    ) in
     let made_c : c ≤ made = dite (dec_le c made) (λ l. l) (λ l. absurd (apart_from (mine.unmade c (omega arith)).0)) in
     let now = all_set Now views index w (λ _. (
-            (λ x. absurd (off x)),
-            (λ _. record {
-              limits = record { clients_is = m.clients_is; quota_is = m.quota_is; capacity_is = m.capacity_is };
-              index_is = mine.index_is;
-              taken_is = mine.taken_is;
-              unmade = λ d above. let o = mine.unmade d above in (keeps d o.0, o.1);
-              ended = λ d t e. ⊎_elim
-                  (λ (x : (c ≡ d) × (s ≡ t)). (subst (λ (k : ℕ). k ≤ made) x.0 made_c, ap own (sym x.0) ∙ moved_same h.owner c h.reader, ap h.sent (sym x.0) ∙ theirs.queued_is ∙ x.1))
-                  (λ (x : queued_of d ended ≡ Some t). let o = mine.ended d t x in (o.0, keeps d o.1, o.2))
-                  (queued_of_cons d (ended_list c s) ended t e);
-            }),
-          )) old in
+      (λ x. absurd (off x)),
+      (λ _. record {
+        limits = record { clients_is = m.clients_is; quota_is = m.quota_is; capacity_is = m.capacity_is };
+        index_is = mine.index_is;
+        taken_is = mine.taken_is;
+        unmade = λ d above. let o = mine.unmade d above in (keeps d o.0, o.1);
+        ended = λ d t e. ⊎_elim
+            (λ (x : (c ≡ d) × (s ≡ t)). (subst (λ (k : ℕ). k ≤ made) x.0 made_c, ap own (sym x.0) ∙ moved_same h.owner c h.reader, ap h.sent (sym x.0) ∙ theirs.queued_is ∙ x.1))
+            (λ (x : queued_of d ended ≡ Some t). let o = mine.ended d t x in (o.0, keeps d o.1, o.2))
+            (queued_of_cons d (ended_list c s) ended t e);
+      }),
+    )) old in
     let all = all_set F (set views index w) other blank ((λ x. absurd (off x)), (λ x. absurd (off x))) (λ j u gone e. now j u e gone) in record {
       n = h.n;
       quota = h.quota;

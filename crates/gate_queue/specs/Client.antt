@@ -6,6 +6,8 @@ use Rattle.gate_model.specs.declared.submission.Body.{Body}
 use Rattle.gate_model.specs.declared.submission.Numbered.{Numbered}
 use Rattle.gate_core.specs.Limits.{Limits}
 use Rattle.gate_core.specs.Merge.{IsCoreState}
+use Rattle.gate_queue.specs.declared.client.Refused.{Refused}
+use Rattle.gate_queue.specs.declared.client.Refused.TheVariants.{Closing, Spent, Full}
 use Rattle.gate_queue.specs.Gate.{GateId}
 
 -- a client, or one that has ended: its gate, its number, what it was answered is queued, and the moment of the close, once it knows of it
@@ -23,3 +25,20 @@ abbrev pub AllowsBeside : Limits → ℕ → List Numbered → List Numbered →
 AllowsBeside limits c queued queue =
     (sent : ℕ → List Numbered) × (taken : List Numbered)
     × IsCoreState limits.clients limits.quota limits.capacity sent taken queue × (sent c ≡ queued)
+
+-- at a moment of the call the queue held as many items as it may, beside what was queued for this client
+abbrev pub WasFull : ClientState → Type 0
+WasFull client = Held client.gate.limits.capacity (AllowsBeside client.gate.limits client.number client.queued)
+
+-- the items of this client and the others' quotas can fill the queue
+abbrev pub CanBeFull : ClientState → Type 0
+CanBeFull client = client.gate.limits.capacity ≤ length client.queued + (client.gate.limits.clients - 1) * client.gate.limits.quota
+
+-- the body is returned and nothing was queued. Closing: the client knows of the close at that moment. Spent: as many items as the quota were queued for it. Full: the queue was full
+abbrev pub IsRefusal : Refused → Body → ClientState → ClientState → Type 0
+IsRefusal (Closing first returned) body old new =
+    (returned ≡ body) × (new ≡ client_state old.gate old.number old.queued (Some first)) × IfSome old.known_close (λ known. known ≡ first)
+IsRefusal (Spent returned) body old new =
+    (returned ≡ body) × (new ≡ old) × (old.known_close ≡ None) × (length old.queued ≡ old.gate.limits.quota)
+IsRefusal (Full returned) body old new =
+    (returned ≡ body) × (new ≡ old) × (old.known_close ≡ None) × WasFull old × CanBeFull old

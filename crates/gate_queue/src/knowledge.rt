@@ -10,8 +10,7 @@ use std::marker::Model;
 // Makes the one note what the other is. A note is no data: the contracts alone see it.
 fn copy_note<T>(into: &mut Note<T>, from: &Note<T>)
     ensures { into.new ≡ from.now }
-{
-}
+{}
 
 /// What one part of a gate knows of the close. Contracts see the close cell and the moment of the
 /// close, once that is known.

@@ -4,5 +4,16 @@
 //! was answered is queued. No lock covers the queue and the close.
 #![tactic(auto)]
 
+mod client;
+mod closer;
+mod gate;
 mod knowledge;
+mod opening;
 mod rule;
+mod taker;
+
+pub use client::{Client, Ended, Refused};
+pub use closer::{CloseFault, Closer, Notice};
+pub use gate::Gate;
+pub use opening::{open, open_with};
+pub use taker::Taker;

@@ -31,7 +31,9 @@ pub struct View {
 /// The limits with which a gate is opened, as the call that opens it picks them.
 pub trait PickedLimits {
     ghost clients: { ℕ };
+
     ghost quota: { ℕ };
+
     ghost capacity: { ℕ };
 }
 

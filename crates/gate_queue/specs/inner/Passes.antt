@@ -1,7 +1,7 @@
 -- Only proofs and private functions use this: what a client and the taker keep of their passes.
 use Rattle.std.specs.Prelude.{◌≡◌, ℕ, ◌+◌, ◌<◌, ◌≤◌, List, length, slice_get, Option, Some, option_map, IsSome}
 use Rattle.gate_model.specs.declared.submission.Numbered.{Numbered}
-use Rattle.gate_core.specs.Limits.{limits_of}
+use Rattle.gate_core.specs.Limits.{Limits, limits_of}
 use Rattle.gate_core.specs.Merge.{IsClient}
 use Rattle.gate_queue.specs.declared.rule.View.{View}
 use Rattle.gate_queue.specs.Taker.{queued_of, AllowsAfter}
@@ -29,3 +29,7 @@ pub record CountsEnded (v : View) (counts : List (Option ℕ)) : Type 0 where
 -- the queue may hold some items after those taken
 abbrev pub HasRest : View → Type 0
 HasRest v = (queue : List Numbered) × AllowsAfter (limits_of v.clients v.quota v.capacity) v.taken v.ended queue
+
+-- the limits that a view has
+abbrev pub limits_in : View → Limits
+limits_in v = limits_of v.clients v.quota v.capacity

@@ -4,21 +4,20 @@ use mir.Syntax.{a_type}
 use mir.Val.{Val, vptr, vunit}
 use mir.MapTy.{inst_fn}
 use base.Logic.{SProp, ent, emp, id⊢, apply∗, all, all_e}
-use base.Fml.{Lft, Share, Fml, ftrue, fsep, flft}
+use base.Fml.{Lft, Share, ftrue, fsep, flft}
 use prog.Wp.{WpFn}
 use types.Logic.{sem}
-use types.Kit.{‵, raw, ◌⊛◌, later, ◌$◌, ◌∵◌, !, qed, by, move, keep, drop, split, join, fsplit, fsplit3, fjoin, suffices, use0, use1, use2, await, feq_i}
+use types.Kit.{‵, raw, ◌⊛◌, later, ◌$◌, ◌∵◌, !, qed, by, move, keep, drop, split, join, fsplit, fjoin, suffices, use0, use1, use2, await, feq_i}
 use types.Run.{of_opd, unit_lit, returns, enter}
 use types.ByLocal.{alloc_all, pass_all, free_all, look_at, sets}
 use contract.Monad.{fact, fact_i}
 use contract.Running.{tables}
 use denote.Exit.{yes}
 use denote.RattleType.{RattleType, owns}
-use denote.Signature.{types_at, type_at, plain}
+use denote.Signature.{types_at, plain}
 use denote.Builtin.{RefOf}
 use denote.Steps.{nothing, looks, shuts}
 use denote.Param.{param, layouts}
-use denote.Param.Laws.{param_laws}
 use denote.Triple.Walked.{Stays, stay_dropped, walk_of, Goes-dropped, stay_ref, Goes-ref}
 use Rattle.once_cell.specs.Once.{noted}
 use Rattle.std.proofs.raw_atomic.Walks.{proved_at, leaves}

@@ -1,0 +1,172 @@
+ghost use Rattle.std.specs.Prelude.{◌≡◌, ◌+◌, [], ◌∷◌, ◌++◌, length, IfOk, IfErr, IfSome, OnOk, Some, None};
+ghost use Rattle.gate_core.specs.Merge.{numbered};
+ghost use Rattle.gate_queue.specs.Client.{client_state};
+
+use crate::closer::Notice;
+use crate::gate::Gate;
+use crate::knowledge::Knowledge;
+use crate::rule::{Push, View};
+use crossbeam_queue::Pass;
+use gate_model::{Body, Moment, Numbered};
+use std::marker::Model;
+use std::sync::Wait;
+use thiserror::Error;
+
+/// Why a submission was refused. The body is returned. The first that applies is reported. Own
+/// rules.
+#[derive(Debug, Drop, Error)]
+pub enum Refused {
+    /// The gate is closing, since this moment.
+    #[error("the gate is closing")]
+    Closing(Moment, Body),
+    /// As many items as the quota allows were queued for this client.
+    #[error("the client's quota is used up")]
+    Spent(Body),
+    /// The queue held as many items as it may.
+    #[error("the queue is full")]
+    Full(Body),
+}
+
+/// A client, which submits to a gate. Contracts see its gate, its number, what it was answered is
+/// queued, and the moment of the close, once it knows of it.
+#[derive(Drop)]
+pub struct Client {
+    pub(crate) pass: Pass<Numbered, View>,
+    pub(crate) knowledge: Knowledge,
+    pub(crate) number: u32,
+    pub(crate) count: u64,
+    pub(crate) quota: u32,
+}
+
+impl Model for Client {
+    ghost use Rattle.std.specs.Prelude.{◌≡◌, []};
+    ghost use Rattle.crossbeam_queue.specs.Passes.{view as pass_view};
+    ghost use Rattle.gate_queue.specs.Gate.{gate_id};
+    ghost use Rattle.gate_queue.specs.Client.{ClientState, client_state};
+    ghost use Rattle.gate_queue.specs.inner.Passes.{IsClientPass, limits_in};
+
+    ghost Value = { ClientState };
+
+    ghost view = { λ c.
+        client_state (gate_id c.pass.table_id c.knowledge.cell (limits_in (pass_view c.pass)))
+        c.number (pass_view c.pass).queued c.knowledge.known_close };
+
+    ghost invariant = { λ c.
+        (c.pass.me.1 ≡ []) × IsClientPass (pass_view c.pass) c.number c.count c.quota };
+}
+
+impl Client {
+    ghost use Rattle.gate_queue.specs.Client.{IsRefusal};
+
+    /// Adds the body to the queue, as this client's next item, and returns its number, from 1.
+    ///
+    /// It fails with Closing where the gate is closing, with Spent where the client's quota is used
+    /// up, and with Full where the queue is full, tested in this order. The body is returned. It
+    /// waits while other threads are in the midst of a step at the queue. Own rule.
+    pub fn submit<R: Wait>(&mut self, rt: &R, gate: &Gate, body: Body) -> Result<u64, Refused>
+        requires { self.old.gate ≡ gate.now }
+        ensures number { IfOk result (λ number. number ≡ length self.old.queued + 1) }
+        ensures queued { IfOk result (λ number. self.new ≡ client_state self.old.gate
+            self.old.number (self.old.queued ++ numbered self.old.number number body ∷ []) None) }
+        ensures open { OnOk result (self.old.known_close ≡ None) }
+
+        ensures refused { IfErr result (λ fault. IsRefusal fault body self.old self.new) }
+    {
+        if let Some(moment) = self.knowledge.look(&gate.cell) {
+            return Err(Refused::Closing(moment, body));
+        }
+        if self.count == u64::from(self.quota) {
+            return Err(Refused::Spent(body));
+        }
+        let item = Numbered {
+            client: self.number,
+            number: self.count + 1,
+            body,
+        };
+        match gate.ring.push_as::<Push, R>(rt, &mut self.pass, item) {
+            Ok(()) => {
+                self.count += 1;
+                Ok(self.count)
+            }
+            Err(item) => {
+                let Numbered {
+                    client: _,
+                    number: _,
+                    body,
+                } = item;
+                Err(Refused::Full(body))
+            }
+        }
+    }
+
+    /// Looks whether the gate is closing, and returns the moment of the close if it is.
+    pub fn look(&mut self, gate: &Gate) -> Option<Moment>
+        requires { self.old.gate ≡ gate.now }
+        ensures known { self.new ≡
+            client_state self.old.gate self.old.number self.old.queued result }
+        ensures same { IfSome self.old.known_close (λ known. result ≡ Some known) }
+    {
+        self.knowledge.look(&gate.cell)
+    }
+
+    /// Learns of the close from a notice.
+    pub fn learn(&mut self, notice: &Notice)
+        requires { notice.now.cell ≡ self.old.gate.cell }
+        ensures known { self.new ≡ client_state
+            self.old.gate self.old.number self.old.queued (Some notice.now.moment) }
+        ensures same { IfSome self.old.known_close (λ known. known ≡ notice.now.moment) }
+    {
+        self.knowledge.learn(notice.knowledge.again());
+    }
+
+    /// How many items were queued for this client.
+    pub fn count(&self) -> u64
+        ensures { result ≡ length self.now.queued }
+    {
+        self.count
+    }
+
+    /// The client's number, from 1.
+    pub fn number(&self) -> u32
+        ensures { result ≡ self.now.number }
+    {
+        self.number
+    }
+
+    /// Ends the client: it submits no more, and a taker can take it in.
+    pub fn end(self) -> Ended
+        ensures { result ≡ self }
+    {
+        Ended { client: self }
+    }
+}
+
+/// A client that has ended. Contracts see what they saw of the client.
+#[derive(Drop)]
+pub struct Ended {
+    client: Client,
+}
+
+impl Model for Ended {
+    ghost use Rattle.gate_queue.specs.Client.{ClientState};
+
+    ghost Value = { ClientState };
+
+    ghost view = { λ e. e.client };
+}
+
+impl Ended {
+    /// The number of the client, from 1.
+    pub fn number(&self) -> u32
+        ensures { result ≡ self.now.number }
+    {
+        self.client.number()
+    }
+
+    pub(crate) fn into_client(self) -> Client
+        ensures { result ≡ self }
+    {
+        let Ended { client } = self;
+        client
+    }
+}

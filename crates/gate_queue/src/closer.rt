@@ -1,0 +1,127 @@
+ghost use Rattle.std.specs.Prelude.{◌≡◌, IfOk, IfErr, IfSome, Some, None};
+ghost use Rattle.gate_queue.specs.Knowledge.{close_knowledge};
+ghost use Rattle.gate_queue.specs.Closer.{notice_of};
+
+use crate::gate::Gate;
+use crate::knowledge::Knowledge;
+use gate_model::Moment;
+use std::alloc::Global;
+use std::marker::Model;
+use thiserror::Error;
+
+/// Why a gate was not closed. Own rules.
+#[derive(Clone, Copy, Debug, Error, PartialEq, Eq)]
+pub enum CloseFault {
+    /// Another close was first, at this moment.
+    #[error("the gate is closing already")]
+    AlreadyClosing(Moment),
+    /// There is no room for the close's moment. Nothing was closed.
+    #[error("out of memory")]
+    OutOfMemory,
+}
+
+/// The right to close a gate. Contracts see what it knows of the gate's close.
+#[derive(Drop)]
+pub struct Closer {
+    pub(crate) knowledge: Knowledge,
+}
+
+impl Model for Closer {
+    ghost use Rattle.gate_queue.specs.Knowledge.{CloseKnowledge};
+
+    ghost Value = { CloseKnowledge };
+
+    ghost view = { λ c. c.knowledge };
+}
+
+impl Closer {
+    ghost use Rattle.gate_queue.specs.Closer.{IsCloseFault};
+
+    /// Closes the gate at this moment, and returns a notice of it.
+    ///
+    /// It fails with AlreadyClosing where a close was first, and then the closer knows of that one.
+    /// It fails with OutOfMemory where there is no room for the moment; nothing is closed then. A
+    /// closer that knows of a close takes no memory. Own rule.
+    pub fn close(
+        &mut self,
+        alloc: Global,
+        gate: &Gate,
+        moment: Moment,
+    ) -> Result<Notice, CloseFault>
+        requires { self.old.cell ≡ gate.now.cell }
+        ensures notice { IfOk result (λ notice. notice ≡ notice_of self.old.cell moment) }
+        ensures known { IfOk result (λ notice. (self.old.known_close ≡ None)
+            × (self.new ≡ close_knowledge self.old.cell (Some moment))) }
+
+        ensures fault { IfErr result (λ fault. IsCloseFault fault self.old self.new) }
+    {
+        if let Some(first) = self.knowledge.look(&gate.cell) {
+            return Err(CloseFault::AlreadyClosing(first));
+        }
+        let Ok(value) = Box::new(alloc, moment) else {
+            return Err(CloseFault::OutOfMemory);
+        };
+        match self.knowledge.set(&gate.cell, value) {
+            Ok(()) => Ok(Notice {
+                knowledge: self.knowledge.again(),
+                moment,
+            }),
+            Err(first) => Err(CloseFault::AlreadyClosing(first)),
+        }
+    }
+
+    /// Learns of the close from a notice.
+    pub fn learn(&mut self, notice: &Notice)
+        requires { notice.now.cell ≡ self.old.cell }
+        ensures known { self.new ≡ close_knowledge self.old.cell (Some notice.now.moment) }
+        ensures same { IfSome self.old.known_close (λ known. known ≡ notice.now.moment) }
+    {
+        self.knowledge.learn(notice.knowledge.again());
+    }
+
+    /// One more right to close the gate. It knows what this one knows.
+    pub fn another(&self) -> Closer
+        ensures { result ≡ self.now }
+    {
+        Closer {
+            knowledge: self.knowledge.again(),
+        }
+    }
+}
+
+/// The knowledge that a gate is closing, and since which moment.
+#[derive(Drop)]
+pub struct Notice {
+    pub(crate) knowledge: Knowledge,
+    pub(crate) moment: Moment,
+}
+
+impl Model for Notice {
+    ghost use Rattle.std.specs.Prelude.{◌≡◌, Some};
+    ghost use Rattle.gate_queue.specs.Closer.{NoticeState, notice_of};
+
+    ghost Value = { NoticeState };
+
+    ghost view = { λ n. notice_of n.knowledge.cell n.moment };
+
+    ghost invariant = { λ n. n.knowledge.known_close ≡ Some n.moment };
+}
+
+impl Notice {
+    /// The moment of the close.
+    pub fn moment(&self) -> Moment
+        ensures { result ≡ self.now.moment }
+    {
+        self.moment
+    }
+
+    /// One more notice of the same close. It takes no memory.
+    pub fn again(&self) -> Notice
+        ensures { result ≡ self.now }
+    {
+        Notice {
+            knowledge: self.knowledge.again(),
+            moment: self.moment,
+        }
+    }
+}

@@ -1,0 +1,183 @@
+ghost use Rattle.std.specs.Prelude.{◌≡◌, ◌-◌, ◌≤◌, [], IfOk, IfErr, OnOk, None};
+ghost use Rattle.once_cell.specs.Once.{cell_name};
+ghost use Rattle.crossbeam_queue.specs.Passes.{view as pass_view, IsPassOf};
+ghost use Rattle.gate_core.specs.Merge.{IsClient};
+ghost use Rattle.gate_core.specs.Limits.{limits_of, default_quota, IsGoodCount, IsGoodCapacity, IsOpenFault};
+ghost use Rattle.gate_queue.specs.Knowledge.{close_knowledge};
+ghost use Rattle.gate_queue.specs.Client.{client_state};
+ghost use Rattle.gate_queue.specs.Taker.{taker_state};
+ghost use Rattle.gate_queue.specs.Opening.{new_clients};
+ghost use Rattle.gate_queue.specs.Gate.{gate_id};
+ghost use Rattle.gate_queue.specs.inner.Rule.{opener, taker};
+
+use crate::client::Client;
+use crate::closer::Closer;
+use crate::gate::Gate;
+use crate::knowledge::Knowledge;
+use crate::rule::{Begin, MakeClient, PickedLimits, Ring, View};
+use crate::taker::Taker;
+use crossbeam_queue::Pass;
+use gate_core::{MOST_CAPACITY, MOST_CLIENTS, OpenFault};
+use gate_model::{Moment, Numbered};
+use once_cell::race::OnceBox;
+use std::alloc::{AllocError, Global};
+use std::marker::Brand;
+
+// The numbers with which a gate is opened.
+#[derive(Clone, Copy)]
+struct Bounds {
+    clients: u32,
+    capacity: usize,
+    quota: u32,
+}
+
+/// Opens a gate for clients 1 to `clients`, with room for `capacity` items. Each client may queue
+/// 4,294,967,295 items. It fails as `open_with` does.
+pub fn open(
+    alloc: Global,
+    clients: u32,
+    capacity: usize,
+) -> Result<(Gate, Taker, Closer, Vec<Client>), OpenFault>
+    ensures limits { IfOk result (λ opened.
+        opened.0.limits ≡ limits_of clients default_quota capacity) }
+    ensures taker { IfOk result (λ opened. opened.1 ≡ taker_state opened.0 [] [] None) }
+    ensures closer { IfOk result (λ opened. opened.2 ≡ close_knowledge opened.0.cell None) }
+    ensures clients { IfOk result (λ opened. opened.3.items ≡ new_clients opened.0 clients) }
+
+    ensures good { OnOk result (IsGoodCount clients × IsGoodCapacity capacity) }
+    ensures fault { IfErr result (λ fault. IsOpenFault fault clients default_quota capacity) }
+{
+    open_with(alloc, clients, capacity, u32::MAX)
+}
+
+/// Opens a gate for clients 1 to `clients`, with room for `capacity` items. Each client may queue
+/// `quota` items. It returns the gate, its taker, a closer, and the clients in order.
+///
+/// It fails with BadCount, BadCapacity or BadQuota, tested in this order, where an argument is out
+/// of its limits, and then with OutOfMemory. Own rule: the limits are those of a World.
+pub fn open_with(
+    alloc: Global,
+    clients: u32,
+    capacity: usize,
+    quota: u32,
+) -> Result<(Gate, Taker, Closer, Vec<Client>), OpenFault>
+    ensures limits { IfOk result (λ opened. opened.0.limits ≡ limits_of clients quota capacity) }
+    ensures taker { IfOk result (λ opened. opened.1 ≡ taker_state opened.0 [] [] None) }
+    ensures closer { IfOk result (λ opened. opened.2 ≡ close_knowledge opened.0.cell None) }
+    ensures clients { IfOk result (λ opened. opened.3.items ≡ new_clients opened.0 clients) }
+
+    ensures good { OnOk result (IsGoodCount clients × IsGoodCapacity capacity × (1 ≤ quota)) }
+    ensures fault { IfErr result (λ fault. IsOpenFault fault clients quota capacity) }
+{
+    if clients < 1 || clients > MOST_CLIENTS {
+        return Err(OpenFault::BadCount);
+    }
+    if capacity < 1 || capacity > MOST_CAPACITY {
+        return Err(OpenFault::BadCapacity);
+    }
+    if quota < 1 {
+        return Err(OpenFault::BadQuota);
+    }
+    Ok(open_all(
+        alloc,
+        Bounds {
+            clients,
+            capacity,
+            quota,
+        },
+    )?)
+}
+
+// Opens a gate whose limits were tested.
+fn open_all(alloc: Global, bounds: Bounds) -> Result<(Gate, Taker, Closer, Vec<Client>), AllocError>
+    requires clients { IsGoodCount bounds.clients }
+    requires capacity { 1 ≤ bounds.capacity }
+    ensures limits { IfOk result (λ opened.
+        opened.0.limits ≡ limits_of bounds.clients bounds.quota bounds.capacity) }
+    ensures taker { IfOk result (λ opened. opened.1 ≡ taker_state opened.0 [] [] None) }
+    ensures closer { IfOk result (λ opened. opened.2 ≡ close_knowledge opened.0.cell None) }
+    ensures clients { IfOk result (λ opened.
+        opened.3.items ≡ new_clients opened.0 bounds.clients) }
+{
+    let counts = Vec::from_elem(alloc, None, bounds.clients as usize)?;
+    let (ring, mut pass) = Ring::ruled(alloc, bounds.capacity)?;
+    let cell = OnceBox::new(alloc);
+    begin::<Brand>(&ring, &mut pass, bounds);
+    let clients = all_clients(alloc, &ring, &cell, &mut pass, bounds)?;
+    let taker = Taker {
+        pass,
+        knowledge: Knowledge::new(alloc, &cell),
+        counts,
+    };
+    let closer = Closer {
+        knowledge: Knowledge::new(alloc, &cell),
+    };
+    let gate = Gate {
+        ring,
+        cell,
+        clients: bounds.clients,
+        quota: bounds.quota,
+    };
+    Ok((gate, taker, closer, clients))
+}
+
+// The first pass becomes the taker's, and gets the limits.
+fn begin<J: PickedLimits>(ring: &Ring, pass: &mut Pass<Numbered, View>, bounds: Bounds)
+    requires limits { (J.clients ≡ bounds.clients) × (J.quota ≡ bounds.quota)
+        × (J.capacity ≡ bounds.capacity) }
+    requires pass { IsPassOf ring.now pass.old × (pass_view pass.old ≡ opener) }
+    ensures { IsPassOf ring.now pass.new × (pass_view pass.new
+        ≡ taker bounds.clients bounds.quota bounds.capacity 0 [] []) }
+{
+    let _blank = ring.another::<Begin<J>>(pass);
+}
+
+// All clients, in order.
+fn all_clients(
+    alloc: Global,
+    ring: &Ring,
+    cell: &OnceBox<Moment>,
+    pass: &mut Pass<Numbered, View>,
+    bounds: Bounds,
+) -> Result<Vec<Client>, AllocError>
+    requires { IsPassOf ring.now pass.old × (pass_view pass.old
+        ≡ taker bounds.clients bounds.quota bounds.capacity 0 [] []) }
+    ensures pass { OnOk result (IsPassOf ring.now pass.new × (pass_view pass.new
+        ≡ taker bounds.clients bounds.quota bounds.capacity bounds.clients [] [])) }
+    ensures clients { IfOk result (λ clients. clients.items ≡ new_clients
+        (gate_id ring.now.table.shared.table_id (cell_name cell.now)
+        (limits_of bounds.clients bounds.quota bounds.capacity)) bounds.clients) }
+{
+    let mut clients = Vec::with_capacity(alloc, bounds.clients as usize)?;
+    for made in 0..bounds.clients {
+        clients.push(next_client(alloc, ring, cell, pass, bounds, made + 1))?;
+    }
+    Ok(clients)
+}
+
+// The client with the next number, and a pass of its own.
+fn next_client(
+    alloc: Global,
+    ring: &Ring,
+    cell: &OnceBox<Moment>,
+    pass: &mut Pass<Numbered, View>,
+    bounds: Bounds,
+    number: u32,
+) -> Client
+    requires number { IsClient bounds.clients number }
+    requires pass { IsPassOf ring.now pass.old × (pass_view pass.old
+        ≡ taker bounds.clients bounds.quota bounds.capacity (number - 1) [] []) }
+    ensures pass { IsPassOf ring.now pass.new × (pass_view pass.new
+        ≡ taker bounds.clients bounds.quota bounds.capacity number [] []) }
+    ensures client { result ≡ client_state
+        (gate_id ring.now.table.shared.table_id (cell_name cell.now)
+        (limits_of bounds.clients bounds.quota bounds.capacity)) number [] None }
+{
+    Client {
+        pass: ring.another::<MakeClient>(pass),
+        knowledge: Knowledge::new(alloc, cell),
+        number,
+        count: 0,
+        quota: bounds.quota,
+    }
+}
