@@ -116,27 +116,29 @@ set_else (x ∷ xs) zero (suc k) b n = refl
 set_else (x ∷ xs) (suc i) zero b n = refl
 set_else (x ∷ xs) (suc i) (suc k) b n = set_else xs i k b (λ e. n (ap suc e))
 
-pub after_take_in : (v w u : View) (counts : List (Option ℕ)) (number count quota : ℕ) → IsTakerPass v → CountsEnded v counts → IsClientPass w number count quota → w.clients ≡ v.clients → u ≡ taker v.clients v.quota v.capacity v.made v.taken (ended_list w.number w.queued ∷ v.ended) → HasRest u
+-- the taker's pass absorbed a client's, and then looked at the queue
+pub after_take_in : (v w m u : View) (counts : List (Option ℕ)) (number count quota : ℕ) → IsTakerPass v → CountsEnded v counts → IsClientPass w number count quota → w.clients ≡ v.clients
+    → m ≡ taker v.clients v.quota v.capacity v.made v.taken (ended_list w.number w.queued ∷ v.ended) → u ≡ m → HasRest m
     → IsTakerPass u × CountsEnded u (set counts (number - 1) (Some count)) × HasRest u
-after_take_in v w u counts number count quota p m q limits is rest =
+after_take_in v w m u counts number count quota p k q limits absorbed looked rest =
     let made : v.made ≡ v.clients = ap (λ (x : View). x.made) p in
     let named : w.number ≡ number = ap (λ (x : View). x.number) q.view_is in
     let e : EndedList = ended_list number w.queued in
     let now : View = taker v.clients v.quota v.capacity v.clients v.taken (e ∷ v.ended) in
-    let same : u ≡ now = is ∙ (λ i. taker v.clients v.quota v.capacity (made i) v.taken (ended_list (named i) w.queued ∷ v.ended)) in
+    let same : u ≡ now = looked ∙ absorbed ∙ (λ i. taker v.clients v.quota v.capacity (made i) v.taken (ended_list (named i) w.queued ∷ v.ended)) in
     let here : IsClient v.clients number = subst (λ k. IsClient k number) limits q.is_client in
     let low = here.0 in
     let high = here.1 in
     let counts' : CountsEnded now (set counts (number - 1) (Some count)) = record {
-      few = m.few;
-      long = length-set counts (number - 1) (Some count) ∙ m.long;
-      each = λ k less. dite (ℕ_discrete number (k + 1))
-          (λ hit. let at : number - 1 ≡ k = omega arith in let room : k < length counts = let l = m.long in omega arith in subst (λ j. slice_get (set counts j (Some count)) k ≡ Some (option_map length (queued_of (k + 1) (e ∷ v.ended)))) (sym at)
-          (set_here counts k (Some count) room ∙ ap (λ j. Some (Some j)) q.count_is ∙ ap (λ b. Some (option_map length (cond b (Some w.queued) (queued_of (k + 1) v.ended)))) (sym (eq-eqb number (k + 1) hit))))
-          (λ miss. let apart : k ≢ number - 1 = λ x. miss (omega arith) in set_else counts (number - 1) k (Some count) apart ∙ m.each k less ∙ ap (λ b. Some (option_map length (cond b (Some w.queued) (queued_of (k + 1) v.ended)))) (sym (ne_eqb number (k + 1) miss)));
-      clients = λ c some. dite (ℕ_discrete number c) (λ hit. subst (IsClient v.clients) hit here) (λ miss. m.clients c (subst IsSome (ap (λ b. cond b (Some w.queued) (queued_of c v.ended)) (ne_eqb number c miss)) some));
+      few = k.few;
+      long = length-set counts (number - 1) (Some count) ∙ k.long;
+      each = λ i less. dite (ℕ_discrete number (i + 1))
+          (λ hit. let at : number - 1 ≡ i = omega arith in let room : i < length counts = let l = k.long in omega arith in subst (λ j. slice_get (set counts j (Some count)) i ≡ Some (option_map length (queued_of (i + 1) (e ∷ v.ended)))) (sym at)
+          (set_here counts i (Some count) room ∙ ap (λ j. Some (Some j)) q.count_is ∙ ap (λ b. Some (option_map length (cond b (Some w.queued) (queued_of (i + 1) v.ended)))) (sym (eq-eqb number (i + 1) hit))))
+          (λ miss. let apart : i ≢ number - 1 = λ x. miss (omega arith) in set_else counts (number - 1) i (Some count) apart ∙ k.each i less ∙ ap (λ b. Some (option_map length (cond b (Some w.queued) (queued_of (i + 1) v.ended)))) (sym (ne_eqb number (i + 1) miss)));
+      clients = λ c some. dite (ℕ_discrete number c) (λ hit. subst (IsClient v.clients) hit here) (λ miss. k.clients c (subst IsSome (ap (λ b. cond b (Some w.queued) (queued_of c v.ended)) (ne_eqb number c miss)) some));
     } in
-    (subst IsTakerPass (sym same) refl, subst (λ (x : View). CountsEnded x (set counts (number - 1) (Some count))) (sym same) counts', rest)
+    (subst IsTakerPass (sym same) refl, subst (λ (x : View). CountsEnded x (set counts (number - 1) (Some count))) (sym same) counts', subst HasRest (sym looked) rest)
 
 pub configures_as : (index n quota capacity : ℕ) (v : View) → v ≡ opener → Forks IsRuled index v (taker n quota capacity 0 [] []) blank
 configures_as index n quota capacity v p = subst (λ (u : View). Forks IsRuled index u (taker n quota capacity 0 [] []) blank) (sym p) (configures index n quota capacity)
