@@ -16,4 +16,6 @@ mod objects;
 #[cfg(test)]
 mod packet;
 #[cfg(test)]
+mod queue;
+#[cfg(test)]
 mod replay;
