@@ -8,3 +8,4 @@ pub mod Steps
 pub mod Calls
 pub mod Pairs
 pub mod Taken
+pub mod Submissions

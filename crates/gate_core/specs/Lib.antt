@@ -4,4 +4,6 @@ pub mod Legal
 pub mod Law
 pub mod State
 pub mod Event
+pub mod Submit
+pub mod LocalClient
 pub mod inner

@@ -7,11 +7,15 @@
 mod event;
 mod law;
 mod limits;
+mod local_client;
 mod playing;
+mod submit;
 mod world;
 
 pub use event::{Event, Reply};
 pub use law::conservation;
 pub use limits::{MOST_CAPACITY, MOST_CLIENTS, OpenFault};
+pub use local_client::LocalClient;
 pub use playing::{RefusedRun, run};
+pub use submit::{CloseFault, Operator, Refused, Submit};
 pub use world::World;

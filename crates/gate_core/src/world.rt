@@ -121,6 +121,13 @@ impl World {
             .is_some_and(|seat| !seat.ended && seat.looked)
     }
 
+    /// How many items were queued for the client.
+    pub(crate) fn count(&self, client: u32) -> u32
+        ensures { IfSome (seat_of self.now client) (λ seat. result ≡ seat.count) }
+    {
+        self.seat(client).map_or(0, |seat| seat.count)
+    }
+
     /// A look of an open client: the moment of the first close, if there was one.
     pub(crate) fn look(&mut self, client: u32) -> Option<Moment>
         requires { is_open_seat (seat_of self.old client) ≡ true }

@@ -8,6 +8,8 @@ use Rattle.gate_core.specs.declared.event.Reply.{Reply}
 use Rattle.gate_core.specs.declared.event.Reply.TheVariants as reply
 use Rattle.gate_core.specs.declared.event.PushFault.{PushFault}
 use Rattle.gate_core.specs.declared.event.PushFault.TheVariants.{Spent, Full}
+use Rattle.gate_core.specs.declared.submit.Refused.{Refused}
+use Rattle.gate_core.specs.declared.submit.Refused.TheVariants as refused
 use Rattle.gate_core.specs.Limits.{Limits}
 use Rattle.gate_core.specs.Merge.{numbered}
 use Rattle.gate_core.specs.State.{WorldState}
@@ -92,3 +94,8 @@ abbrev pub reply_of_push : Result ℕ PushFault → Reply
 reply_of_push (Ok number) = reply.Queued number
 reply_of_push (Err (Spent body)) = reply.Spent body
 reply_of_push (Err (Full body)) = reply.Full body
+
+-- why a submission is refused whose push was refused
+abbrev pub refused_of_push : PushFault → Refused
+refused_of_push (Spent body) = refused.Spent body
+refused_of_push (Full body) = refused.Full body
