@@ -8,3 +8,4 @@ pub mod PacketFaults
 pub mod Pieces
 pub mod Laid
 pub mod Encoded
+pub mod Cuts

@@ -1,6 +1,7 @@
 //! The data packet of NSCA version 3 under encryption method 0: `decode` reads 4304 bytes as a
 //! `Packet`, and `encode` writes one. Bytes are at most one packet, whatever stands in the padding
-//! and after a text's NUL, and what `encode` writes is read by `decode` as the same packet.
+//! and after a text's NUL, and what `encode` writes is read by `decode` as the same packet. A
+//! `Cutter` cuts a stream into the blocks that are read so.
 #![tactic(auto)]
 
 mod check_word;
@@ -10,6 +11,7 @@ mod encoding;
 mod laws;
 mod layout;
 mod packet;
+mod stream;
 
 pub use check_word::crc32;
 pub use decoding::{PacketFault, decode, one_reading};
@@ -17,3 +19,4 @@ pub use encoding::encode;
 pub use laws::round_trip;
 pub use layout::PACKET_SIZE;
 pub use packet::{ContentFault, Field, Packet, RefusedPacket};
+pub use stream::{Cutter, one_cut};
