@@ -1,0 +1,17 @@
+pub mod Marks
+pub mod Settling
+pub mod GoneSteps
+pub mod Cached
+pub mod Unmarked
+pub mod Fresh
+pub mod SpreadSteps
+pub mod WalkSteps
+pub mod LinkSteps
+pub mod ChainSteps
+pub mod DeleteSteps
+pub mod RowSteps
+pub mod LiveSteps
+pub mod BookSteps
+pub mod CancelSteps
+pub mod FindSteps
+pub mod ReturnSteps

@@ -1,0 +1,68 @@
+use Rattle.std.proofs.Common.{◌≡◌, ◌∙◌, ◌+◌, true, ap, sym, refl, subst, arith, get_or, List, []}
+use Rattle.std.specs.Prelude.{is_some}
+use Rattle.gate_model.specs.Meaning.{is_same_kind}
+use Rattle.gate_downtime.specs.Book.{is_live_now}
+use Rattle.gate_downtime.specs.declared.row.Row.{Row}
+use Rattle.gate_downtime.specs.declared.links.Link.{Link}
+use Rattle.gate_downtime.specs.inner.Rows.{is_live_row}
+use Rattle.gate_downtime.specs.inner.Scheduling.{IsLiveAt}
+use Rattle.gate_downtime.specs.inner.Links.{Spreading}
+use Rattle.gate_downtime.specs.inner.Inside.{book_view}
+use Rattle.gate_downtime.proofs.SpreadSteps.{spread-end}
+use Rattle.gate_downtime.proofs.LiveSteps.{live-row}
+use Rattle.gate_downtime.proofs.FindSteps.{no-downtime, other-kind, own-kind}
+use Rattle.gate_downtime.proofs.CancelSteps.{spreading-struck, waiting-struck}
+use Rattle.gate_downtime.proofs.BookSteps.{cancel-stands, deleted-entries}
+use Rattle.gate_downtime.proofs.book.DowntimeBook.cancel.Goals as goal
+
+pub returns-in_default-clause-answer : goal.returns-in_default-clause-answer
+returns-in_default-clause-answer c =
+    let row : is_live_row c.self.inside.first c.deref.result.now c.self.inside.moment.0 c.args.id ≡ is_live_row c.self.inside.first c.self.inside.rows.items c.self.inside.moment.0 c.args.id = ap (λ rows. is_live_row c.self.inside.first rows c.self.inside.moment.0 c.args.id) c.deref.ensures.value in
+    rw (← c.self.view_is)
+    (no-downtime c.args.kind c.args.id (book_view c.self.inside) (sym (row ∙ live-row _ _ _ _ (spread-end _ _ _ c.self.invariant.spreading)) ∙ sym c.find_live.ensures.live ∙ ap is_some c.in_default.is))
+
+pub returns-then-not-is_same_kind-clause-answer : goal.returns-then-not-is_same_kind-clause-answer
+returns-then-not-is_same_kind-clause-answer c =
+    let row : is_live_row c.self.inside.first c.deref.result.now c.self.inside.moment.0 c.args.id ≡ is_live_row c.self.inside.first c.self.inside.rows.items c.self.inside.moment.0 c.args.id = ap (λ rows. is_live_row c.self.inside.first rows c.self.inside.moment.0 c.args.id) c.deref.ensures.value in
+    let on : is_live_now (book_view c.self.inside) c.args.id ≡ true = sym (row ∙ live-row _ _ _ _ (spread-end _ _ _ c.self.invariant.spreading)) ∙ sym c.find_live.ensures.live ∙ ap is_some c.in-Some.is in
+    let P : List Row → Type 0 = λ rows. IsLiveAt c.self.inside.first rows c.self.inside.moment.0 c.args.id c.in-Some.at in
+    let at : IsLiveAt c.self.inside.first c.self.inside.rows.items c.self.inside.moment.0 c.args.id c.in-Some.at = subst P c.deref.ensures.value c.in-Some.ensures.found in
+    rw (← c.self.view_is)
+    (other-kind c.args.kind c.self.inside.first c.args.id c.in-Some.at c.row_at.result c.self.inside.rows.items (book_view c.self.inside) refl (spread-end _ _ _ c.self.invariant.spreading) at.within at.id_is on
+    (ap (λ (r : Row). is_same_kind c.args.kind r.entry.scheduled.object.kind) (sym (c.row_at.ensures c.row_at.result ∙ ap (λ rows. get_or rows c.in-Some.at c.row_at.result) c.deref-2.ensures.value)) ∙ sym c.is_same_kind.ensures ∙ c.if-not-is_same_kind.true))
+
+pub invariant_of-self : goal.invariant_of-self
+invariant_of-self c =
+    let P : List Link → Type 0 = λ links. Spreading c.self.inside.first c.delete_from.new.rows.items links [] in
+    record {
+      sound = c.delete_from.ensures.sound;
+      spreading = spreading-struck _ _ _ _ c.delete_from.ensures.struck c.self.invariant.spreading;
+      waiting = waiting-struck _ _ _ _ _ c.delete_from.ensures.struck c.self.invariant.waiting;
+      idle = c.delete_from.ensures.pending_empty;
+      objects = omega (arith, c.self.invariant.objects, c.delete_from.ensures.objects);
+      ids = omega (arith, c.delete_from.ensures.struck.struck.len, c.self.invariant.ids);
+      small = c.self.invariant.small;
+      room_rows = omega (arith, c.delete_from.ensures.len, c.delete_from.ensures.capacity, c.self.invariant.room_rows);
+      room_links = c.self.invariant.room_links;
+      room_deadlines = omega (arith, c.delete_from.ensures.unsettled, c.delete_from.ensures.deadlines_len, c.delete_from.ensures.deadlines_capacity, c.self.invariant.room_deadlines);
+      room_pending = omega (arith, c.delete_from.ensures.len, c.delete_from.ensures.pending_capacity, c.self.invariant.room_pending);
+      room_marks = omega (arith, c.delete_from.ensures.gone_same.marks_len, c.delete_from.ensures.gone_same.marks_capacity, c.self.invariant.room_marks);
+      room_gone = omega (arith, c.delete_from.ensures.len, c.delete_from.ensures.gone_same.capacity, c.self.invariant.room_gone);
+    }
+
+pub returns-clause-stands : goal.returns-clause-stands
+returns-clause-stands c =
+    let P : List Row → Type 0 = λ rows. IsLiveAt c.self.inside.first rows c.self.inside.moment.0 c.args.id c.in-Some.at in
+    let at : IsLiveAt c.self.inside.first c.self.inside.rows.items c.self.inside.moment.0 c.args.id c.in-Some.at = subst P c.deref.ensures.value c.in-Some.ensures.found in
+    rw (← c.self.view_is)
+    (cancel-stands (book_view c.self.inside) _ c.args.id (deleted-entries (book_view c.self.inside) _ (c.self.inside.first + c.in-Some.at) c.args.id at.id_is c.delete_from.ensures.entries) refl refl)
+
+pub returns-clause-answer : goal.returns-clause-answer
+returns-clause-answer c =
+    let row : is_live_row c.self.inside.first c.deref.result.now c.self.inside.moment.0 c.args.id ≡ is_live_row c.self.inside.first c.self.inside.rows.items c.self.inside.moment.0 c.args.id = ap (λ rows. is_live_row c.self.inside.first rows c.self.inside.moment.0 c.args.id) c.deref.ensures.value in
+    let on : is_live_now (book_view c.self.inside) c.args.id ≡ true = sym (row ∙ live-row _ _ _ _ (spread-end _ _ _ c.self.invariant.spreading)) ∙ sym c.find_live.ensures.live ∙ ap is_some c.in-Some.is in
+    let P : List Row → Type 0 = λ rows. IsLiveAt c.self.inside.first rows c.self.inside.moment.0 c.args.id c.in-Some.at in
+    let at : IsLiveAt c.self.inside.first c.self.inside.rows.items c.self.inside.moment.0 c.args.id c.in-Some.at = subst P c.deref.ensures.value c.in-Some.ensures.found in
+    rw (← c.self.view_is)
+    (own-kind c.args.kind c.self.inside.first c.args.id c.in-Some.at c.row_at.result c.self.inside.rows.items (book_view c.self.inside) refl (spread-end _ _ _ c.self.invariant.spreading) at.within at.id_is on
+    (ap (λ (r : Row). is_same_kind c.args.kind r.entry.scheduled.object.kind) (sym (c.row_at.ensures c.row_at.result ∙ ap (λ rows. get_or rows c.in-Some.at c.row_at.result) c.deref-2.ensures.value)) ∙ sym c.is_same_kind.ensures ∙ c.if-not-is_same_kind.false))

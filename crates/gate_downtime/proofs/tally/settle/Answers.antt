@@ -1,0 +1,32 @@
+use Rattle.std.proofs.Common.{◌≡◌, ◌∙◌, ap, get_or, length, arith}
+use Rattle.gate_downtime.specs.inner.Rows.{active_at, live_at}
+use Rattle.gate_downtime.proofs.Settling.{due-within, settling-more}
+use Rattle.gate_downtime.proofs.GoneSteps.{gone-step, gone-lists, gone-trans}
+use Rattle.gate_downtime.proofs.tally.settle.Goals as goal
+
+pub row_at-row-requires : goal.row_at-row-requires
+row_at-row-requires c = omega (arith, ap length c.deref.ensures.value, due-within _ _ _ _ _ _ _ _ c.due.invariant.settling c.in-Some.ensures.some.2)
+
+pub mark_row-requires-clause-within : goal.mark_row-requires-clause-within
+mark_row-requires-clause-within c = due-within _ _ _ _ _ _ _ _ c.due.invariant.settling c.in-Some.ensures.some.2
+
+pub list_gone-requires-clause-within : goal.list_gone-requires-clause-within
+list_gone-requires-clause-within c = omega (arith, c.due.invariant.gone.kept.len, due-within _ _ _ _ _ _ _ _ c.due.invariant.settling c.in-Some.ensures.some.2)
+
+pub due-preserved : goal.due-preserved
+due-preserved c =
+    let row : c.row_at-row.result ≡ get_or c.due.rows.items c.in-Some.at c.row_at-row.result = c.row_at-row.ensures c.row_at-row.result ∙ ap (λ rows. get_or rows c.in-Some.at c.row_at-row.result) c.deref.ensures.value in
+    record {
+      settling =
+          settling-more _ _ _ _ _ _ _ _ _ _ c.row_at-row.result _ c.due.invariant.settling c.in-Some.ensures.some.1 c.in-Some.ensures.some.2 c.in-Some.ensures.order
+          (c.is_active_at-active.ensures ∙ ap (active_at c.args.now) row) c.mark_row.ensures.rows c.mark_row.ensures.counted c.mark_row.ensures.objects;
+      gone =
+          gone-step _ _ _ c.row_at-row.result _ _ _ _ _ _ _ _ (due-within _ _ _ _ _ _ _ _ c.due.invariant.settling c.in-Some.ensures.some.2) c.in-Some.ensures.some.2 c.mark_row.ensures.rows
+          (c.is_live_at-live.ensures ∙ ap (live_at c.args.now) row) c.list_gone.ensures c.due.invariant.gone;
+      objects = c.mark_row.ensures.depths ∙ c.due.invariant.objects;
+      gone_same = gone-trans _ _ _ c.due.invariant.gone_same (gone-lists _ _ _ _ c.list_gone.ensures);
+      rows = c.mark_row.ensures.len ∙ c.due.invariant.rows;
+      rows_capacity = c.mark_row.ensures.capacity ∙ c.due.invariant.rows_capacity;
+      capacity = omega (arith, c.in-Some.ensures.capacity, c.due.invariant.capacity);
+      fewer = omega (arith, c.in-Some.ensures.fewer, c.due.invariant.fewer);
+    }

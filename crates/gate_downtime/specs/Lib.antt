@@ -1,0 +1,4 @@
+pub mod Book
+pub mod Standing
+pub mod Faults
+pub mod inner

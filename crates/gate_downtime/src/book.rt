@@ -1,0 +1,254 @@
+ghost use Rattle.std.specs.Prelude.{◌≡◌, ◌≢◌, ◌↔◌, ◌<◌, ◌≤◌, ◌+◌, ◌||◌, IsTrue, ℕ, List, [], ◌∷◌, map, IfOk, OnOk, OnErr, is_some, option_map};
+ghost use Rattle.gate_model.specs.declared.record.Moment.{Moment};
+ghost use Rattle.gate_model.specs.declared.downtime.DowntimeEvent.{DowntimeEvent};
+ghost use Rattle.gate_model.specs.declared.downtime.DowntimeEvent.TheVariants as event;
+ghost use Rattle.gate_model.specs.Record.{later};
+ghost use Rattle.gate_model.specs.Meaning.{is_same_kind};
+ghost use Rattle.gate_model.specs.Downtime.{entries_of, depth_of, is_live, begin_of, begin_in};
+ghost use Rattle.gate_downtime.specs.Book.{next_id, fresh, after_transition, without, is_live_now, was_returned, next_gone_of, is_answer};
+ghost use Rattle.gate_downtime.specs.Faults.{scheduling_of, cancellation_by_id};
+ghost use Rattle.gate_downtime.specs.Standing.{IsStanding};
+
+use crate::deleting::delete_from;
+use crate::faults::{CancelFault, ScheduleFault};
+use crate::gone::take_gone;
+use crate::links::{Link, link_row, no_heads};
+use crate::row::{Row, row_at};
+use crate::scheduling::{add_row, find_begin, find_live, find_trigger, fresh_row};
+use crate::tally::{Tally, no_tally, settle};
+use crate::waiting::turn_waiting;
+use gate_model::{Kind, Moment, ObjectId, Plan, Scheduled};
+use std::alloc::{AllocError, Global};
+use std::marker::Model;
+
+/// The downtime entries, with how many of each object are active. Only `reserve` takes memory.
+#[derive(Drop)]
+pub struct DowntimeBook {
+    // The row at an index has that id after the first.
+    rows: Vec<Row>,
+    links: Vec<Link>,
+    // For each object its newest row that waits for a transition.
+    heads: Vec<Option<usize>>,
+    tally: Tally,
+    // The rows that a transition or a deletion is still to visit. Empty between calls.
+    pending: Vec<usize>,
+    moment: Moment,
+    first: u32,
+    room: usize,
+}
+
+impl Model for DowntimeBook {
+    ghost use Rattle.gate_downtime.specs.Book.{DowntimeView};
+    ghost use Rattle.gate_downtime.specs.inner.Inside.{book_view, BookInvariant};
+
+    ghost Value = { DowntimeView };
+
+    ghost view = { book_view };
+
+    ghost invariant = { BookInvariant };
+}
+
+impl DowntimeBook {
+    /// A book without entries over that many objects, at that moment. The first entry will have
+    /// that id.
+    pub fn open(
+        alloc: Global,
+        objects: usize,
+        first_id: u32,
+        moment: Moment,
+    ) -> Result<DowntimeBook, AllocError>
+        requires { first_id ≢ 0 }
+        ensures stands { IfOk result (λ book. IsStanding first_id book [] moment) }
+        ensures returned { IfOk result (λ book. book.returned ≡ []) }
+        ensures objects { IfOk result (λ book. book.objects ≡ objects) }
+        ensures room { IfOk result (λ book. book.room ≡ 0) }
+    {
+        Ok(DowntimeBook {
+            rows: Vec::new(alloc),
+            links: Vec::new(alloc),
+            heads: no_heads(alloc, objects)?,
+            tally: no_tally(alloc, objects)?,
+            pending: Vec::new(alloc),
+            moment,
+            first: first_id,
+            room: 0,
+        })
+    }
+
+    /// Takes the memory that this many more entries need, now and later. It fails only where memory
+    /// runs out.
+    pub fn reserve(&mut self, more: u32) -> Result<(), AllocError>
+        ensures room { OnOk result (more ≤ self.new.room) }
+        ensures kept { self.old.room ≤ self.new.room }
+        ensures same { self.new ≡ record self.old { room = self.new.room } }
+    {
+        let room = self.room.max(more as usize);
+        let rows = self.rows.len();
+        self.rows.reserve(room)?;
+        self.links.reserve(room)?;
+        self.tally.deadlines.reserve(2 * rows + 4 * room)?;
+        self.tally.gone.marks.reserve(room)?;
+        self.tally.gone.heap.reserve(rows + room)?;
+        self.pending.reserve(rows + room)?;
+        self.room = room;
+        Ok(())
+    }
+
+    /// How many entries can be scheduled without a `reserve`.
+    pub fn room(&self) -> usize
+        ensures { result ≡ self.now.room }
+    {
+        self.room
+    }
+
+    /// The moment of the book.
+    pub fn moment(&self) -> Moment
+        ensures { result ≡ self.now.moment }
+    {
+        self.moment
+    }
+
+    /// Goes on to a later moment. An earlier one changes nothing.
+    pub fn advance(&mut self, moment: Moment)
+        ensures stands { (first : ℕ) (history : List DowntimeEvent) (before : Moment) → IsStanding first self.old history before → IsStanding first self.new history (later before moment) }
+        ensures value { self.new ≡ record self.old { moment = later self.old.moment moment } }
+    {
+        let now = self.moment.later(moment);
+        settle(&mut self.rows, &mut self.tally, self.moment.0, now.0);
+        self.moment = now;
+    }
+
+    /// Schedules an entry of the object, as the plan asks, and answers its id: one more than the last.
+    pub fn schedule(&mut self, object: ObjectId, plan: Plan) -> Result<u32, ScheduleFault>
+        requires object { object.place < self.old.objects }
+        requires room { 0 < self.old.room }
+        ensures stands { (first : ℕ) (history : List DowntimeEvent) (moment : Moment) → IsStanding first self.old history moment → OnOk result (IsStanding first self.new (event.Schedule moment object plan ∷ history) moment) }
+        ensures answer { result ≡ scheduling_of plan self.old }
+        ensures entries { OnOk result (self.new.entries ≡ fresh self.old object plan ∷ self.old.entries) }
+        ensures room { self.old.room ≤ self.new.room + 1 }
+        ensures same { self.new ≡ record self.old { entries = self.new.entries; room = self.new.room } }
+        ensures err { OnErr result (self.new ≡ self.old) }
+    {
+        if plan.ends.0 <= plan.starts.0 {
+            return Err(ScheduleFault::BadWindow);
+        }
+        if plan.ends.0 <= self.moment.0 {
+            return Err(ScheduleFault::WindowPast);
+        }
+        let Some(trigger) = find_trigger(&self.rows, self.first, plan.trigger, self.moment.0) else {
+            return Err(ScheduleFault::NoSuchTrigger);
+        };
+        let Ok(id) = u32::try_from(self.first as u64 + self.rows.len() as u64) else {
+            return Err(ScheduleFault::IdsSpent);
+        };
+        let scheduled = Scheduled {
+            id,
+            object,
+            plan,
+            moment: self.moment,
+        };
+        let row = fresh_row(scheduled, trigger);
+        add_row(&mut self.rows, &mut self.tally, row, self.moment.0);
+        link_row(
+            &mut self.links,
+            &mut self.heads,
+            trigger.at,
+            plan.fixed,
+            object.place as usize,
+        );
+        self.room -= 1;
+        Ok(id)
+    }
+
+    /// The object at this place goes into a problem state, at the book's moment: all that it begins.
+    pub fn transition(&mut self, object: ObjectId)
+        requires { object.place < self.old.objects }
+        ensures stands { (first : ℕ) (history : List DowntimeEvent) (moment : Moment) → IsStanding first self.old history moment → IsStanding first self.new (event.Transition moment object.place ∷ history) moment }
+        ensures value { self.new ≡ record self.old { entries = map (after_transition self.old.moment object.place) self.old.entries } }
+    {
+        let head = self.heads[object.place as usize];
+        turn_waiting(
+            &mut self.rows,
+            &self.links,
+            &mut self.pending,
+            &mut self.tally,
+            head,
+            object.place,
+            self.first,
+            self.moment,
+        );
+    }
+
+    /// Deletes the live entry of this id, and along the chains of triggers all live entries that it
+    /// triggers, by a command for objects of this kind.
+    pub fn cancel(&mut self, kind: Kind, id: u32) -> Result<(), CancelFault>
+        ensures stands { (first : ℕ) (history : List DowntimeEvent) (moment : Moment) → IsStanding first self.old history moment → OnOk result (IsStanding first self.new (event.Delete moment id ∷ history) moment) }
+        ensures answer { result ≡ cancellation_by_id kind id self.old }
+        ensures value { OnOk result (self.new ≡ record self.old { entries = without id self.old }) }
+        ensures err { OnErr result (self.new ≡ self.old) }
+    {
+        let Some(at) = find_live(&self.rows, self.first, id, self.moment.0) else {
+            return Err(CancelFault::NoSuchDowntime);
+        };
+        if !is_same_kind(kind, row_at(&self.rows, at).entry.scheduled.object.kind) {
+            return Err(CancelFault::WrongKind);
+        }
+        delete_from(
+            &mut self.rows,
+            &self.links,
+            &mut self.pending,
+            &mut self.tally,
+            at,
+            self.first,
+            self.moment.0,
+        );
+        Ok(())
+    }
+
+    /// The least id of an entry that isn't live any more, and wasn't returned before.
+    pub fn next_gone(&mut self) -> Option<u32>
+        ensures stands { (first : ℕ) (history : List DowntimeEvent) (moment : Moment) → IsStanding first self.old history moment → result ≡ next_gone_of (entries_of first history) moment self.old.returned }
+        ensures answer { result ≡ next_gone_of self.old.entries self.old.moment self.old.returned }
+        ensures returned { (id : ℕ) → was_returned self.new.returned id ≡ (was_returned self.old.returned id || is_answer result id) }
+        ensures same { self.new ≡ record self.old { returned = self.new.returned } }
+    {
+        let Some(at) = take_gone(&self.rows, &mut self.tally.gone, self.moment.0) else {
+            return None;
+        };
+        Some(row_at(&self.rows, at).entry.scheduled.id)
+    }
+
+    /// Whether the entry of this id is live: scheduled, not deleted, and not over.
+    pub fn is_live(&self, id: u32) -> bool
+        ensures stands { (first : ℕ) (history : List DowntimeEvent) (moment : Moment) → IsStanding first self.now history moment → result ≡ is_live first history moment id }
+        ensures value { result ≡ is_live_now self.now id }
+    {
+        find_live(&self.rows, self.first, id, self.moment.0).is_some()
+    }
+
+    /// When the entry of this id begins, if it does, deleted or not.
+    pub fn begin(&self, id: u32) -> Option<Moment>
+        ensures stands { (first : ℕ) (history : List DowntimeEvent) (moment : Moment) → IsStanding first self.now history moment → option_map (λ begin. begin.0) result ≡ begin_of first history id }
+        ensures value { option_map (λ begin. begin.0) result ≡ begin_in self.now.entries id }
+    {
+        match find_begin(&self.rows, self.first, id) {
+            None => None,
+            Some(begin) => Some(Moment(begin)),
+        }
+    }
+
+    /// How many entries of the object are active.
+    pub fn depth(&self, object: ObjectId) -> u32
+        requires { object.place < self.now.objects }
+        ensures { (first : ℕ) (history : List DowntimeEvent) (moment : Moment) → IsStanding first self.now history moment → result ≡ depth_of first history moment object.place }
+    {
+        self.tally.depths[object.place as usize]
+    }
+}
+
+/// Whether the kinds are the same.
+fn is_same_kind(one: Kind, other: Kind) -> bool
+    ensures { result ≡ is_same_kind one other }
+{
+    one == other
+}

@@ -1,0 +1,18 @@
+//! The book of downtime entries: when an object is in downtime, and how deep. Entries are scheduled,
+//! begun by transitions of their objects or by their triggers, and deleted with what they trigger.
+//! Whatever calls were made, the book shows what they mean. Memory is taken by `reserve` alone.
+#![tactic(auto)]
+
+mod book;
+mod deleting;
+mod faults;
+mod gone;
+mod links;
+mod row;
+mod scheduling;
+mod spreading;
+mod tally;
+mod waiting;
+
+pub use book::DowntimeBook;
+pub use faults::{CancelFault, ScheduleFault};
