@@ -1,4 +1,4 @@
-use Rattle.std.proofs.Common.{◌≤◌, ℕ, arith, ap, refl, map, vec_len}
+use Rattle.std.proofs.Common.{◌≤◌, arith, ap, refl, map, vec_len}
 use Rattle.gate_model.specs.declared.record.Moment.{Moment}
 use Rattle.gate_downtime.specs.Book.{DowntimeView}
 use Rattle.gate_downtime.specs.inner.Gone.{is_returned, returned_ids}
@@ -10,7 +10,7 @@ use Rattle.gate_downtime.proofs.book.DowntimeBook.advance.Goals as goal
 
 pub invariant_of-self : goal.invariant_of-self
 invariant_of-self c =
-    let early : c.self.inside.moment.0 ≤ c.later-now.result.0 = omega (arith, c.later-now.ensures) in
+    let early : c.self.inside.moment.0 ≤ c.later-now.result.0 = omega (arith, ap (λ (m : Moment). m.0) c.later-now.ensures) in
     record {
       sound = c.settle.ensures.sound;
       spreading = spreading-same _ _ _ _ c.settle.ensures.same c.self.invariant.spreading;
@@ -30,9 +30,9 @@ invariant_of-self c =
 pub returns-clause-stands : goal.returns-clause-stands
 returns-clause-stands c =
     rw (← c.self.view_is)
-    (advance-stands _ _ c.args.moment (entries-same _ _ c.settle.ensures.same) (ap (λ (n : ℕ). let m : Moment = record { 0 = n } in m) c.later-now.ensures) refl)
+    (advance-stands _ _ c.args.moment (entries-same _ _ c.settle.ensures.same) c.later-now.ensures refl)
 
 pub returns-clause-value : goal.returns-clause-value
 returns-clause-value c =
     rw (← c.self.view_is, entries-same _ _ c.settle.ensures.same, c.settle.ensures.gone_same.same)
-    (ap (λ (n : ℕ). let v : DowntimeView = record { entries = row_entries c.self.inside.rows.items; moment = record { 0 = n }; first_id = c.self.inside.first; objects = vec_len c.self.inside.heads; room = c.self.inside.room; returned = returned_ids c.self.inside.first (map is_returned c.self.inside.tally.gone.marks.items) } in v) c.later-now.ensures)
+    (ap (λ (m : Moment). let v : DowntimeView = record { entries = row_entries c.self.inside.rows.items; moment = m; first_id = c.self.inside.first; objects = vec_len c.self.inside.heads; room = c.self.inside.room; returned = returned_ids c.self.inside.first (map is_returned c.self.inside.tally.gone.marks.items) } in v) c.later-now.ensures)
