@@ -129,12 +129,7 @@ fn a_body_beyond_the_quota_is_returned(rt: HostRuntime) {
 }
 
 // The moment of the close that succeeds, or of the first one.
-fn closed(
-    alloc: Global,
-    gate: &Gate,
-    closer: &mut Closer,
-    moment: u32,
-) -> Result<u32, Option<u32>>
+fn closed(alloc: Global, gate: &Gate, closer: &mut Closer, moment: u32) -> Result<u32, Option<u32>>
     requires { closer.old.cell ≡ gate.now.cell }
     ensures { closer.new.cell ≡ gate.now.cell }
 {
@@ -287,6 +282,12 @@ fn each_refusal_has_its_text(rt: HostRuntime) {
             "the gate is closing"
         )
     );
-    assert!(rt; is_text(rt.alloc(), Refused::Spent(body(1)), "the client's quota is used up"));
+    assert!(rt;
+        is_text(
+            rt.alloc(),
+            Refused::Spent(body(1)),
+            "the client's quota is used up"
+        )
+    );
     assert!(rt; is_text(rt.alloc(), Refused::Full(body(1)), "the queue is full"));
 }
