@@ -22,7 +22,7 @@ entries-take rows n d lt = ap row_entries (take_more rows n d lt) ∙ entries-pu
 is_deleted_in-other : (e : Entry) (es : List Entry) (k : ℕ) → eqb e.scheduled.id k ≡ false → is_deleted_in (e ∷ es) k ≡ is_deleted_in es k
 is_deleted_in-other e es k other = ap (λ b. cond b e.deleted (is_deleted_in es k)) other
 
--- an entry of another id in front changes nothing
+-- one more entry, of another id, changes nothing
 cached-other : (e : Entry) (es : List Entry) (r : Row) → eqb e.scheduled.id r.entry.scheduled.id ≡ false → IsCached es r → IsCached (e ∷ es) r
 cached-other e es r other c = record {
   begun_is = c.begun_is ∙ sym (begin_in-other e es r.entry.scheduled.id other);
@@ -44,7 +44,7 @@ over_by-free e None b b' o o' free = gone e b o free ∙ sym (gone e b' o' free)
     gone e b o free =
         ap (λ v. cond (v || is_some b) e.scheduled.plan.ends.0 (cond e.scheduled.plan.fixed (min e.scheduled.plan.ends.0 (unwrap_or o 0)) (unwrap_or o 0))) (eq-eqb e.scheduled.plan.trigger 0 free)
 
--- a fresh entry in front
+-- the entries after a fresh one
 cached-front : (es : List Entry) (r T : Row) → Follows r T.begun (Some T.over) → (r.entry.scheduled.plan.trigger ≡ 0) ⊎ ((T.entry.scheduled.id ≡ r.entry.scheduled.plan.trigger) × IsCached es T) → IsCached (r.entry ∷ es) r
 cached-front es r T f from = record {
   begun_is = f.begun_is ∙ begun ∙ sym (ap (λ v. cond v (begin_by r.entry (begin_in es r.entry.scheduled.plan.trigger)) (begin_in es r.entry.scheduled.id)) self);

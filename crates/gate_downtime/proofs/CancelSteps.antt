@@ -204,7 +204,7 @@ struck-set before rows rows' hit c s in' long is = record {
       ]);
 }
 
-live-struck : (t : ℕ) (old new : Row) (h : Bool) → IsStruck old h new → live_at t new ≡ (not (old.entry.deleted || h) && ltb t old.over)
+pub live-struck : (t : ℕ) (old new : Row) (h : Bool) → IsStruck old h new → live_at t new ≡ (not (old.entry.deleted || h) && ltb t old.over)
 live-struck t old new h w = ap (λ (e : Entry). not e.deleted && ltb t new.over) w.entry ∙ ap (λ o. not (old.entry.deleted || h) && ltb t o) w.over
 
 pass-bit : (del h o : Bool) → (not (del || h) && o) ≡ false → (h ≡ true → (not del && o) ≡ true) → (b : Bool) × ((not del && o) ≡ b) × (h ≡ b)
@@ -217,7 +217,7 @@ hit-bit false false o on = (on, refl)
 hit-bit true h o on = cc
 hit-bit false true o on = cc
 
-live-at : (first now : ℕ) (before : List Row) (c : ℕ) (d : Row) → Consistent first before → c < length before → live_at now (get_or before c d) ≡ is_live_in (row_entries before) now (first + c)
+pub live-at : (first now : ℕ) (before : List Row) (c : ℕ) (d : Row) → Consistent first before → c < length before → live_at now (get_or before c d) ≡ is_live_in (row_entries before) now (first + c)
 live-at first now before c d con in' = live-is (row_entries before) now (get_or before c d) (cached first before con c d in') ∙ ap (is_live_in (row_entries before) now) (con c d in').id_is
 
 pub deletes-pass : (first now x : ℕ) (before rows : List Row) (links : List Link) (pending : List ℕ) (c : ℕ) (d : Row) (l : Link) → live_at now (get_or rows c d) ≡ false → Deletes first now x before rows links (pending ++ c ∷ [])

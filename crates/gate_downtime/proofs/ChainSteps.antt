@@ -1,4 +1,4 @@
--- What a deletion is_chained, told by each row from its trigger's row.
+-- Whether a chain of live entries leads from a row to the deleted one follows from its trigger's row.
 use Rattle.std.proofs.Common.{◌≡◌, ℕ, zero, suc, ◌+◌, ◌-◌, ◌≤◌, ◌<◌, Bool, true, false, cond, not, ◌&&◌, ◌||◌, List, take, get_or, length, refl, sym, ap, ◌∙◌, subst, arith, inl, inr, eqb, add-one}
 use Rattle.std.proofs.lemmas.Bool.{cases_eq, eq-eqb, ne_eqb}
 use Rattle.std.proofs.lemmas.List.{take_all}

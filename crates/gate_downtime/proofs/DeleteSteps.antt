@@ -72,7 +72,7 @@ pass-step first live x rows links hit pending c d l b s alive was =
       ready = All-append (IsNext first rows hit) pending _ (front (IsNext first rows hit) pending c s.ready) (next-sibling first rows hit c d _ newest at);
     }
 
--- a write of true over false changes no other place
+-- a write at one index changes no other
 set-hit : (hit : List Bool) (c : ℕ) → c < length hit → (j : ℕ) → hit_at hit j ≡ true → hit_at (set hit c true) j ≡ true
 set-hit hit c lt j was =
     elim (cases_eq j c) [

@@ -1,4 +1,4 @@
--- A row more, and a mark changed.
+-- One more row, and a changed mark.
 use Rattle.std.proofs.Common.{◌≡◌, ℕ, ◌+◌, ◌-◌, ◌<◌, ◌^◌, Bool, true, false, cond, ◌&&◌, List, [], ◌∷◌, ◌++◌, map, set, get_or, length, refl, sym, ap, ◌∙◌, subst, arith, inl, inr, eqb, length-set, get_or-set_same, get_or-set_other, lit<}
 use Rattle.std.specs.Prelude.{Some, All, Contains}
 use Rattle.std.specs.List.{sum_by}

@@ -27,7 +27,7 @@ some-mark = record { listed = false; returned = false }
 pub lists-nothing : (at : ℕ) (live : Bool) (gone : Gone) → (live ≡ false → ((m : Mark) → (get_or gone.marks.items at m).returned ≡ false) → Contains (heap_items gone.heap) (record { 0 = at })) → Lists at live gone gone
 lists-nothing at live gone there = record { kept = λ n k. k; few = λ n f. f; keeps = λ k has. has; same = refl; there = there; capacity = omega arith; marks_len = refl; marks_capacity = omega arith }
 
--- one more, which was free
+-- one more row is listed, which was free
 pub kept-push : (n : ℕ) (marks marks' : List Mark) (listed listed' : Listed) (at : ℕ) (v : Mark) → at < n → marks' ≡ set marks at v → IsPermutation (record { 0 = at } ∷ listed) listed' → KeepsHeap gone_cmp listed listed'
     → IsKept n marks listed → IsKept n marks' listed'
 kept-push n marks marks' listed listed' at v in' is perm heap k = record {
@@ -167,7 +167,7 @@ gone-end now rows deadlines gone s none = record {
         let is : (get_or deadlines due.there.0 (record { 0 = (due.moment, k) })).0.0 ≡ due.moment = ap (λ (y : Reverse (ℕ × ℕ)). y.0.0) due.there.2 in
         omega (arith, at, is, due.past)
 
--- a row more
+-- one more row
 pub kept-more : (n : ℕ) (marks : List Mark) (listed : Listed) → IsKept n marks listed → IsKept (n + 1) (marks ++ some-mark ∷ []) listed
 kept-more n marks listed k = record {
   len = length_push marks some-mark ∙ ap (λ n. n + 1) k.len;

@@ -15,3 +15,9 @@ pub mod BookSteps
 pub mod CancelSteps
 pub mod FindSteps
 pub mod ReturnSteps
+pub mod SearchSteps
+pub mod IdSteps
+pub mod NotedSteps
+pub mod EntrySteps
+pub mod RoomSteps
+pub mod PruneSteps

@@ -1,4 +1,4 @@
--- The lists of children and of waiting rows, with a row more.
+-- The lists of children and of waiting rows, with one more row.
 use Rattle.std.proofs.Common.{◌≡◌, ℕ, ◌+◌, ◌-◌, ◌≤◌, ◌<◌, Bool, true, false, List, [], ◌∷◌, ◌++◌, set, get_or, length, Option, refl, sym, ap, ◌∙◌, subst, arith, ◌⊎◌, inl, inr, length-set, get_or-set_same, get_or-set_other}
 use Rattle.std.specs.Prelude.{Some, None}
 use Rattle.std.proofs.lemmas.Bool.{cases_lt, cases_eq}
@@ -79,7 +79,7 @@ more-triggered first rows r links links' at linked trigger in' is = record {
     new : (m : Link) → get_or links' (length links) m ≡ last m
     new m = ap (λ ls. get_or ls (length links) m) (is m) ∙ get_or_push (base m) (last m) m (length links) (length-set links at (with_child (length links) (get_or links at m)))
 
--- a row more is none that a list before it speaks of
+-- the lists of the rows before a new one don't depend on it
 newest-before : (rows : List Row) (r : Row) (x n : ℕ) (o : Option ℕ) → n ≤ length rows → Newest rows x n o → Newest (rows ++ r ∷ []) x n o
 newest-before rows r x n None le none = λ j d lt is. none j d lt (sym (ap trig (get_or_append_left rows (r ∷ []) d j (omega (arith, lt, le)))) ∙ is)
 newest-before rows r x n (Some f) le some = (
@@ -88,7 +88,7 @@ newest-before rows r x n (Some f) le some = (
   λ j d after lt is. some.2 j d after lt (sym (ap trig (get_or_append_left rows (r ∷ []) d j (omega (arith, lt, le)))) ∙ is),
 )
 
--- nor one of another trigger
+-- and neither do the lists of another trigger
 newest-other : (rows : List Row) (r : Row) (x : ℕ) (o : Option ℕ) → (trig r ≡ x → ⊥) → Newest rows x (length rows) o → Newest (rows ++ r ∷ []) x (length rows + 1) o
 newest-other rows r x None other none = λ j d lt is.
     elim (cases_lt j (length rows)) [
@@ -194,7 +194,7 @@ flex-other t p rows r (Some f) other some = (
       ],
 )
 
--- the list of an object, with a row more: it is in no list, or the first of this one
+-- the list of an object, with one more row: it is in no list, or the first of this one
 flex-push : (first t p : ℕ) (rows : List Row) (r : Row) (links links' : List Link) (head head' : Option ℕ) → length links ≡ length rows → MoreLinks first rows r links links'
     → ((IsFlex p r.entry → ⊥) × (head' ≡ head)) ⊎ (IsFlex p r.entry × (head' ≡ Some (length links)) × ((m : Link) → (get_or links' (length links) m).waiting ≡ head))
     → FlexLinked t rows links p head → FlexLinked t (rows ++ r ∷ []) links' p head'

@@ -91,7 +91,7 @@ consistent-push first rows r found con id trigger f =
       ];
     })
 
--- a row more, as its trigger's row tells
+-- one more row, whose beginning and end follow from its trigger's row
 pub spreading-push : (first : ℕ) (rows : List Row) (r : Row) (links links' : List Link) (found : Trigger) → Spreading first rows links [] → r.entry.scheduled.id ≡ first + length rows → IsTrigger first rows (trig r) found
     → Follows r found.begun (Some found.over) → r.settled ≡ settled_by r.entry.scheduled found → Linked first (rows ++ r ∷ []) links' → Spreading first (rows ++ r ∷ []) links' []
 spreading-push first rows r links links' found s id trigger f settled linked =

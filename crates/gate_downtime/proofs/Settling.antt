@@ -29,7 +29,7 @@ settling-start t now rows depths deadlines le sound = record {
   same = refl;
 }
 
--- what is left of a list's elements behind its first
+-- an element of a list that isn't its first is among the others
 pub not-first : (x : Reverse (ℕ × ℕ)) (xs : Deadlines) (y : Reverse (ℕ × ℕ)) → (x ≡ y → ⊥) → Contains (x ∷ xs) y → Contains xs y
 not-first x xs y ne has = elim (Contains-append_cases (x ∷ []) xs y has) [
   | inl one ↦ absurd (ne (only one.0 one.1 one.2))

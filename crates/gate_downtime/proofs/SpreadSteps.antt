@@ -14,7 +14,7 @@ use Rattle.gate_downtime.specs.inner.Rows.{Follows, Consistent, is_unsettled, ro
 use Rattle.gate_downtime.specs.inner.Links.{trig, Newest, Linked, PlacedAt, FollowsAt, Covered, IsPending, IsRoot, IsWaiting, Spreading, Refreshes, load}
 use Rattle.gate_downtime.proofs.Cached.{begin_by-free, over_by-free}
 
--- behind a pending row, the rest of its list is covered by the next sibling
+-- the older siblings of a pending row are covered by the next sibling
 pub cover-sibling : (rows : List Row) (pending : List ℕ) (c : ℕ) (d : Row) (o : Option ℕ) → Newest rows (trig (get_or rows c d)) c o
     → (j : ℕ) → (j ≡ c → ⊥) → Covered rows (pending ++ c ∷ []) j → Covered rows (pending ++ option_to_list o) j
 cover-sibling rows pending c d o newest j ne cov =

@@ -1,10 +1,12 @@
 -- What a book of downtime entries shows, and what each call makes of the entries.
-use Rattle.std.specs.Prelude.{ℕ, Bool, false, not, ◌&&◌, ◌||◌, ◌+◌, ◌==◌, List, length, map, reverse, find, Option, Some, None, option_map, if◌then◌else◌}
+use Rattle.std.specs.Prelude.{◌≡◌, ℕ, Bool, false, not, ◌&&◌, ◌||◌, ◌+◌, ◌==◌, List, length, map, reverse, find, filter, Option, Some, None, option_map, if◌then◌else◌}
 use Rattle.std.specs.List.{list_any}
 use Rattle.gate_model.specs.declared.record.Moment.{Moment}
 use Rattle.gate_model.specs.declared.object.ObjectId.{ObjectId}
 use Rattle.gate_model.specs.declared.downtime.Plan.{Plan}
+use Rattle.gate_model.specs.declared.downtime.Scheduled.{Scheduled}
 use Rattle.gate_model.specs.declared.downtime.Entry.{Entry}
+use Rattle.gate_model.specs.Record.{later}
 use Rattle.gate_model.specs.Downtime.{begins_at, is_chained, is_live_in, or_else}
 
 -- all entries ever scheduled, the newest first; the moment of the book; the first id; how many objects there are; for how
@@ -65,7 +67,41 @@ next_gone_of entries moment returned =
     option_map (λ (entry : Entry). entry.scheduled.id)
     (find (λ (entry : Entry). not (is_live_in entries moment.0 entry.scheduled.id) && not (was_returned returned entry.scheduled.id)) (reverse entries))
 
+-- the least id of an entry of the book that isn't live, and wasn't returned before
+abbrev pub next_gone_now : DowntimeView → Option ℕ
+next_gone_now book = next_gone_of book.entries book.moment book.returned
+
 -- this id is the answer
 abbrev pub is_answer : Option ℕ → ℕ → Bool
 is_answer None id = false
 is_answer (Some other) id = other == id
+
+-- the entries that are live at this moment, as they were scheduled, ids ascending
+abbrev pub live_entries : List Entry → Moment → List Scheduled
+live_entries entries moment =
+    map (λ (entry : Entry). entry.scheduled)
+    (filter (λ (entry : Entry). is_live_in entries moment.0 entry.scheduled.id) (reverse entries))
+
+-- how many entries are live
+abbrev pub live_count : DowntimeView → ℕ
+live_count book = length (live_entries book.entries book.moment)
+
+-- the returned ids of the new book are those of the old one, and this answer
+abbrev pub ReturnsToo : Option ℕ → DowntimeView → DowntimeView → Type 0
+ReturnsToo answer old new = (id : ℕ) → was_returned new.returned id ≡ (was_returned old.returned id || is_answer answer id)
+
+-- the book at the later of its moment and this one
+abbrev pub with_later : Moment → DowntimeView → DowntimeView
+with_later moment book = record book { moment = later book.moment moment }
+
+-- the book with these entries
+abbrev pub with_entries : List Entry → DowntimeView → DowntimeView
+with_entries entries book = record book { entries = entries }
+
+-- the book with this room
+abbrev pub with_room : ℕ → DowntimeView → DowntimeView
+with_room room book = record book { room = room }
+
+-- the book after a transition of the object at this place, at its moment
+abbrev pub with_transition : ℕ → DowntimeView → DowntimeView
+with_transition place book = with_entries (map (after_transition book.moment place) book.entries) book

@@ -1,3 +1,4 @@
+pub mod Search
 pub mod Book
 pub mod Standing
 pub mod Faults

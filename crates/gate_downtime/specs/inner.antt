@@ -1,9 +1,11 @@
 -- Only proofs and private functions use what stands here.
 pub mod Rows
 pub mod Gone
+pub mod Live
 pub mod Tally
 pub mod Links
 pub mod Walk
+pub mod Pruning
 pub mod Scheduling
 pub mod Cancel
 pub mod Inside

@@ -1,23 +1,28 @@
-ghost use Rattle.std.specs.Prelude.{◌≡◌, ◌≢◌, ◌↔◌, ◌<◌, ◌≤◌, ◌+◌, ◌||◌, IsTrue, ℕ, List, [], ◌∷◌, map, IfOk, OnOk, OnErr, is_some, option_map};
+ghost use Rattle.std.specs.Prelude.{◌≡◌, ◌≢◌, ◌↔◌, ◌<◌, ◌≤◌, ◌+◌, ◌||◌, IsTrue, ℕ, List, [], ◌∷◌, map, IfOk, OnOk, OnErr, is_some, option_map, IfNone};
 ghost use Rattle.gate_model.specs.declared.record.Moment.{Moment};
 ghost use Rattle.gate_model.specs.declared.downtime.DowntimeEvent.{DowntimeEvent};
 ghost use Rattle.gate_model.specs.declared.downtime.DowntimeEvent.TheVariants as event;
 ghost use Rattle.gate_model.specs.Record.{later};
 ghost use Rattle.gate_model.specs.Meaning.{is_same_kind};
 ghost use Rattle.gate_model.specs.Downtime.{entries_of, depth_of, is_live, begin_of, begin_in};
-ghost use Rattle.gate_downtime.specs.Book.{next_id, fresh, after_transition, without, is_live_now, was_returned, next_gone_of, is_answer};
+ghost use Rattle.gate_downtime.specs.Book.{fresh, without, is_live_now, next_gone_of, next_gone_now, ReturnsToo, with_later, with_entries, with_room, with_transition, live_entries, live_count};
+ghost use Rattle.gate_downtime.specs.Search.{index_of_id, IsWithinBinaryDigits};
 ghost use Rattle.gate_downtime.specs.Faults.{scheduling_of, cancellation_by_id};
-ghost use Rattle.gate_downtime.specs.Standing.{IsStanding};
+ghost use Rattle.gate_downtime.specs.Standing.{IsStanding, HoldsAfter, StandsLater, AddsEvent, live_of};
 
 use crate::deleting::delete_from;
+use crate::entries::LiveEntries;
 use crate::faults::{CancelFault, ScheduleFault};
 use crate::gone::take_gone;
 use crate::links::{Link, link_row, no_heads};
-use crate::row::{Row, row_at};
+use crate::live::{drop_ended, push_live};
+use crate::pruning::prune;
+use crate::row::{Row, is_live_at, row_at};
 use crate::scheduling::{add_row, find_begin, find_live, find_trigger, fresh_row};
+use crate::search::index_of;
 use crate::tally::{Tally, no_tally, settle};
 use crate::waiting::turn_waiting;
-use gate_model::{Kind, Moment, ObjectId, Plan, Scheduled};
+use gate_model::{Kind, Moment, ObjectId, Plan, Scheduled, Steps};
 use std::alloc::{AllocError, Global};
 use std::marker::Model;
 
@@ -81,6 +86,7 @@ impl DowntimeBook {
         ensures room { OnOk result (more ≤ self.new.room) }
         ensures kept { self.old.room ≤ self.new.room }
         ensures same { self.new ≡ record self.old { room = self.new.room } }
+        ensures err { OnErr result (self.new ≡ self.old) }
     {
         let room = self.room.max(more as usize);
         let rows = self.rows.len();
@@ -89,6 +95,7 @@ impl DowntimeBook {
         self.tally.deadlines.reserve(2 * rows + 4 * room)?;
         self.tally.gone.marks.reserve(room)?;
         self.tally.gone.heap.reserve(rows + room)?;
+        self.tally.live.ids.reserve(room)?;
         self.pending.reserve(rows + room)?;
         self.room = room;
         Ok(())
@@ -110,23 +117,27 @@ impl DowntimeBook {
 
     /// Goes on to a later moment. An earlier one changes nothing.
     pub fn advance(&mut self, moment: Moment)
-        ensures stands { (first : ℕ) (history : List DowntimeEvent) (before : Moment) → IsStanding first self.old history before → IsStanding first self.new history (later before moment) }
-        ensures value { self.new ≡ record self.old { moment = later self.old.moment moment } }
+        ensures stands { StandsLater moment self.old self.new }
+        ensures value { self.new ≡ with_later moment self.old }
     {
         let now = self.moment.later(moment);
         settle(&mut self.rows, &mut self.tally, self.moment.0, now.0);
+        drop_ended(&mut self.tally.live, &self.rows, self.first, now.0);
         self.moment = now;
     }
 
-    /// Schedules an entry of the object, as the plan asks, and answers its id: one more than the last.
+    /// Schedules an entry of the object, as the plan asks, and answers its id: one more than the
+    /// last.
     pub fn schedule(&mut self, object: ObjectId, plan: Plan) -> Result<u32, ScheduleFault>
         requires object { object.place < self.old.objects }
         requires room { 0 < self.old.room }
-        ensures stands { (first : ℕ) (history : List DowntimeEvent) (moment : Moment) → IsStanding first self.old history moment → OnOk result (IsStanding first self.new (event.Schedule moment object plan ∷ history) moment) }
+        ensures stands { OnOk result (
+            AddsEvent (λ now. event.Schedule now object plan) self.old self.new) }
         ensures answer { result ≡ scheduling_of plan self.old }
-        ensures entries { OnOk result (self.new.entries ≡ fresh self.old object plan ∷ self.old.entries) }
+        ensures entries { OnOk result (
+            self.new.entries ≡ fresh self.old object plan ∷ self.old.entries) }
         ensures room { self.old.room ≤ self.new.room + 1 }
-        ensures same { self.new ≡ record self.old { entries = self.new.entries; room = self.new.room } }
+        ensures same { self.new ≡ with_room self.new.room (with_entries self.new.entries self.old) }
         ensures err { OnErr result (self.new ≡ self.old) }
     {
         if plan.ends.0 <= plan.starts.0 {
@@ -149,6 +160,7 @@ impl DowntimeBook {
         };
         let row = fresh_row(scheduled, trigger);
         add_row(&mut self.rows, &mut self.tally, row, self.moment.0);
+        push_live(&mut self.tally.live, id, is_live_at(row, self.moment.0));
         link_row(
             &mut self.links,
             &mut self.heads,
@@ -160,11 +172,13 @@ impl DowntimeBook {
         Ok(id)
     }
 
-    /// The object at this place goes into a problem state, at the book's moment: all that it begins.
+    /// The object at this place goes into a problem state, at the book's moment. It begins what
+    /// waits for that.
+    /// It costs what can still begin and what begins.
     pub fn transition(&mut self, object: ObjectId)
         requires { object.place < self.old.objects }
-        ensures stands { (first : ℕ) (history : List DowntimeEvent) (moment : Moment) → IsStanding first self.old history moment → IsStanding first self.new (event.Transition moment object.place ∷ history) moment }
-        ensures value { self.new ≡ record self.old { entries = map (after_transition self.old.moment object.place) self.old.entries } }
+        ensures stands { AddsEvent (λ now. event.Transition now object.place) self.old self.new }
+        ensures value { self.new ≡ with_transition object.place self.old }
     {
         let head = self.heads[object.place as usize];
         turn_waiting(
@@ -177,14 +191,23 @@ impl DowntimeBook {
             self.first,
             self.moment,
         );
+        prune(
+            &self.rows,
+            &mut self.links,
+            &mut self.heads,
+            object.place as usize,
+            self.moment.0,
+        );
+        drop_ended(&mut self.tally.live, &self.rows, self.first, self.moment.0);
     }
 
     /// Deletes the live entry of this id, and along the chains of triggers all live entries that it
     /// triggers, by a command for objects of this kind.
     pub fn cancel(&mut self, kind: Kind, id: u32) -> Result<(), CancelFault>
-        ensures stands { (first : ℕ) (history : List DowntimeEvent) (moment : Moment) → IsStanding first self.old history moment → OnOk result (IsStanding first self.new (event.Delete moment id ∷ history) moment) }
+        ensures stands { OnOk result (
+            AddsEvent (λ now. event.Delete now id) self.old self.new) }
         ensures answer { result ≡ cancellation_by_id kind id self.old }
-        ensures value { OnOk result (self.new ≡ record self.old { entries = without id self.old }) }
+        ensures value { OnOk result (self.new ≡ with_entries (without id self.old) self.old) }
         ensures err { OnErr result (self.new ≡ self.old) }
     {
         let Some(at) = find_live(&self.rows, self.first, id, self.moment.0) else {
@@ -202,14 +225,17 @@ impl DowntimeBook {
             self.first,
             self.moment.0,
         );
+        drop_ended(&mut self.tally.live, &self.rows, self.first, self.moment.0);
         Ok(())
     }
 
     /// The least id of an entry that isn't live any more, and wasn't returned before.
     pub fn next_gone(&mut self) -> Option<u32>
-        ensures stands { (first : ℕ) (history : List DowntimeEvent) (moment : Moment) → IsStanding first self.old history moment → result ≡ next_gone_of (entries_of first history) moment self.old.returned }
-        ensures answer { result ≡ next_gone_of self.old.entries self.old.moment self.old.returned }
-        ensures returned { (id : ℕ) → was_returned self.new.returned id ≡ (was_returned self.old.returned id || is_answer result id) }
+        ensures stands { HoldsAfter self.old (λ first history moment.
+            result ≡ next_gone_of (entries_of first history) moment self.old.returned) }
+        ensures answer { result ≡ next_gone_now self.old }
+        ensures returned { ReturnsToo result self.old self.new }
+        ensures none { IfNone result (self.new ≡ self.old) }
         ensures same { self.new ≡ record self.old { returned = self.new.returned } }
     {
         let Some(at) = take_gone(&self.rows, &mut self.tally.gone, self.moment.0) else {
@@ -220,15 +246,36 @@ impl DowntimeBook {
 
     /// Whether the entry of this id is live: scheduled, not deleted, and not over.
     pub fn is_live(&self, id: u32) -> bool
-        ensures stands { (first : ℕ) (history : List DowntimeEvent) (moment : Moment) → IsStanding first self.now history moment → result ≡ is_live first history moment id }
+        ensures stands { HoldsAfter self.now (λ first history moment.
+            result ≡ is_live first history moment id) }
         ensures value { result ≡ is_live_now self.now id }
     {
         find_live(&self.rows, self.first, id, self.moment.0).is_some()
     }
 
+    /// The live entries, ids ascending: each with its id, its object and its plan. It takes a step
+    /// for each of them.
+    pub fn live(&self) -> LiveEntries<'_>
+        ensures stands { HoldsAfter self.now (λ first history moment.
+            result ≡ live_of first history moment) }
+        ensures value { result ≡ live_entries self.now.entries self.now.moment }
+    {
+        LiveEntries::new(&self.tally.live.ids, &self.rows, self.first)
+    }
+
+    /// The index in `live` of the entry of this id, by binary search. It compares ids by `steps`
+    /// alone, at most as many times as the number of live entries has binary digits.
+    pub fn find(&self, id: u32, steps: &mut Steps) -> Option<usize>
+        ensures index { result ≡ index_of_id id (live_entries self.now.entries self.now.moment) }
+        ensures steps { IsWithinBinaryDigits (live_count self.now) steps.old steps.new }
+    {
+        index_of(&self.tally.live.ids, id, steps)
+    }
+
     /// When the entry of this id begins, if it does, deleted or not.
     pub fn begin(&self, id: u32) -> Option<Moment>
-        ensures stands { (first : ℕ) (history : List DowntimeEvent) (moment : Moment) → IsStanding first self.now history moment → option_map (λ begin. begin.0) result ≡ begin_of first history id }
+        ensures stands { HoldsAfter self.now (λ first history moment.
+            option_map (λ begin. begin.0) result ≡ begin_of first history id) }
         ensures value { option_map (λ begin. begin.0) result ≡ begin_in self.now.entries id }
     {
         match find_begin(&self.rows, self.first, id) {
@@ -240,7 +287,8 @@ impl DowntimeBook {
     /// How many entries of the object are active.
     pub fn depth(&self, object: ObjectId) -> u32
         requires { object.place < self.now.objects }
-        ensures { (first : ℕ) (history : List DowntimeEvent) (moment : Moment) → IsStanding first self.now history moment → result ≡ depth_of first history moment object.place }
+        ensures { HoldsAfter self.now (λ first history moment.
+            result ≡ depth_of first history moment object.place) }
     {
         self.tally.depths[object.place as usize]
     }

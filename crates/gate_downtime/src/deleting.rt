@@ -11,6 +11,7 @@ ghost use Rattle.gate_downtime.specs.inner.Cancel.{deleted_row, is_kept, IsStack
 
 use crate::gone::list_gone;
 use crate::links::{Link, push_pending};
+use crate::live::note_ended;
 use crate::row::{Row, is_live_at, row_at, write_row};
 use crate::tally::{Tally, mark_row};
 use gate_model::Entry;
@@ -52,13 +53,16 @@ fn delete_at(rows: &mut Vec<Row>, tally: &mut Tally, at: usize, now: u32)
     ensures rows { (d : Row) → rows.new.items ≡ slice_set rows.old.items at (deleted_row (slice_index_or rows.old.items at d)) }
     ensures objects { vec_len tally.new.depths ≡ vec_len tally.old.depths }
     ensures gone_same { SameGone tally.old.gone tally.new.gone }
+    ensures ids_same { tally.new.live.ids ≡ tally.old.live.ids }
     ensures len { vec_len rows.new ≡ vec_len rows.old }
     ensures capacity { vec_capacity rows.new ≡ vec_capacity rows.old }
     ensures deadlines_len { heap_len tally.new.deadlines ≡ heap_len tally.old.deadlines }
     ensures deadlines_capacity { heap_capacity tally.new.deadlines ≡ heap_capacity tally.old.deadlines }
 {
+    let id = row_at(rows, at).entry.scheduled.id;
     delete_row(rows, &mut tally.depths, at);
     list_gone(&mut tally.gone, at, false);
+    note_ended(&mut tally.live, id, true);
 }
 
 /// One pending row, which was taken off the list.
@@ -80,6 +84,7 @@ fn visit(
     ensures unsettled { count_by is_unsettled rows.new.items ≡ count_by is_unsettled rows.old.items }
     ensures objects { vec_len tally.new.depths ≡ vec_len tally.old.depths }
     ensures gone_same { SameGone tally.old.gone tally.new.gone }
+    ensures ids_same { tally.new.live.ids ≡ tally.old.live.ids }
     ensures len { vec_len rows.new ≡ vec_len rows.old }
     ensures capacity { vec_capacity rows.new ≡ vec_capacity rows.old }
     ensures deadlines_len { heap_len tally.new.deadlines ≡ heap_len tally.old.deadlines }
@@ -122,6 +127,7 @@ pub fn delete_from(
     ensures unsettled { count_by is_unsettled rows.new.items ≡ count_by is_unsettled rows.old.items }
     ensures objects { vec_len tally.new.depths ≡ vec_len tally.old.depths }
     ensures gone_same { SameGone tally.old.gone tally.new.gone }
+    ensures ids_same { tally.new.live.ids ≡ tally.old.live.ids }
     ensures len { vec_len rows.new ≡ vec_len rows.old }
     ensures capacity { vec_capacity rows.new ≡ vec_capacity rows.old }
     ensures deadlines_len { heap_len tally.new.deadlines ≡ heap_len tally.old.deadlines }
@@ -152,6 +158,7 @@ fn delete_pending(
     ensures pending_empty { pending.new.items ≡ [] }
     ensures objects { vec_len tally.new.depths ≡ vec_len tally.old.depths }
     ensures gone_same { SameGone tally.old.gone tally.new.gone }
+    ensures ids_same { tally.new.live.ids ≡ tally.old.live.ids }
     ensures len { vec_len rows.new ≡ vec_len rows.old }
     ensures capacity { vec_capacity rows.new ≡ vec_capacity rows.old }
     ensures deadlines_len { heap_len tally.new.deadlines ≡ heap_len tally.old.deadlines }

@@ -5,14 +5,19 @@
 
 mod book;
 mod deleting;
+mod entries;
 mod faults;
 mod gone;
 mod links;
+mod live;
+mod pruning;
 mod row;
 mod scheduling;
+mod search;
 mod spreading;
 mod tally;
 mod waiting;
 
 pub use book::DowntimeBook;
+pub use entries::LiveEntries;
 pub use faults::{CancelFault, ScheduleFault};

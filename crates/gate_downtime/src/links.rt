@@ -37,6 +37,22 @@ pub fn push_pending(pending: &mut Vec<usize>, next: Option<usize>)
     }
 }
 
+pub fn link_at(links: &[Link], at: usize) -> Link
+    requires { at < length links.now }
+    ensures { (d : Link) → result ≡ slice_index_or links.now at d }
+{
+    links[at]
+}
+
+pub fn write_link(links: &mut Vec<Link>, at: usize, link: Link)
+    requires { at < length links.old.items }
+    ensures items { links.new.items ≡ slice_set links.old.items at link }
+    ensures len { vec_len links.new ≡ vec_len links.old }
+    ensures capacity { vec_capacity links.new ≡ vec_capacity links.old }
+{
+    links[at] = link;
+}
+
 fn push_link(links: &mut Vec<Link>, link: Link)
     requires { vec_len links.old < vec_capacity links.old }
     ensures items { links.new.items ≡ links.old.items ++ link ∷ [] }

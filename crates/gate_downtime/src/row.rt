@@ -1,4 +1,4 @@
-ghost use Rattle.std.specs.Prelude.{◌≡◌, ◌<◌, ◌≤◌, ◌+◌, ◌++◌, [], ◌∷◌, length, vec_len, vec_capacity, Some, slice_index_or, slice_set};
+ghost use Rattle.std.specs.Prelude.{◌≡◌, ◌&&◌, not, ◌<◌, ◌≤◌, ◌+◌, ◌++◌, [], ◌∷◌, length, vec_len, vec_capacity, Some, slice_index_or, slice_set};
 ghost use Rattle.gate_model.specs.Downtime.{begin_by, begin_alone, over_by};
 ghost use Rattle.gate_downtime.specs.declared.row.Row.{Row};
 ghost use Rattle.gate_downtime.specs.inner.Rows.{active_at, live_at};
@@ -33,6 +33,13 @@ pub fn is_live_at(row: Row, now: u32) -> bool
     ensures { result ≡ live_at now row }
 {
     !row.entry.deleted && (now as u64) < row.over
+}
+
+/// Whether the entry of the old row was live before, and that of the new row isn't now.
+pub fn has_ended(old: Row, before: u32, new: Row, now: u32) -> bool
+    ensures { result ≡ (live_at before old && not (live_at now new)) }
+{
+    is_live_at(old, before) && !is_live_at(new, now)
 }
 
 /// When the entry begins, if it does, its trigger beginning at that moment.

@@ -5,6 +5,7 @@ ghost use Rattle.gate_downtime.specs.inner.Rows.{SameButMarks, Follows, is_live_
 ghost use Rattle.gate_downtime.specs.inner.Scheduling.{IsTrigger, IsLiveAt, settled_by};
 ghost use Rattle.gate_downtime.specs.inner.Tally.{IsSound, HasRoom};
 ghost use Rattle.gate_downtime.specs.inner.Gone.{MoreGone};
+ghost use Rattle.gate_downtime.specs.inner.Live.{IsFresh};
 
 use crate::gone::{list_gone, push_mark};
 use crate::row::{Row, begin_by, is_active_at, is_live_at, over_by, push_row};
@@ -121,12 +122,14 @@ pub fn add_row(rows: &mut Vec<Row>, tally: &mut Tally, row: Row, now: u32)
     requires object { row.entry.scheduled.object.place < length tally.old.depths.items }
     requires few { length rows.old.items + 1 < 2 ^ 32 }
     requires mark { row.active ≡ false }
+    requires fresh { IsFresh row tally.old.live }
     requires gone { length rows.old.items + 1 ≤ heap_capacity tally.old.gone.heap }
     requires marks { vec_len tally.old.gone.marks < vec_capacity tally.old.gone.marks }
     ensures sound { IsSound now rows.new.items tally.new }
     ensures rows { SameButMarks (rows.old.items ++ row ∷ []) rows.new.items }
     ensures objects { vec_len tally.new.depths ≡ vec_len tally.old.depths }
     ensures gone_more { MoreGone tally.old.gone tally.new.gone }
+    ensures live_same { tally.new.live ≡ tally.old.live }
     ensures len { vec_len rows.new ≡ vec_len rows.old + 1 }
     ensures capacity { vec_capacity rows.old ≤ vec_capacity rows.new }
     ensures deadlines_len { heap_len tally.new.deadlines ≤ heap_len tally.old.deadlines + 2 }

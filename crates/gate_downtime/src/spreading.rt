@@ -8,7 +8,8 @@ ghost use Rattle.gate_downtime.specs.inner.Links.{load, trig, Refreshes, Spreadi
 
 use crate::gone::list_gone;
 use crate::links::{Link, push_pending};
-use crate::row::{Row, begin_by, is_active_at, is_live_at, over_by, row_at, write_row};
+use crate::live::note_ended;
+use crate::row::{Row, begin_by, has_ended, is_active_at, is_live_at, over_by, row_at, write_row};
 use crate::tally::{Tally, mark_row, wake_row};
 
 /// Writes a row of the same object, makes its later moments deadlines and marks it.
@@ -18,20 +19,24 @@ pub fn replace_row(rows: &mut Vec<Row>, tally: &mut Tally, at: usize, row: Row, 
     requires room { HasRoom 2 tally.old }
     requires mark { (d : Row) → row.active ≡ (slice_index_or rows.old.items at d).active }
     requires place { (d : Row) → row.entry.scheduled.object.place ≡ (slice_index_or rows.old.items at d).entry.scheduled.object.place }
+    requires id { (d : Row) → row.entry.scheduled.id ≡ (slice_index_or rows.old.items at d).entry.scheduled.id }
     ensures sound { IsSound now rows.new.items tally.new }
     ensures rows { rows.new.items ≡ slice_set rows.old.items at (with_active (active_at now row) row) }
     ensures objects { vec_len tally.new.depths ≡ vec_len tally.old.depths }
     ensures gone_same { SameGone tally.old.gone tally.new.gone }
+    ensures ids_same { tally.new.live.ids ≡ tally.old.live.ids }
     ensures len { vec_len rows.new ≡ vec_len rows.old }
     ensures capacity { vec_capacity rows.new ≡ vec_capacity rows.old }
     ensures deadlines_len { heap_len tally.new.deadlines ≤ heap_len tally.old.deadlines + 2 }
     ensures deadlines_capacity { heap_capacity tally.old.deadlines ≤ heap_capacity tally.new.deadlines }
 {
+    let ended = has_ended(row_at(rows, at), now, row, now);
     write_row(rows, at, row);
     wake_row(&mut tally.deadlines, at, row, now);
     let active = is_active_at(row, now);
     mark_row(rows, &mut tally.depths, at, active);
     list_gone(&mut tally.gone, at, is_live_at(row, now));
+    note_ended(&mut tally.live, row.entry.scheduled.id, ended);
 }
 
 /// A triggered row takes the beginning and the end that follow from its trigger's row.
@@ -44,6 +49,7 @@ fn refresh_row(rows: &mut Vec<Row>, tally: &mut Tally, at: usize, first: u32, no
     ensures refreshes { Refreshes first rows.old.items rows.new.items at }
     ensures objects { vec_len tally.new.depths ≡ vec_len tally.old.depths }
     ensures gone_same { SameGone tally.old.gone tally.new.gone }
+    ensures ids_same { tally.new.live.ids ≡ tally.old.live.ids }
     ensures len { vec_len rows.new ≡ vec_len rows.old }
     ensures capacity { vec_capacity rows.new ≡ vec_capacity rows.old }
     ensures deadlines_len { heap_len tally.new.deadlines ≤ heap_len tally.old.deadlines + 2 }
@@ -82,6 +88,7 @@ fn visit(
     ensures entries { row_entries rows.new.items ≡ row_entries rows.old.items }
     ensures objects { vec_len tally.new.depths ≡ vec_len tally.old.depths }
     ensures gone_same { SameGone tally.old.gone tally.new.gone }
+    ensures ids_same { tally.new.live.ids ≡ tally.old.live.ids }
     ensures len { vec_len rows.new ≡ vec_len rows.old }
     ensures capacity { vec_capacity rows.new ≡ vec_capacity rows.old }
     ensures deadlines_left { heap_len tally.new.deadlines + 2 * count_by is_unsettled rows.new.items ≤ heap_len tally.old.deadlines + 2 * count_by is_unsettled rows.old.items }
@@ -121,6 +128,7 @@ pub fn spread(
     ensures entries { row_entries rows.new.items ≡ row_entries rows.old.items }
     ensures objects { vec_len tally.new.depths ≡ vec_len tally.old.depths }
     ensures gone_same { SameGone tally.old.gone tally.new.gone }
+    ensures ids_same { tally.new.live.ids ≡ tally.old.live.ids }
     ensures len { vec_len rows.new ≡ vec_len rows.old }
     ensures capacity { vec_capacity rows.new ≡ vec_capacity rows.old }
     ensures deadlines_left { heap_len tally.new.deadlines + 2 * count_by is_unsettled rows.new.items ≤ heap_len tally.old.deadlines + 2 * count_by is_unsettled rows.old.items }

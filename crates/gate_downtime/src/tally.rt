@@ -5,20 +5,23 @@ ghost use Rattle.gate_downtime.specs.declared.row.Row.{Row};
 ghost use Rattle.gate_downtime.specs.inner.Rows.{active_at, with_active, Counted, deadline_cmp, Sound, SameButMarks, Adds, Wakes};
 ghost use Rattle.gate_downtime.specs.inner.Tally.{IsSound, HasRoom};
 ghost use Rattle.gate_downtime.specs.inner.Gone.{SameGone};
+ghost use Rattle.gate_downtime.specs.inner.Live.{IsIdle};
 
 use crate::gone::{Gone, list_gone, no_gone};
-use crate::row::{Row, is_active_at, is_live_at, row_at};
+use crate::live::{LiveIds, no_live, note_ended};
+use crate::row::{Row, has_ended, is_active_at, is_live_at, row_at};
 use std::alloc::{AllocError, Global};
 use std::cmp::Reverse;
 use std::collections::BinaryHeap;
 
 /// How many entries of each object are active, and the moments at which a row is to be looked at
-/// again, each with the row's index, and the rows that are live no more.
+/// again, each with the row's index, and the rows that are live, or no more.
 #[derive(Drop)]
 pub struct Tally {
     pub depths: Vec<u32>,
     pub deadlines: BinaryHeap<Reverse<(u64, usize)>>,
     pub gone: Gone,
+    pub live: LiveIds,
 }
 
 fn zeros(alloc: Global, count: usize) -> Result<Vec<u32>, AllocError>
@@ -34,11 +37,15 @@ pub fn no_tally(alloc: Global, objects: usize) -> Result<Tally, AllocError>
     ensures objects { IfOk result (λ tally. vec_len tally.depths ≡ objects) }
     ensures marks { IfOk result (λ tally. vec_len tally.gone.marks ≡ 0) }
     ensures deadlines { IfOk result (λ tally. heap_len tally.deadlines ≡ 0) }
+    ensures live { IfOk result (λ tally. tally.live.ids.items ≡ []) }
+    ensures live_len { IfOk result (λ tally. vec_len tally.live.ids ≡ 0) }
+    ensures idle { IfOk result (λ tally. IsIdle tally.live) }
 {
     Ok(Tally {
         depths: zeros(alloc, objects)?,
         deadlines: BinaryHeap::new(alloc),
         gone: no_gone(alloc),
+        live: no_live(alloc)?,
     })
 }
 
@@ -118,6 +125,7 @@ pub fn settle(rows: &mut Vec<Row>, tally: &mut Tally, before: u32, now: u32)
     ensures same { SameButMarks rows.old.items rows.new.items }
     ensures objects { vec_len tally.new.depths ≡ vec_len tally.old.depths }
     ensures gone_same { SameGone tally.old.gone tally.new.gone }
+    ensures ids_same { tally.new.live.ids ≡ tally.old.live.ids }
     ensures rows { vec_len rows.new ≡ vec_len rows.old }
     ensures rows_capacity { vec_capacity rows.new ≡ vec_capacity rows.old }
     ensures capacity { heap_capacity tally.new.deadlines ≡ heap_capacity tally.old.deadlines }
@@ -127,8 +135,10 @@ pub fn settle(rows: &mut Vec<Row>, tally: &mut Tally, before: u32, now: u32)
         let row = row_at(rows, at);
         let active = is_active_at(row, now);
         let live = is_live_at(row, now);
+        let ended = has_ended(row, before, row, now);
         mark_row(rows, &mut tally.depths, at, active);
         list_gone(&mut tally.gone, at, live);
+        note_ended(&mut tally.live, row.entry.scheduled.id, ended);
     }
 }
 

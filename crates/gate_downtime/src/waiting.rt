@@ -38,6 +38,7 @@ fn turn_root(
     ensures pending_empty { pending.new.items ≡ [] }
     ensures objects { vec_len tally.new.depths ≡ vec_len tally.old.depths }
     ensures gone_same { SameGone tally.old.gone tally.new.gone }
+    ensures ids_same { tally.new.live.ids ≡ tally.old.live.ids }
     ensures len { vec_len rows.new ≡ vec_len rows.old }
     ensures capacity { vec_capacity rows.new ≡ vec_capacity rows.old }
     ensures deadlines_left { heap_len tally.new.deadlines + 2 * count_by is_unsettled rows.new.items ≤ heap_len tally.old.deadlines + 2 * count_by is_unsettled rows.old.items }
@@ -102,6 +103,7 @@ fn turn_row(
     ensures pending_empty { pending.new.items ≡ [] }
     ensures objects { vec_len tally.new.depths ≡ vec_len tally.old.depths }
     ensures gone_same { SameGone tally.old.gone tally.new.gone }
+    ensures ids_same { tally.new.live.ids ≡ tally.old.live.ids }
     ensures len { vec_len rows.new ≡ vec_len rows.old }
     ensures capacity { vec_capacity rows.new ≡ vec_capacity rows.old }
     ensures deadlines_left { heap_len tally.new.deadlines + 2 * count_by is_unsettled rows.new.items ≤ heap_len tally.old.deadlines + 2 * count_by is_unsettled rows.old.items }
@@ -139,6 +141,7 @@ pub fn turn_waiting(
     ensures pending_empty { pending.new.items ≡ [] }
     ensures objects { vec_len tally.new.depths ≡ vec_len tally.old.depths }
     ensures gone_same { SameGone tally.old.gone tally.new.gone }
+    ensures ids_same { tally.new.live.ids ≡ tally.old.live.ids }
     ensures len { vec_len rows.new ≡ vec_len rows.old }
     ensures capacity { vec_capacity rows.new ≡ vec_capacity rows.old }
     ensures deadlines_left { heap_len tally.new.deadlines + 2 * count_by is_unsettled rows.new.items ≤ heap_len tally.old.deadlines + 2 * count_by is_unsettled rows.old.items }

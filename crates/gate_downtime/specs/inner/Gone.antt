@@ -65,7 +65,7 @@ pub record SameGone (old new : Gone) : Type 0 where
   pub marks_len : vec_len new.marks ≡ vec_len old.marks
   pub marks_capacity : vec_capacity old.marks ≤ vec_capacity new.marks
 
--- a row more, which wasn't returned, and no room lost
+-- one more row, which wasn't returned, and no room lost
 pub record MoreGone (old new : Gone) : Type 0 where
   pub more : map is_returned new.marks.items ≡ map is_returned old.marks.items ++ false ∷ []
   pub capacity : heap_capacity old.heap ≤ heap_capacity new.heap

@@ -6,6 +6,7 @@ use Rattle.gate_downtime.specs.Book.{DowntimeView}
 use Rattle.gate_downtime.specs.inner.Rows.{row_entries, is_unsettled}
 use Rattle.gate_downtime.specs.inner.Tally.{IsSound}
 use Rattle.gate_downtime.specs.inner.Gone.{is_returned, returned_ids}
+use Rattle.gate_downtime.specs.inner.Live.{live_ids, IsIdle}
 use Rattle.gate_downtime.specs.inner.Links.{Spreading}
 use Rattle.gate_downtime.specs.inner.Walk.{AllFlexLinked}
 
@@ -32,4 +33,7 @@ pub record BookInvariant (b : Inside) : Type 0 where
   pub room_deadlines : heap_len b.tally.deadlines + 2 * count_by is_unsettled b.rows.items + 4 * b.room ≤ heap_capacity b.tally.deadlines
   pub room_pending : vec_len b.rows + b.room ≤ vec_capacity b.pending
   pub room_marks : vec_len b.tally.gone.marks + b.room ≤ vec_capacity b.tally.gone.marks
+  pub live_is : b.tally.live.ids.items ≡ live_ids b.first b.moment.0 b.rows.items
+  pub live_idle : IsIdle b.tally.live
+  pub room_live : vec_len b.tally.live.ids + b.room ≤ vec_capacity b.tally.live.ids
   pub room_gone : vec_len b.rows + b.room ≤ heap_capacity b.tally.gone.heap

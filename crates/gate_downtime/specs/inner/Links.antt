@@ -21,7 +21,7 @@ pub record Linked (first : ℕ) (rows : List Row) (links : List Link) : Type 0 w
   pub child : (k : ℕ) (l : Link) → k < length rows → Newest rows (first + k) (length rows) (slice_index_or links k l).child
   pub sibling : (k : ℕ) (l : Link) (d : Row) → k < length rows → (trig (slice_index_or rows k d) ≡ 0 → ⊥) → Newest rows (trig (slice_index_or rows k d)) k (slice_index_or links k l).sibling
 
--- a row's id tells its place, and a trigger stands before it
+-- a row's id follows from its index, and its trigger is an earlier row
 pub record PlacedAt (first : ℕ) (k : ℕ) (r : Row) : Type 0 where
   pub id_is : r.entry.scheduled.id ≡ first + k
   pub linked : (trig r ≡ 0) ⊎ ((first ≤ trig r) × (trig r < first + k))

@@ -90,7 +90,7 @@ pub record Follows (r : Row) (begun over : Option ℕ) : Type 0 where
   pub begun_is : r.begun ≡ begin_by r.entry begun
   pub over_is : r.over ≡ over_by r.entry r.begun begun over
 
--- the id of a row tells its place, a trigger stands before it, and its beginning and end follow from the trigger's
+-- a row's id follows from its index, its trigger is an earlier row, and its beginning and end follow from the trigger's
 pub record Local (first : ℕ) (rows : List Row) (k : ℕ) (r : Row) : Type 0 where
   pub id_is : r.entry.scheduled.id ≡ first + k
   pub linked : (r.entry.scheduled.plan.trigger ≡ 0) ⊎ ((first ≤ r.entry.scheduled.plan.trigger) × (r.entry.scheduled.plan.trigger < first + k))

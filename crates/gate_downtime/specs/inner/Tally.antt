@@ -5,11 +5,13 @@ use Rattle.gate_downtime.specs.declared.row.Row.{Row}
 use Rattle.gate_downtime.specs.declared.tally.Tally.{Tally}
 use Rattle.gate_downtime.specs.inner.Rows.{Sound}
 use Rattle.gate_downtime.specs.inner.Gone.{AllGone}
+use Rattle.gate_downtime.specs.inner.Live.{AllNoted}
 
--- counters, deadlines, marks and the list of what is live no more are those of this moment
+-- counters, deadlines, marks and the lists of what is live and what no more are those of this moment
 pub record IsSound (now : ℕ) (rows : List Row) (tally : Tally) : Type 0 where
   pub sound : Sound now rows tally.depths.items (heap_items tally.deadlines)
   pub gone : AllGone now rows tally.gone
+  pub noted : AllNoted now rows tally.live
 
 -- there is room for this many deadlines more
 abbrev pub HasRoom : ℕ → Tally → Type 0

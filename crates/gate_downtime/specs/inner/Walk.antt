@@ -1,5 +1,5 @@
 -- For proofs and private functions alone: the walk over the rows of an object that wait for a transition.
-use Rattle.std.specs.Prelude.{◌≡◌, ℕ, ◌+◌, ◌<◌, ◌≤◌, false, List, length, map, slice_index_or, Option, Some, None}
+use Rattle.std.specs.Prelude.{◌≡◌, ℕ, ◌+◌, ◌<◌, ◌≤◌, Bool, false, not, ◌&&◌, nat_lt, is_none, List, length, map, slice_index_or, Option, Some, None}
 use Rattle.gate_model.specs.declared.record.Moment.{Moment}
 use Rattle.gate_model.specs.declared.downtime.Entry.{Entry}
 use Rattle.gate_downtime.specs.Book.{after_transition}
@@ -18,6 +18,10 @@ pub record Waits (t p : ℕ) (e : Entry) : Type 0 where
   pub unturned : e.transition ≡ None
   pub kept : e.deleted ≡ false
   pub open' : t < e.scheduled.plan.ends.0
+
+-- no transition has begun the entry, it isn't deleted, and t is before the end of its window
+abbrev pub may_begin : ℕ → Entry → Bool
+may_begin t e = is_none e.transition && not e.deleted && nat_lt t e.scheduled.plan.ends.0
 
 -- an untriggered flexible row of the object, and none between it and n waits
 abbrev pub NewestFlex : ℕ → List Row → ℕ → ℕ → Option ℕ → Type 0

@@ -17,6 +17,7 @@ invariant-pending l = record {
   unsettled : count_by is_unsettled l.rows.items ≡ count_by is_unsettled l.initial.rows.items;
   objects : vec_len l.tally.depths ≡ vec_len l.initial.tally.depths;
   gone_same : SameGone l.initial.tally.gone l.tally.gone;
+  ids_same : l.tally.live.ids ≡ l.initial.tally.live.ids;
   len : vec_len l.rows ≡ vec_len l.initial.rows;
   capacity : vec_capacity l.rows ≡ vec_capacity l.initial.rows;
   deadlines_len : heap_len l.tally.deadlines ≡ heap_len l.initial.tally.deadlines;

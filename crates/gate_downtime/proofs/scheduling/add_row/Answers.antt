@@ -1,6 +1,7 @@
 use Rattle.std.proofs.Common.{◌≡◌, ◌∙◌, ℕ, length, subst}
 use Rattle.gate_downtime.specs.inner.Gone.{Lists}
 use Rattle.gate_downtime.proofs.GoneSteps.{gone-add}
+use Rattle.gate_downtime.proofs.NotedSteps.{noted-add}
 use Rattle.gate_downtime.proofs.Fresh.{add-sound, added-rows}
 use Rattle.gate_downtime.proofs.scheduling.add_row.Goals as goal
 
@@ -13,6 +14,9 @@ returns-clause-sound c = record {
       let P : ℕ → Type 0 = λ i. Lists i c.is_live_at.result c.push_mark.new.gone c.list_gone.new.gone in
       gone-add _ c.args.row _ _ _ _ _ _ _ (added-rows _ _ _ c.args.row c.len-at.result _ at c.push_row.ensures.items c.mark_row.ensures.rows) c.push_mark.ensures.marks c.push_mark.ensures.heap c.requires.gone
       c.is_live_at.ensures (subst P at c.list_gone.ensures) c.requires.sound.gone;
+  noted =
+      noted-add _ c.args.row c.is_active_at-active.result _ _ c.args.tally.now.live
+      (added-rows _ _ _ c.args.row c.len-at.result _ (c.len-at.ensures ∙ c.args.rows.now.ok.0) c.push_row.ensures.items c.mark_row.ensures.rows) c.requires.fresh c.requires.sound.noted;
 }
 
 pub returns-clause-rows : goal.returns-clause-rows

@@ -14,6 +14,7 @@ invariant-pending l = record {
   entries : row_entries l.rows.items ≡ row_entries l.initial.rows.items;
   objects : vec_len l.tally.depths ≡ vec_len l.initial.tally.depths;
   gone_same : SameGone l.initial.tally.gone l.tally.gone;
+  ids_same : l.tally.live.ids ≡ l.initial.tally.live.ids;
   len : vec_len l.rows ≡ vec_len l.initial.rows;
   capacity : vec_capacity l.rows ≡ vec_capacity l.initial.rows;
   room_deadlines : heap_len l.tally.deadlines + 2 * count_by is_unsettled l.rows.items ≤ heap_capacity l.tally.deadlines;

@@ -1,7 +1,10 @@
-use Rattle.std.proofs.Common.{◌≡◌, ◌∙◌, ap, get_or, length, arith}
+use Rattle.std.proofs.Common.{◌≡◌, ◌∙◌, ◌&&◌, not, ap, subst, get_or, length, arith}
+use Rattle.gate_downtime.specs.declared.row.Row.{Row}
+use Rattle.gate_downtime.specs.inner.Live.{Notes}
 use Rattle.gate_downtime.specs.inner.Rows.{active_at, live_at}
 use Rattle.gate_downtime.proofs.Settling.{due-within, settling-more}
 use Rattle.gate_downtime.proofs.GoneSteps.{gone-step, gone-lists, gone-trans}
+use Rattle.gate_downtime.proofs.NotedSteps.{noted-step, noted-mark}
 use Rattle.gate_downtime.proofs.tally.settle.Goals as goal
 
 pub row_at-row-requires : goal.row_at-row-requires
@@ -16,6 +19,7 @@ list_gone-requires-clause-within c = omega (arith, c.due.invariant.gone.kept.len
 pub due-preserved : goal.due-preserved
 due-preserved c =
     let row : c.row_at-row.result ≡ get_or c.due.rows.items c.in-Some.at c.row_at-row.result = c.row_at-row.ensures c.row_at-row.result ∙ ap (λ rows. get_or rows c.in-Some.at c.row_at-row.result) c.deref.ensures.value in
+    let P : Row → Type 0 = λ r. Notes r.entry.scheduled.id c.has_ended-ended.result c.due.tally.live c.note_ended.new.live in
     record {
       settling =
           settling-more _ _ _ _ _ _ _ _ _ _ c.row_at-row.result _ c.due.invariant.settling c.in-Some.ensures.some.1 c.in-Some.ensures.some.2 c.in-Some.ensures.order
@@ -23,8 +27,13 @@ due-preserved c =
       gone =
           gone-step _ _ _ c.row_at-row.result _ _ _ _ _ _ _ _ (due-within _ _ _ _ _ _ _ _ c.due.invariant.settling c.in-Some.ensures.some.2) c.in-Some.ensures.some.2 c.mark_row.ensures.rows
           (c.is_live_at-live.ensures ∙ ap (live_at c.args.now) row) c.list_gone.ensures c.due.invariant.gone;
+      noted =
+          noted-step _ c.args.before _ _ c.row_at-row.result _ _ _ _ _ _ _ _ (due-within _ _ _ _ _ _ _ _ c.due.invariant.settling c.in-Some.ensures.some.2) c.in-Some.ensures.some.2 c.mark_row.ensures.rows
+          (c.has_ended-ended.ensures ∙ ap (λ r. live_at c.args.before r && not (live_at c.args.now r)) row) (subst P row c.note_ended.ensures) c.due.invariant.early c.due.invariant.noted;
+      early = noted-mark _ c.in-Some.at c.row_at-row.result _ _ _ _ _ _ _ (due-within _ _ _ _ _ _ _ _ c.due.invariant.settling c.in-Some.ensures.some.2) c.mark_row.ensures.rows c.note_ended.ensures c.due.invariant.early;
       objects = c.mark_row.ensures.depths ∙ c.due.invariant.objects;
       gone_same = gone-trans _ _ _ c.due.invariant.gone_same (gone-lists _ _ _ _ c.list_gone.ensures);
+      ids_same = c.note_ended.ensures.ids ∙ c.due.invariant.ids_same;
       rows = c.mark_row.ensures.len ∙ c.due.invariant.rows;
       rows_capacity = c.mark_row.ensures.capacity ∙ c.due.invariant.rows_capacity;
       capacity = omega (arith, c.in-Some.ensures.capacity, c.due.invariant.capacity);

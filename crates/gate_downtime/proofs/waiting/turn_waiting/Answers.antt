@@ -1,4 +1,4 @@
-use Rattle.std.proofs.Common.{arith}
+use Rattle.std.proofs.Common.{arith, ◌∙◌}
 use Rattle.gate_downtime.proofs.WalkSteps.{walk-next, walk-smaller-next, walk-end-at}
 use Rattle.gate_downtime.specs.inner.Rows.{some-row}
 use Rattle.gate_downtime.proofs.GoneSteps.{gone-trans}
@@ -17,6 +17,7 @@ walk-preserved c = record {
   room_pending = omega (arith, c.turn_row.ensures.pending_left, c.turn_row.ensures.pending_capacity, c.walk.invariant.room_pending);
   objects = omega (arith, c.turn_row.ensures.objects, c.walk.invariant.objects);
   gone_same = gone-trans _ _ _ c.walk.invariant.gone_same c.turn_row.ensures.gone_same;
+  ids_same = c.turn_row.ensures.ids_same ∙ c.walk.invariant.ids_same;
   len = omega (arith, c.turn_row.ensures.len, c.walk.invariant.len);
   capacity = omega (arith, c.turn_row.ensures.capacity, c.walk.invariant.capacity);
   deadlines_left = omega (arith, c.turn_row.ensures.deadlines_left, c.walk.invariant.deadlines_left);

@@ -18,6 +18,7 @@ invariant-walk l = record {
   room_pending : count_by is_unsettled l.rows.items ≤ vec_capacity l.pending;
   objects : vec_len l.tally.depths ≡ vec_len l.initial.tally.depths;
   gone_same : SameGone l.initial.tally.gone l.tally.gone;
+  ids_same : l.tally.live.ids ≡ l.initial.tally.live.ids;
   len : vec_len l.rows ≡ vec_len l.initial.rows;
   capacity : vec_capacity l.rows ≡ vec_capacity l.initial.rows;
   deadlines_left : heap_len l.tally.deadlines + 2 * count_by is_unsettled l.rows.items ≤ heap_len l.initial.tally.deadlines + 2 * count_by is_unsettled l.initial.rows.items;

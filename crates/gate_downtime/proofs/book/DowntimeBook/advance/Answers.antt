@@ -1,4 +1,11 @@
-use Rattle.std.proofs.Common.{◌≤◌, arith, ap, refl, map, vec_len}
+use Rattle.std.proofs.Common.{◌≡◌, ◌≤◌, ◌∙◌, List, arith, ap, refl, sym, subst, map, vec_len, vec_capacity}
+use Rattle.std.specs.Prelude.{filter}
+use Rattle.gate_downtime.specs.declared.row.Row.{Row}
+use Rattle.gate_downtime.specs.inner.Rows.{is_live_row}
+use Rattle.gate_downtime.specs.inner.Live.{AreNoted, live_ids}
+use Rattle.gate_downtime.proofs.NotedSteps.{live-noted}
+use Rattle.gate_downtime.proofs.SpreadSteps.{spread-end}
+use Rattle.gate_downtime.proofs.EntrySteps.{after-call, live-later}
 use Rattle.gate_model.specs.declared.record.Moment.{Moment}
 use Rattle.gate_downtime.specs.Book.{DowntimeView}
 use Rattle.gate_downtime.specs.inner.Gone.{is_returned, returned_ids}
@@ -8,11 +15,33 @@ use Rattle.gate_downtime.proofs.RowSteps.{spreading-same, waiting-same}
 use Rattle.gate_downtime.proofs.BookSteps.{advance-stands}
 use Rattle.gate_downtime.proofs.book.DowntimeBook.advance.Goals as goal
 
+pub drop_ended-requires-clause-ascending : goal.drop_ended-requires-clause-ascending
+drop_ended-requires-clause-ascending c =
+    (after-call c.self.inside.first c.self.inside.moment.0 c.later-now.result.0 c.self.inside.rows.items c.settle.new.rows.items c.self.inside.tally.live c.settle.new.tally.live
+    (spread-end _ _ _ (spreading-same _ _ _ _ c.settle.ensures.same c.self.invariant.spreading)) (length-same _ _ c.settle.ensures.same)
+    (live-later _ _ _ _ (let early : c.self.inside.moment.0 ≤ c.later-now.result.0 = omega (arith, ap (λ (m : Moment). m.0) c.later-now.ensures) in early) c.settle.ensures.same) c.self.invariant.live_is c.settle.ensures.ids_same c.settle.ensures.sound.noted).ascending
+
+pub drop_ended-requires-clause-noted : goal.drop_ended-requires-clause-noted
+drop_ended-requires-clause-noted c =
+    let P : List Row → Type 0 = λ rows. AreNoted (is_live_row c.self.inside.first rows c.later-now.result.0) c.settle.new.tally.live in
+    subst P (sym c.deref.ensures.value) (after-call c.self.inside.first c.self.inside.moment.0 c.later-now.result.0 c.self.inside.rows.items c.settle.new.rows.items c.self.inside.tally.live c.settle.new.tally.live
+    (spread-end _ _ _ (spreading-same _ _ _ _ c.settle.ensures.same c.self.invariant.spreading)) (length-same _ _ c.settle.ensures.same)
+    (live-later _ _ _ _ (let early : c.self.inside.moment.0 ≤ c.later-now.result.0 = omega (arith, ap (λ (m : Moment). m.0) c.later-now.ensures) in early) c.settle.ensures.same) c.self.invariant.live_is c.settle.ensures.ids_same c.settle.ensures.sound.noted).noted
+
 pub invariant_of-self : goal.invariant_of-self
 invariant_of-self c =
     let early : c.self.inside.moment.0 ≤ c.later-now.result.0 = omega (arith, ap (λ (m : Moment). m.0) c.later-now.ensures) in
+    let is : c.drop_ended.new.live.ids.items ≡ live_ids c.self.inside.first c.later-now.result.0 c.settle.new.rows.items =
+    c.drop_ended.ensures.ids ∙ ap (λ rows. filter (is_live_row c.self.inside.first rows c.later-now.result.0) c.settle.new.tally.live.ids.items) c.deref.ensures.value
+    ∙ (after-call c.self.inside.first c.self.inside.moment.0 c.later-now.result.0 c.self.inside.rows.items c.settle.new.rows.items c.self.inside.tally.live c.settle.new.tally.live
+    (spread-end _ _ _ (spreading-same _ _ _ _ c.settle.ensures.same c.self.invariant.spreading)) (length-same _ _ c.settle.ensures.same)
+    (live-later _ _ _ _ (let early : c.self.inside.moment.0 ≤ c.later-now.result.0 = omega (arith, ap (λ (m : Moment). m.0) c.later-now.ensures) in early) c.settle.ensures.same) c.self.invariant.live_is c.settle.ensures.ids_same c.settle.ensures.sound.noted).left in
     record {
-      sound = c.settle.ensures.sound;
+      sound = record {
+        sound = c.settle.ensures.sound.sound;
+        gone = c.settle.ensures.sound.gone;
+        noted = live-noted c.self.inside.first _ _ c.drop_ended.new.live (λ k d lt. (spread-end _ _ _ (spreading-same _ _ _ _ c.settle.ensures.same c.self.invariant.spreading) k d lt).id_is) is;
+      };
       spreading = spreading-same _ _ _ _ c.settle.ensures.same c.self.invariant.spreading;
       waiting = waiting-same _ _ _ _ _ _ early c.settle.ensures.same c.self.invariant.waiting;
       idle = c.self.invariant.idle;
@@ -24,6 +53,9 @@ invariant_of-self c =
       room_deadlines = omega (arith, c.settle.ensures.fewer, c.settle.ensures.capacity, unsettled-same _ _ c.settle.ensures.same, c.self.invariant.room_deadlines);
       room_pending = omega (arith, c.settle.ensures.rows, c.self.invariant.room_pending);
       room_marks = omega (arith, c.settle.ensures.gone_same.marks_len, c.settle.ensures.gone_same.marks_capacity, c.self.invariant.room_marks);
+      live_is = is;
+      live_idle = c.drop_ended.ensures.idle;
+      room_live = omega (arith, c.drop_ended.ensures.len, c.drop_ended.ensures.capacity, ap (λ ids. vec_len ids) c.settle.ensures.ids_same, ap (λ ids. vec_capacity ids) c.settle.ensures.ids_same, c.self.invariant.room_live);
       room_gone = omega (arith, c.settle.ensures.rows, c.settle.ensures.gone_same.capacity, c.self.invariant.room_gone);
     }
 

@@ -1,5 +1,8 @@
-use Rattle.std.proofs.Common.{◌≡◌, ◌∙◌, ◌+◌, true, ap, sym, refl, subst, arith, get_or, List, []}
-use Rattle.std.specs.Prelude.{is_some}
+use Rattle.std.proofs.Common.{◌≡◌, ◌∙◌, ◌+◌, true, ap, sym, refl, subst, arith, get_or, List, [], vec_len, vec_capacity}
+use Rattle.std.specs.Prelude.{filter, is_some}
+use Rattle.gate_downtime.specs.inner.Live.{AreNoted, live_ids}
+use Rattle.gate_downtime.proofs.NotedSteps.{live-noted}
+use Rattle.gate_downtime.proofs.EntrySteps.{after-call, live-struck-before}
 use Rattle.gate_model.specs.Meaning.{is_same_kind}
 use Rattle.gate_downtime.specs.Book.{is_live_now}
 use Rattle.gate_downtime.specs.declared.row.Row.{Row}
@@ -31,11 +34,30 @@ returns-then-not-is_same_kind-clause-answer c =
     (other-kind c.args.kind c.self.inside.first c.args.id c.in-Some.at c.row_at.result c.self.inside.rows.items (book_view c.self.inside) refl (spread-end _ _ _ c.self.invariant.spreading) at.within at.id_is on
     (ap (λ (r : Row). is_same_kind c.args.kind r.entry.scheduled.object.kind) (sym (c.row_at.ensures c.row_at.result ∙ ap (λ rows. get_or rows c.in-Some.at c.row_at.result) c.deref-2.ensures.value)) ∙ sym c.is_same_kind.ensures ∙ c.if-not-is_same_kind.true))
 
+pub drop_ended-requires-clause-ascending : goal.drop_ended-requires-clause-ascending
+drop_ended-requires-clause-ascending c =
+    (after-call c.self.inside.first c.self.inside.moment.0 c.self.inside.moment.0 c.self.inside.rows.items c.delete_from.new.rows.items c.self.inside.tally.live c.delete_from.new.tally.live
+    (spread-end _ _ _ (spreading-struck _ _ _ _ c.delete_from.ensures.struck c.self.invariant.spreading)) c.delete_from.ensures.struck.struck.len (live-struck-before _ _ _ c.delete_from.ensures.struck) c.self.invariant.live_is c.delete_from.ensures.ids_same c.delete_from.ensures.sound.noted).ascending
+
+pub drop_ended-requires-clause-noted : goal.drop_ended-requires-clause-noted
+drop_ended-requires-clause-noted c =
+    let P : List Row → Type 0 = λ rows. AreNoted (is_live_row c.self.inside.first rows c.self.inside.moment.0) c.delete_from.new.tally.live in
+    subst P (sym c.deref-4.ensures.value) (after-call c.self.inside.first c.self.inside.moment.0 c.self.inside.moment.0 c.self.inside.rows.items c.delete_from.new.rows.items c.self.inside.tally.live c.delete_from.new.tally.live
+    (spread-end _ _ _ (spreading-struck _ _ _ _ c.delete_from.ensures.struck c.self.invariant.spreading)) c.delete_from.ensures.struck.struck.len (live-struck-before _ _ _ c.delete_from.ensures.struck) c.self.invariant.live_is c.delete_from.ensures.ids_same c.delete_from.ensures.sound.noted).noted
+
 pub invariant_of-self : goal.invariant_of-self
 invariant_of-self c =
     let P : List Link → Type 0 = λ links. Spreading c.self.inside.first c.delete_from.new.rows.items links [] in
+    let is : c.drop_ended.new.live.ids.items ≡ live_ids c.self.inside.first c.self.inside.moment.0 c.delete_from.new.rows.items =
+    c.drop_ended.ensures.ids ∙ ap (λ rows. filter (is_live_row c.self.inside.first rows c.self.inside.moment.0) c.delete_from.new.tally.live.ids.items) c.deref-4.ensures.value
+    ∙ (after-call c.self.inside.first c.self.inside.moment.0 c.self.inside.moment.0 c.self.inside.rows.items c.delete_from.new.rows.items c.self.inside.tally.live c.delete_from.new.tally.live
+    (spread-end _ _ _ (spreading-struck _ _ _ _ c.delete_from.ensures.struck c.self.invariant.spreading)) c.delete_from.ensures.struck.struck.len (live-struck-before _ _ _ c.delete_from.ensures.struck) c.self.invariant.live_is c.delete_from.ensures.ids_same c.delete_from.ensures.sound.noted).left in
     record {
-      sound = c.delete_from.ensures.sound;
+      sound = record {
+        sound = c.delete_from.ensures.sound.sound;
+        gone = c.delete_from.ensures.sound.gone;
+        noted = live-noted c.self.inside.first _ _ c.drop_ended.new.live (λ k d lt. ((spread-end _ _ _ (spreading-struck _ _ _ _ c.delete_from.ensures.struck c.self.invariant.spreading)) k d lt).id_is) is;
+      };
       spreading = spreading-struck _ _ _ _ c.delete_from.ensures.struck c.self.invariant.spreading;
       waiting = waiting-struck _ _ _ _ _ c.delete_from.ensures.struck c.self.invariant.waiting;
       idle = c.delete_from.ensures.pending_empty;
@@ -47,6 +69,9 @@ invariant_of-self c =
       room_deadlines = omega (arith, c.delete_from.ensures.unsettled, c.delete_from.ensures.deadlines_len, c.delete_from.ensures.deadlines_capacity, c.self.invariant.room_deadlines);
       room_pending = omega (arith, c.delete_from.ensures.len, c.delete_from.ensures.pending_capacity, c.self.invariant.room_pending);
       room_marks = omega (arith, c.delete_from.ensures.gone_same.marks_len, c.delete_from.ensures.gone_same.marks_capacity, c.self.invariant.room_marks);
+      live_is = is;
+      live_idle = c.drop_ended.ensures.idle;
+      room_live = omega (arith, c.drop_ended.ensures.len, c.drop_ended.ensures.capacity, ap (λ ids. vec_len ids) c.delete_from.ensures.ids_same, ap (λ ids. vec_capacity ids) c.delete_from.ensures.ids_same, c.self.invariant.room_live);
       room_gone = omega (arith, c.delete_from.ensures.len, c.delete_from.ensures.gone_same.capacity, c.self.invariant.room_gone);
     }
 

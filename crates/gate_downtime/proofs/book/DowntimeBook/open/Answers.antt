@@ -5,6 +5,7 @@ use Rattle.gate_downtime.specs.inner.Rows.{is_unsettled}
 use Rattle.gate_downtime.specs.declared.row.Row.{Row}
 use Rattle.gate_downtime.specs.declared.links.Link.{Link}
 use Rattle.gate_downtime.specs.inner.Tally.{IsSound}
+use Rattle.gate_downtime.specs.inner.Live.{live_ids}
 use Rattle.gate_downtime.specs.inner.Links.{Spreading}
 use Rattle.gate_downtime.specs.inner.Walk.{AllFlexLinked}
 use Rattle.gate_downtime.proofs.RowSteps.{spreading-none, waiting-none}
@@ -29,5 +30,8 @@ invariant_of-result c =
       room_deadlines = omega (arith, c.in_ok-no_tally.ensures.deadlines, ap (count_by is_unsettled) c.new.ensures.items);
       room_pending = search rules;
       room_marks = search rules;
+      live_is = c.in_ok-no_tally.ensures.live ∙ sym (ap (live_ids c.args.first_id c.args.moment.0) c.new.ensures.items);
+      live_idle = c.in_ok-no_tally.ensures.idle;
+      room_live = omega (arith, c.in_ok-no_tally.ensures.live_len);
       room_gone = search rules;
     }

@@ -1,11 +1,15 @@
-use Rattle.std.proofs.Common.{ℕ, List, map, ◌≡◌, ◌+◌, ◌||◌, eqb, length, arith, sym, ap, ◌∙◌, subst, refl, inl, inr}
+use Rattle.std.proofs.Common.{ℕ, List, [], ◌∷◌, ◌++◌, cond, vec_len, vec_capacity, map, ◌≡◌, ◌+◌, ◌||◌, eqb, length, arith, sym, ap, ◌∙◌, subst, refl, inl, inr}
 use Rattle.std.specs.Prelude.{is_some}
 use Rattle.std.proofs.lemmas.List.{length_push}
 use Rattle.gate_model.specs.declared.downtime.Entry.{Entry}
 use Rattle.gate_downtime.specs.declared.row.Row.{Row}
 use Rattle.gate_downtime.specs.inner.Rows.{is_live_row}
 use Rattle.gate_downtime.specs.inner.Scheduling.{IsTrigger, settled_by}
-use Rattle.gate_downtime.specs.inner.Links.{IsLinkedMore}
+use Rattle.gate_downtime.specs.declared.live.LiveIds.{LiveIds}
+use Rattle.gate_downtime.specs.inner.Live.{live_ids}
+use Rattle.gate_downtime.specs.inner.Links.{IsLinkedMore, Spreading}
+use Rattle.gate_downtime.proofs.NotedSteps.{live-noted}
+use Rattle.gate_downtime.proofs.EntrySteps.{live-push, not-among}
 use Rattle.gate_downtime.specs.inner.Inside.{book_view}
 use Rattle.gate_downtime.specs.inner.Gone.{is_returned}
 use Rattle.gate_downtime.proofs.ReturnSteps.{returned-push}
@@ -33,6 +37,23 @@ returns-in_default-try_from-clause-answer c =
     (ap (λ b. eqb c.args.plan.trigger 0 || b) (sym (row ∙ live-row _ _ _ _ (spread-end _ _ _ c.self.invariant.spreading))) ∙ sym c.find_trigger.ensures.live ∙ ap is_some c.in-Some.is)
     (omega (arith, c.in_default-try_from.ensures, count, length-entries c.self.inside.rows.items)))
 
+pub add_row-requires-clause-fresh : goal.add_row-requires-clause-fresh
+add_row-requires-clause-fresh c =
+    let count : c.len.result ≡ length c.self.inside.rows.items = c.len.ensures ∙ c.self.inside.rows.ok.0 in
+    let id : c.fresh_row-row.result.entry.scheduled.id ≡ c.self.inside.first + length c.self.inside.rows.items = ap (λ (e : Entry). e.scheduled.id) c.fresh_row-row.ensures.entry ∙ omega (arith, c.in-Ok.ensures.1, count) in
+    not-among c.self.inside.first c.self.inside.moment.0 _ c.self.inside.rows.items _ c.self.invariant.live_is id
+
+pub push_live-requires : goal.push_live-requires
+push_live-requires c =
+    omega (
+      arith,
+      ap (λ (l : LiveIds). vec_len l.ids) c.add_row.ensures.live_same,
+      ap (λ (l : LiveIds). vec_capacity l.ids) c.add_row.ensures.live_same,
+      c.self.invariant.room_live,
+      c.requires.room,
+      ap (λ v. v.room) c.self.view_is,
+    )
+
 pub invariant_of-self : goal.invariant_of-self
 invariant_of-self c =
     let count : c.len.result ≡ length c.self.inside.rows.items = c.len.ensures ∙ c.self.inside.rows.ok.0 in
@@ -47,12 +68,22 @@ invariant_of-self c =
     lists-push _ _ _ _ _ _ _ _ c.in-Some.trigger.at c.self.invariant.spreading.from c.self.invariant.spreading.placed c.self.invariant.spreading.linked c.self.invariant.waiting
     (elim trigger [ inl w ↦ inl w | inr w ↦ inr (w.low, w.high, w.at) ])
     (subst R (sym c.fresh_row-row.ensures.entry) c.link_row.ensures.linked) in
+    let is : c.push_live.new.live.ids.items ≡ live_ids c.self.inside.first c.self.inside.moment.0 c.add_row.new.rows.items =
+    c.push_live.ensures.ids ∙ ap (λ (l : LiveIds). cond c.is_live_at.result (l.ids.items ++ c.in-Ok.id ∷ []) l.ids.items) c.add_row.ensures.live_same
+    ∙ ap (λ xs. cond c.is_live_at.result (xs ++ c.in-Ok.id ∷ []) xs) c.self.invariant.live_is
+    ∙ ap (λ b. cond b (live_ids c.self.inside.first c.self.inside.moment.0 c.self.inside.rows.items ++ c.in-Ok.id ∷ []) (live_ids c.self.inside.first c.self.inside.moment.0 c.self.inside.rows.items)) c.is_live_at.ensures
+    ∙ sym (live-push c.self.inside.first _ c.fresh_row-row.result c.self.inside.rows.items _ c.in-Ok.id c.add_row.ensures.rows (omega (arith, c.in-Ok.ensures.1, count))) in
+    let spreading : Spreading c.self.inside.first c.add_row.new.rows.items c.link_row.new.links.items [] =
+    spreading-same _ _ _ _ c.add_row.ensures.rows
+    (spreading-push _ _ _ _ _ _ c.self.invariant.spreading id trigger c.fresh_row-row.ensures.follows
+    (c.fresh_row-row.ensures.settled ∙ sym (ap (λ (e : Entry). settled_by e.scheduled c.in-Some.trigger) c.fresh_row-row.ensures.entry)) lists.linked) in
     record {
-      sound = c.add_row.ensures.sound;
-      spreading =
-          spreading-same _ _ _ _ c.add_row.ensures.rows
-          (spreading-push _ _ _ _ _ _ c.self.invariant.spreading id trigger c.fresh_row-row.ensures.follows
-          (c.fresh_row-row.ensures.settled ∙ sym (ap (λ (e : Entry). settled_by e.scheduled c.in-Some.trigger) c.fresh_row-row.ensures.entry)) lists.linked);
+      sound = record {
+        sound = c.add_row.ensures.sound.sound;
+        gone = c.add_row.ensures.sound.gone;
+        noted = live-noted c.self.inside.first _ _ c.push_live.new.live (λ k d lt. (spread-end _ _ _ spreading k d lt).id_is) is;
+      };
+      spreading = spreading;
       waiting = waiting-same _ _ _ _ _ _ (omega arith) c.add_row.ensures.rows lists.waiting;
       idle = c.self.invariant.idle;
       objects = omega (arith, c.link_row.ensures.heads_len, c.add_row.ensures.objects, c.self.invariant.objects);
@@ -73,6 +104,22 @@ invariant_of-self c =
           );
       room_pending = omega (arith, c.add_row.ensures.len, c.self.invariant.room_pending, c.requires.room, ap (λ v. v.room) c.self.view_is);
       room_marks = omega (arith, c.add_row.ensures.gone_more.marks_len, c.add_row.ensures.gone_more.marks_capacity, c.self.invariant.room_marks, c.requires.room, ap (λ v. v.room) c.self.view_is);
+      live_is = is;
+      live_idle = record {
+        none = ap (λ ended. ended.items) c.push_live.ensures.ended ∙ ap (λ (l : LiveIds). l.ended.items) c.add_row.ensures.live_same ∙ c.self.invariant.live_idle.none;
+        few = c.push_live.ensures.many ∙ ap (λ (l : LiveIds). l.many) c.add_row.ensures.live_same ∙ c.self.invariant.live_idle.few;
+      };
+      room_live =
+          omega (
+            arith,
+            c.push_live.ensures.len,
+            c.push_live.ensures.capacity,
+            ap (λ (l : LiveIds). vec_len l.ids) c.add_row.ensures.live_same,
+            ap (λ (l : LiveIds). vec_capacity l.ids) c.add_row.ensures.live_same,
+            c.self.invariant.room_live,
+            c.requires.room,
+            ap (λ v. v.room) c.self.view_is,
+          );
       room_gone = omega (arith, c.add_row.ensures.len, c.add_row.ensures.gone_more.capacity, c.self.invariant.room_gone, c.requires.room, ap (λ v. v.room) c.self.view_is);
     }
 

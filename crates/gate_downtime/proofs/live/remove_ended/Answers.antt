@@ -1,0 +1,39 @@
+use Rattle.std.proofs.Common.{◌∙◌, ap, arith, sym}
+use Rattle.std.specs.Prelude.{filter}
+use Rattle.std.proofs.lemmas.Bool.{true≢false}
+use Rattle.gate_downtime.specs.inner.Rows.{is_live_row}
+use Rattle.gate_downtime.proofs.IdSteps.{filter-ascending, filter-others, others-in}
+use Rattle.gate_downtime.proofs.NotedSteps.{noted-pop, noted-none}
+use Rattle.gate_downtime.proofs.live.remove_ended.Goals as goal
+
+pub ended-preserved-then-not-is_live_id : goal.ended-preserved-then-not-is_live_id
+ended-preserved-then-not-is_live_id c = record {
+  ascending = rw c.remove_id.ensures.items (filter-ascending _ _ c.ended.invariant.ascending);
+  few = c.ended.invariant.few;
+  noted =
+      noted-pop _ c.ended.live (record { ids = c.remove_id.new.ids; ended = c.pop.new.self; many = c.ended.live.many }) c.in-Some.id c.ended.invariant.few c.in-Some.ensures.items
+      (λ other has off. others-in c.in-Some.id other c.ended.live.ids.items (rw c.remove_id.ensures.items at has))
+      c.ended.invariant.noted;
+  ids =
+      ap (filter (is_live_row c.args.first c.args.rows.now c.args.now)) c.remove_id.ensures.items
+      ∙ filter-others (is_live_row c.args.first c.args.rows.now c.args.now) c.in-Some.id c.ended.live.ids.items (sym c.is_live_id.ensures ∙ c.if-not-is_live_id.true)
+      ∙ c.ended.invariant.ids;
+  len = omega (arith, c.remove_id.ensures.len, c.ended.invariant.len);
+  capacity = c.remove_id.ensures.capacity ∙ c.ended.invariant.capacity;
+}
+
+pub ended-preserved : goal.ended-preserved
+ended-preserved c = record {
+  ascending = c.ended.invariant.ascending;
+  few = c.ended.invariant.few;
+  noted =
+      noted-pop _ c.ended.live (record { ids = c.ended.live.ids; ended = c.pop.new.self; many = c.ended.live.many }) c.in-Some.id c.ended.invariant.few c.in-Some.ensures.items
+      (λ other has off. (has, λ same. true≢false (sym c.if-not-is_live_id.false ∙ c.is_live_id.ensures ∙ ap (is_live_row c.args.first c.args.rows.now c.args.now) (sym same) ∙ off)))
+      c.ended.invariant.noted;
+  ids = c.ended.invariant.ids;
+  len = c.ended.invariant.len;
+  capacity = c.ended.invariant.capacity;
+}
+
+pub returns-clause-ids : goal.returns-clause-ids
+returns-clause-ids c = noted-none _ c.ended.live c.ended.invariant.few (omega (arith, c.in_default.ensures.cases.0, c.ended.live.ended.ok.0)) c.ended.invariant.noted ∙ c.ended.invariant.ids
