@@ -63,6 +63,7 @@ impl CommentBook {
         ensures comments { self.new.comments ≡ self.old.comments }
         ensures next_id { self.new.next_id ≡ self.old.next_id }
         ensures kept { self.old.room ≤ self.new.room }
+        ensures err { OnErr result (self.new ≡ self.old) }
     {
         self.counts.reserve()?;
         self.comments.reserve(more)
