@@ -1,74 +1,434 @@
 -- What one more event changes in the books.
-use Rattle.std.proofs.Common.{◌≡◌, ◌≢◌, ℕ, ◌<◌, IsTrue, refl, Option, true, false, cond, List, ◌∷◌, length, slice_set, get_or, ◌⊎◌, inl, inr, sym, ap, ◌∙◌}
-use Rattle.std.specs.Prelude.{ℤ, ◌==◌, slice_get, unwrap_or}
-use Rattle.std.proofs.lemmas.Option.{unwrap_or-slice_get}
-use Rattle.std.proofs.lemmas.List.{get_or-set_same, get_or-set_other}
+use Rattle.std.proofs.Common.{◌≡◌, ℕ, ◌+◌, ◌≤◌, ◌<◌, Bool, true, false, cond, not, ◌&&◌, ◌||◌, ◌⊎◌, ◌≢◌, List, [], ◌∷◌, ◌++◌, length, map, max, set, Option, Some, None, refl, sym, ap, ◌∙◌, arith, inl, inr, eqb}
+use Rattle.std.specs.Prelude.{filter, slice_get, count_by, sum_by}
+use Rattle.std.specs.List.{list_all}
 use Rattle.std.proofs.lemmas.Bool.Decides.{eqb_tells}
+use Rattle.std.proofs.lemmas.Bool.{cases_lt, eqb-true, eq-eqb}
+use Rattle.std.proofs.lemmas.Option.{slice_get_within}
+use Rattle.std.proofs.Math.ListN.{length-set}
+use Rattle.std.proofs.lemmas.List.Sums.{sum_by-cons}
+use Rattle.std.proofs.lemmas.List.Elements.{filter-append}
 use Rattle.gate_model.specs.declared.record.Moment.{Moment}
-use Rattle.gate_model.specs.declared.object.ObjectLine.{ObjectLine}
-use Rattle.gate_model.specs.declared.submission.Body.{Body}
-use Rattle.gate_model.specs.declared.submission.Body.TheVariants as bodies
-use Rattle.gate_model.specs.declared.record.Record.{Record}
-use Rattle.gate_model.specs.declared.record.Outcome.{Outcome}
-use Rattle.gate_model.specs.declared.record.Outcome.TheVariants.{Accepted}
-use Rattle.gate_model.specs.Meaning.{Judged, judgement_of, object_event_of, object_events, outcome_at}
+use Rattle.gate_model.specs.declared.object.ObjectId.{ObjectId}
+use Rattle.gate_model.specs.declared.downtime.Entry.{Entry}
+use Rattle.gate_model.specs.declared.downtime.DowntimeEvent.{DowntimeEvent}
+use Rattle.gate_model.specs.declared.downtime.DowntimeEvent.TheVariants as downtime
+use Rattle.gate_model.specs.declared.status.ObjectEvent.{ObjectEvent}
+use Rattle.gate_model.specs.declared.comments.Source.{Source}
+use Rattle.gate_model.specs.declared.comments.Source.TheVariants.{User, Ack, Downtime}
+use Rattle.gate_model.specs.declared.comments.Comment.{Comment}
+use Rattle.gate_model.specs.declared.comments.CommentEvent.{CommentEvent}
+use Rattle.gate_model.specs.declared.comments.CommentEvent.TheVariants.{Add, Gone}
+use Rattle.gate_model.specs.Record.{later}
+use Rattle.gate_model.specs.Comments.{comments_of, number_made, removes, comment_made, is_of_entry, is_addition}
+use Rattle.gate_model.specs.Downtime.{is_live_in, entries_of}
+use Rattle.gate_model.specs.Meaning.{outlives}
+use Rattle.gate_model.proofs.CommentSteps.{comments_of-add}
+use Rattle.gate_model.proofs.DowntimeSteps.{turn}
+use Rattle.gate_model.proofs.DowntimeGone.{gone-stays}
+use Rattle.gate_objects.specs.declared.row.ObjectRow.{ObjectRow}
+use Rattle.gate_objects.specs.Book.{ObjectsView, shown_threshold, threshold_of_row, with_row, with_row_at}
+use Rattle.gate_objects.proofs.RowSteps.{written_here, written_elsewhere}
+use Rattle.gate_objects.specs.Standing.{IsStanding as ObjectsStand}
+use Rattle.gate_downtime.specs.Book.{DowntimeView, fresh, after_transition, was_returned, next_gone_of}
+use Rattle.gate_downtime.specs.Standing.{IsStanding as DowntimeStands}
+use Rattle.gate_comments.specs.Book.{CommentsView, comment_by}
+use Rattle.gate_comments.specs.Book.{without as without_comments}
 use Rattle.gate_applier.specs.declared.books.Books.{Books}
-use Rattle.gate_applier.specs.Applier.{is_supported}
-use Rattle.gate_applier.specs.inner.Books.{BooksStand, BooksFollow}
+use Rattle.gate_model.specs.declared.object.ObjectLine.{ObjectLine}
+use Rattle.gate_applier.specs.inner.Books.{SharesRoom, SameTable, KeepsRoom, GoesOn, IsOfTable, Events, BooksFollow, BooksStand, IsGone, IsStandingSource, is_scheduled, is_of_scheduled, is_unreturned, has_scheduled, stands_unreturned}
+use Rattle.gate_applier.proofs.ListSteps.{filter-filter, filter-both, filter-agree, filter-all, all-weaker, all-append}
+use Rattle.gate_applier.proofs.GoneSteps.{dead-later, scheduled-map, unreturned-live, returned-next}
 
-state-set-cases : {A : Type 0} (xs : List A) (place object : ℕ) (x other : A) → place < length xs
-    → (((place == object) ≡ true) × (place ≡ object)) ⊎ (((place == object) ≡ false) × (place ≢ object))
-    → unwrap_or (slice_get (slice_set xs place x) object) other ≡ cond (place == object) x (unwrap_or (slice_get xs object) other)
-state-set-cases xs place object x other within (inl (test, same)) =
-    unwrap_or-slice_get (slice_set xs place x) object other
-    ∙ ap (λ at. get_or (slice_set xs place x) at other) (sym same)
-    ∙ get_or-set_same xs place x other within
-    ∙ sym (ap (λ mine. cond mine x (unwrap_or (slice_get xs object) other)) test)
-state-set-cases xs place object x other within (inr (test, apart)) =
-    unwrap_or-slice_get (slice_set xs place x) object other
-    ∙ get_or-set_other xs place object x other (λ same. apart (sym same))
-    ∙ sym (unwrap_or-slice_get xs object other)
-    ∙ sym (ap (λ mine. cond mine x (unwrap_or (slice_get xs object) other)) test)
+-- ---- the objects
 
--- what stands at a place of a list, after one of its elements was set
-pub unwrap_or-slice_get-slice_set : {A : Type 0} (xs : List A) (place object : ℕ) (x other : A) → place < length xs
-    → unwrap_or (slice_get (slice_set xs place x) object) other ≡ cond (place == object) x (unwrap_or (slice_get xs object) other)
-unwrap_or-slice_get-slice_set xs place object x other within = state-set-cases xs place object x other within (eqb_tells place object)
-
--- books that follow a body follow any other that is the same to the objects
-pub follow-same : (table : List ObjectLine) (body : Body) {other : Body} (outcome : Outcome) (old new : Books)
-    → BooksFollow table other outcome old new
-    → ((moment : Moment) (log_index : ℕ) → object_event_of table moment log_index other ≡ object_event_of table moment log_index body)
-    → BooksFollow table body outcome old new
-follow-same table body outcome old new follow same = record {
-  objects = λ history moment log_index keeps. rw (same moment log_index) at (follow.objects history moment log_index keeps);
+pub follow-objects : (objects downtimes : List _) (comments : List CommentEvent) (event : ObjectEvent) (moment : Moment) (old : Books) (new : ObjectsView)
+    → (ObjectsStand old.objects objects → ObjectsStand new (event ∷ objects))
+    → BooksFollow (record { objects = objects; downtimes = downtimes; comments = comments }) moment old
+    → BooksFollow (record { objects = event ∷ objects; downtimes = downtimes; comments = comments }) moment (record { objects = new; downtime = old.downtime; comments = old.comments })
+follow-objects objects downtimes comments event moment old new adds follow = record {
+  objects_stand = adds follow.objects_stand;
+  downtime_stands = follow.downtime_stands;
+  comments_are = follow.comments_are;
+  next_comment_is = follow.next_comment_is;
+  scheduled = follow.scheduled;
+  returned_gone = follow.returned_gone;
 }
 
--- books that stand after judged records, and follow one more, stand after it too
-pub stand-judged : (table : List ObjectLine) (before : List Judged) (applied : Record) (outcome : Outcome) (old new : Books)
-    → outcome ≡ outcome_at table before applied.moment applied.item.body
-    → BooksFollow table applied.item.body outcome old new
-    → BooksStand table before old → BooksStand table (judgement_of table before applied ∷ before) new
-stand-judged table before applied outcome old new is follow stands = record {
-  objects = rw is at (follow.objects (object_events table before) applied.moment (length before) stands.objects);
+-- ---- the downtime entries
+
+weaker-source : (before after : ℕ → Bool) → ((id : ℕ) → before id ≡ true → after id ≡ true) → (source : Source) → outlives before source ≡ true → outlives after source ≡ true
+weaker-source before after weaker User e = refl
+weaker-source before after weaker Ack e = refl
+weaker-source before after weaker (Downtime id) e = weaker id e
+
+still-scheduled : (old new : DowntimeView) → ((id : ℕ) → is_scheduled old.entries id ≡ true → is_scheduled new.entries id ≡ true) → (comments : List Comment)
+    → list_all (has_scheduled old) comments ≡ true → list_all (has_scheduled new) comments ≡ true
+still-scheduled old new more comments all =
+    all-weaker (has_scheduled old) (has_scheduled new) (λ (comment : Comment) e. weaker-source (is_scheduled old.entries) (is_scheduled new.entries) more comment.source e) comments all
+
+-- the downtime book changes, but nothing is returned: what was scheduled stays so, and what is gone stays gone
+pub follow-downtime : (events : Events) (downtimes : List DowntimeEvent) (before after : Moment) (old : Books) (new : DowntimeView)
+    → DowntimeStands 1 new downtimes after
+    → new.returned ≡ old.downtime.returned
+    → ((id : ℕ) → is_scheduled old.downtime.entries id ≡ true → is_scheduled new.entries id ≡ true)
+    → ((id : ℕ) → is_scheduled old.downtime.entries id ≡ true → is_live_in old.downtime.entries old.downtime.moment.0 id ≡ false → is_live_in new.entries new.moment.0 id ≡ false)
+    → BooksFollow events before old
+    → BooksFollow (record { objects = events.objects; downtimes = downtimes; comments = events.comments }) after (record { objects = old.objects; downtime = new; comments = old.comments })
+follow-downtime events downtimes before after old new stands same more dead follow = record {
+  objects_stand = follow.objects_stand;
+  downtime_stands = stands;
+  comments_are = rw same follow.comments_are;
+  next_comment_is = follow.next_comment_is;
+  scheduled = still-scheduled old.downtime new more old.comments.comments follow.scheduled;
+  returned_gone = λ id returned.
+      let gone = follow.returned_gone id (ap (λ (ids : List ℕ). was_returned ids id) (sym same) ∙ returned) in
+      record { scheduled = more id gone.scheduled; dead = dead id gone.scheduled gone.dead };
 }
 
--- a body that is supported and is no result is a shutdown
-pub supported-other : (body : Body) → IsTrue (is_supported body)
-    → ((host : List ℕ) (service : Option (List ℕ)) (code : ℤ) (output : List ℕ) → body ≡ bodies.Result host service code output → ⊥)
-    → body ≡ bodies.Shutdown
-supported-other (bodies.Result host service code output) supported other = absurd (other host service code output refl)
-supported-other (bodies.AddComment host service persistent author text) supported other = absurd cc
-supported-other (bodies.DelComment kind id) supported other = absurd cc
-supported-other (bodies.DelAllComments host service) supported other = absurd cc
-supported-other (bodies.Acknowledge host service sticky notify persistent author text) supported other = absurd cc
-supported-other (bodies.RemoveAck host service) supported other = absurd cc
-supported-other (bodies.Schedule host service starts ends fixed trigger lasts author text) supported other = absurd cc
-supported-other (bodies.DelDowntime kind id) supported other = absurd cc
-supported-other bodies.Shutdown supported other = refl
+-- ---- the comments
 
--- books that stand follow a shutdown as they are
-pub follow-shutdown : (table : List ObjectLine) (body : Body) (books : Books) → body ≡ bodies.Shutdown → BooksFollow table body Accepted books books
-follow-shutdown table body books is =
-    follow-same table body {other = bodies.Shutdown} Accepted books books (record { objects = λ history moment log_index keeps. keeps })
-    (λ moment log_index. ap (object_event_of table moment log_index) (sym is))
+-- a comment more
+pub follow-add : (events : Events) (object : ObjectId) (source : Source) (persistent : Bool) (log_index : ℕ) (moment : Moment) (old : Books) (new : CommentsView)
+    → new.comments ≡ old.comments.comments ++ comment_by old.comments.next_id object source persistent log_index ∷ []
+    → new.next_id ≡ old.comments.next_id + 1
+    → IsStandingSource old.downtime source
+    → BooksFollow events moment old
+    → BooksFollow (record { objects = events.objects; downtimes = events.downtimes; comments = Add object source persistent log_index ∷ events.comments }) moment
+    (record { objects = old.objects; downtime = old.downtime; comments = new })
+follow-add events object source persistent log_index moment old new added next stands follow = record {
+  objects_stand = follow.objects_stand;
+  downtime_stands = follow.downtime_stands;
+  comments_are =
+      let made = comment_made 1 events.comments object source persistent log_index in
+      added
+      ∙ ap (λ comments. comments ++ comment_by old.comments.next_id object source persistent log_index ∷ []) follow.comments_are
+      ∙ ap (λ id. filter (stands_unreturned old.downtime) (comments_of 1 events.comments) ++ comment_by id object source persistent log_index ∷ []) follow.next_comment_is
+      ∙ sym (
+      ap (filter (stands_unreturned old.downtime)) (comments_of-add 1 object source persistent log_index events.comments)
+      ∙ filter-append (stands_unreturned old.downtime) (comments_of 1 events.comments) (made ∷ [])
+      ∙ ap (λ b. filter (stands_unreturned old.downtime) (comments_of 1 events.comments) ++ cond b (made ∷ []) []) stands.unreturned
+      );
+  next_comment_is =
+      let made : number_made (Add object source persistent log_index ∷ events.comments) ≡ 1 + number_made events.comments =
+      sum_by-cons (λ (event : CommentEvent). cond (is_addition event) 1 0) (Add object source persistent log_index) events.comments in
+      omega (arith, next, follow.next_comment_is, made);
+  scheduled = rw added (all-append (has_scheduled old.downtime) old.comments.comments (comment_by old.comments.next_id object source persistent log_index) follow.scheduled stands.scheduled);
+  returned_gone = follow.returned_gone;
+}
+
+-- comments are removed
+pub follow-remove : (events : Events) (event : CommentEvent) (moment : Moment) (old : Books) (new : CommentsView)
+    → comments_of 1 (event ∷ events.comments) ≡ filter (λ (comment : Comment). not (removes event comment)) (comments_of 1 events.comments)
+    → number_made (event ∷ events.comments) ≡ number_made events.comments
+    → new.comments ≡ without_comments event old.comments.comments
+    → new.next_id ≡ old.comments.next_id
+    → BooksFollow events moment old
+    → BooksFollow (record { objects = events.objects; downtimes = events.downtimes; comments = event ∷ events.comments }) moment
+    (record { objects = old.objects; downtime = old.downtime; comments = new })
+follow-remove events event moment old new left made removed next follow = record {
+  objects_stand = follow.objects_stand;
+  downtime_stands = follow.downtime_stands;
+  comments_are =
+      removed
+      ∙ ap (filter (λ (comment : Comment). not (removes event comment))) follow.comments_are
+      ∙ filter-filter (λ (comment : Comment). not (removes event comment)) (stands_unreturned old.downtime) (comments_of 1 events.comments)
+      ∙ sym (ap (filter (stands_unreturned old.downtime)) left);
+  next_comment_is = next ∙ follow.next_comment_is ∙ ap (λ n. 1 + n) (sym made);
+  scheduled = rw removed (filter-all (has_scheduled old.downtime) (λ (comment : Comment). not (removes event comment)) old.comments.comments follow.scheduled);
+  returned_gone = follow.returned_gone;
+}
+
+-- ---- an entry is returned as gone
+
+not-or : (a b : Bool) → not (a || b) ≡ (not a && not b)
+not-or true b = refl
+not-or false b = refl
+
+and-true : (b : Bool) → b ≡ (b && true)
+and-true true = refl
+and-true false = refl
+
+eqb-sym-at : (a b : ℕ) (left right : Bool) → ((left ≡ true) × (a ≡ b)) ⊎ ((left ≡ false) × (a ≢ b)) → ((right ≡ true) × (b ≡ a)) ⊎ ((right ≡ false) × (b ≢ a)) → left ≡ right
+eqb-sym-at a b left right (inl here) (inl there) = here.0 ∙ sym there.0
+eqb-sym-at a b left right (inl here) (inr there) = absurd (there.1 (sym here.1))
+eqb-sym-at a b left right (inr here) (inl there) = absurd (here.1 (sym there.1))
+eqb-sym-at a b left right (inr here) (inr there) = here.0 ∙ sym there.0
+
+eqb-sym : (a b : ℕ) → eqb a b ≡ eqb b a
+eqb-sym a b = eqb-sym-at a b (eqb a b) (eqb b a) (eqb_tells a b) (eqb_tells b a)
+
+unreturned-more : (old new : List ℕ) (gone : ℕ) → ((id : ℕ) → was_returned new id ≡ (was_returned old id || eqb gone id))
+    → (source : Source) → outlives (λ id. not (was_returned new id)) source ≡ (outlives (λ id. not (was_returned old id)) source && not (is_of_entry gone source))
+unreturned-more old new gone returns User = refl
+unreturned-more old new gone returns Ack = refl
+unreturned-more old new gone returns (Downtime id) = ap not (returns id) ∙ not-or (was_returned old id) (eqb gone id) ∙ ap (λ b. not (was_returned old id) && not b) (eqb-sym gone id)
+
+-- an entry is returned as gone, and its comment is dropped
+pub follow-gone : (events : Events) (moment : Moment) (gone : ℕ) (old : Books) (returned : List ℕ) (new : CommentsView)
+    → next_gone_of old.downtime.entries old.downtime.moment old.downtime.returned ≡ Some gone
+    → ((id : ℕ) → was_returned returned id ≡ (was_returned old.downtime.returned id || eqb gone id))
+    → new.comments ≡ without_comments (Gone gone) old.comments.comments
+    → new.next_id ≡ old.comments.next_id
+    → BooksFollow events moment old
+    → BooksFollow events moment (record { objects = old.objects; downtime = record old.downtime { returned = returned }; comments = new })
+follow-gone events moment gone old returned new is returns dropped next follow = record {
+  objects_stand = follow.objects_stand;
+  downtime_stands = record {
+    entries_are = follow.downtime_stands.entries_are;
+    moment_is = follow.downtime_stands.moment_is;
+    first_id_is = follow.downtime_stands.first_id_is;
+  };
+  comments_are =
+      dropped
+      ∙ ap (filter (λ (comment : Comment). not (removes (Gone gone) comment))) follow.comments_are
+      ∙ filter-both (stands_unreturned old.downtime) (λ (comment : Comment). not (removes (Gone gone) comment)) (λ (comment : Comment). outlives (λ id. not (was_returned returned id)) comment.source)
+      (λ (comment : Comment). unreturned-more old.downtime.returned returned gone returns comment.source) (comments_of 1 events.comments);
+  next_comment_is = next ∙ follow.next_comment_is;
+  scheduled = rw dropped (filter-all (has_scheduled old.downtime) (λ (comment : Comment). not (removes (Gone gone) comment)) old.comments.comments follow.scheduled);
+  returned_gone = λ id e.
+      let known = returned-next old.downtime.entries old.downtime.moment old.downtime.returned gone is in
+      elim (either (was_returned old.downtime.returned id) (eqb gone id) (sym (returns id) ∙ e)) [
+        | inl before ↦ let was = follow.returned_gone id before in record { scheduled = was.scheduled; dead = was.dead }
+        | inr now ↦ elim (eqb_tells gone id) [
+          | inl same ↦ record { scheduled = ap (is_scheduled old.downtime.entries) (sym same.1) ∙ known.0; dead = ap (is_live_in old.downtime.entries old.downtime.moment.0) (sym same.1) ∙ known.1 }
+          | inr apart ↦ absurd (differ (sym now ∙ apart.0))
+        ]
+      ];
+}
+  where
+    either : (a b : Bool) → (a || b) ≡ true → (a ≡ true) ⊎ (b ≡ true)
+    either true b e = inl refl
+    either false b e = inr e
+
+    differ : ◌≡◌ {A = Bool} true false → ⊥
+    differ e = cc
+
+-- ---- settled books
+
+gone-dead : (book : DowntimeView) (id : ℕ) → ((other : ℕ) → was_returned book.returned other ≡ true → IsGone book other) → (returned : Bool) → was_returned book.returned id ≡ returned → not returned ≡ false → is_live_in book.entries book.moment.0 id ≡ false
+gone-dead book id gone true is e = (gone id is).dead
+gone-dead book id gone false is e = cc
+
+source-dead : (book : DowntimeView) → ((other : ℕ) → was_returned book.returned other ≡ true → IsGone book other)
+    → (source : Source) → outlives (is_unreturned book) source ≡ false → outlives (is_live_in book.entries book.moment.0) source ≡ false
+source-dead book gone User e = e
+source-dead book gone Ack e = e
+source-dead book gone (Downtime id) e = gone-dead book id gone (was_returned book.returned id) refl e
+
+source-live : (book : DowntimeView) → next_gone_of book.entries book.moment book.returned ≡ None
+    → (source : Source) → is_of_scheduled book.entries source ≡ true → outlives (is_unreturned book) source ≡ true → outlives (is_live_in book.entries book.moment.0) source ≡ true
+source-live book settled User scheduled unreturned = refl
+source-live book settled Ack scheduled unreturned = refl
+source-live book settled (Downtime id) scheduled unreturned = unreturned-live book.entries book.moment book.returned id settled scheduled unreturned
+
+-- the comments of settled books are those that stand
+pub comments-settled : (events : Events) (moment : Moment) (books : Books) → BooksStand events moment books
+    → books.comments.comments ≡ filter (λ (comment : Comment). outlives (is_live_in (entries_of 1 events.downtimes) moment.0) comment.source) (comments_of 1 events.comments)
+comments-settled events moment books stand =
+    let follow = stand.follow in
+    follow.comments_are
+    ∙ filter-agree (stands_unreturned books.downtime) (λ (comment : Comment). outlives (is_live_in books.downtime.entries books.downtime.moment.0) comment.source) (has_scheduled books.downtime) (comments_of 1 events.comments)
+    (ap (list_all (has_scheduled books.downtime)) (sym follow.comments_are) ∙ follow.scheduled)
+    (λ (comment : Comment) scheduled unreturned. source-live books.downtime stand.settled comment.source scheduled unreturned)
+    (λ (comment : Comment) returned. source-dead books.downtime follow.returned_gone comment.source returned)
+    ∙ ap (λ (entries : List Entry). filter (λ (comment : Comment). outlives (is_live_in entries books.downtime.moment.0) comment.source) (comments_of 1 events.comments)) follow.downtime_stands.entries_are
+    ∙ ap (λ (at : Moment). filter (λ (comment : Comment). outlives (is_live_in (entries_of 1 events.downtimes) at.0) comment.source) (comments_of 1 events.comments)) follow.downtime_stands.moment_is
+
+-- ---- room
+
+-- room changes nothing of what the books follow
+pub stand-room : (events : Events) (moment : Moment) (old new : Books) → SharesRoom old new → BooksStand events moment old → BooksStand events moment new
+stand-room events moment old new same stand = record {
+  follow = record {
+    objects_stand = rw same.objects stand.follow.objects_stand;
+    downtime_stands = rw same.downtime (record {
+      entries_are = stand.follow.downtime_stands.entries_are;
+      moment_is = stand.follow.downtime_stands.moment_is;
+      first_id_is = stand.follow.downtime_stands.first_id_is;
+    });
+    comments_are = rw (same.comments, same.downtime) stand.follow.comments_are;
+    next_comment_is = rw same.comments stand.follow.next_comment_is;
+    scheduled = rw (same.comments, same.downtime) stand.follow.scheduled;
+    returned_gone = rw same.downtime (λ id returned. let gone = stand.follow.returned_gone id returned in record { scheduled = gone.scheduled; dead = gone.dead });
+  };
+  settled = rw same.downtime stand.settled;
+}
+
+pub table-room : (table : List ObjectLine) (opening : Moment) (old new : Books) → SharesRoom old new → IsOfTable table opening old → IsOfTable table opening new
+table-room table opening old new same is = record {
+  opening_is = rw same.objects is.opening_is;
+  rows = rw same.objects is.rows;
+  thresholds = rw same.objects is.thresholds;
+  places = rw same.downtime is.places;
+}
+
+-- ---- what is taken
+
+pub same-table : (books : Books) → SameTable books books
+same-table books = record { opening = refl; rows = refl; thresholds = λ place. refl; places = refl }
+
+pub table-trans : (old mid new : Books) → SameTable old mid → SameTable mid new → SameTable old new
+table-trans old mid new first second = record {
+  opening = second.opening ∙ first.opening;
+  rows = second.rows ∙ first.rows;
+  thresholds = λ place. second.thresholds place ∙ first.thresholds place;
+  places = second.places ∙ first.places;
+}
+
+pub is-of-table : (table : List ObjectLine) (opening : Moment) (old new : Books) → IsOfTable table opening old → SameTable old new → IsOfTable table opening new
+is-of-table table opening old new is same = record {
+  opening_is = same.opening ∙ is.opening_is;
+  rows = same.rows ∙ is.rows;
+  thresholds = λ place. same.thresholds place ∙ is.thresholds place;
+  places = same.places ∙ is.places;
+}
+
+pub room-trans : (old mid new : Books) → KeepsRoom old mid → KeepsRoom mid new → KeepsRoom old new
+room-trans old mid new first second = record {
+  comments = omega (arith, first.comments, second.comments);
+  entries = omega (arith, first.entries, second.entries);
+  next_comment = second.next_comment ∙ first.next_comment;
+  next_entry = second.next_entry ∙ first.next_entry;
+}
+
+none-past : (rows : List ObjectRow) (place : ℕ) (found : Option ObjectRow) → length rows ≤ place → slice_get rows place ≡ found → found ≡ None
+none-past rows place None past is = refl
+none-past rows place (Some row) past is = let within = slice_get_within rows place row is in absurd (omega (arith, past, within))
+
+threshold-set : (rows : List ObjectRow) (new row : ObjectRow) (at place : ℕ) → new.threshold ≡ row.threshold → slice_get rows at ≡ Some row
+    → threshold_of_row (slice_get (set rows at new) place) ≡ threshold_of_row (slice_get rows place)
+threshold-set rows new row at place keeps here =
+    elim (eqb_tells place at) [
+      | inl same ↦
+          ap (λ n. threshold_of_row (slice_get (set rows at new) n)) same.1
+          ∙ ap threshold_of_row (written_here rows at new (slice_get_within rows at row here))
+          ∙ keeps
+          ∙ sym (ap (λ n. threshold_of_row (slice_get rows n)) same.1 ∙ ap threshold_of_row here)
+      | inr apart ↦ elim (cases_lt place (length rows)) [
+        | inl within ↦ ap threshold_of_row (written_elsewhere rows at place new apart.1 within)
+        | inr past ↦
+            ap threshold_of_row (none-past (set rows at new) place (slice_get (set rows at new) place) (omega (arith, past, length-set rows at new)) refl)
+            ∙ sym (ap threshold_of_row (none-past rows place (slice_get rows place) past refl))
+      ]
+    ]
+
+threshold-row : (rows : List ObjectRow) (change : ObjectRow → ObjectRow) (at place : ℕ) (found : Option ObjectRow) → ((one : ObjectRow) → (change one).threshold ≡ one.threshold)
+    → slice_get rows at ≡ found → threshold_of_row (slice_get (with_row_at change rows at found) place) ≡ threshold_of_row (slice_get rows place)
+threshold-row rows change at place None keeps is = refl
+threshold-row rows change at place (Some row) keeps is = threshold-set rows (change row) row at place (keeps row) is
+
+-- one row of the objects changes, but not its threshold
+pub table-row : (change : ObjectRow → ObjectRow) (at : ℕ) (old new : Books) → ((one : ObjectRow) → (change one).threshold ≡ one.threshold)
+    → new.objects ≡ with_row change old.objects at → length new.objects.rows ≡ length old.objects.rows → new.downtime.objects ≡ old.downtime.objects
+    → SameTable old new
+table-row change at old new keeps written rows places = record {
+  opening = ap (λ (view : ObjectsView). view.opening) written;
+  rows = rows;
+  thresholds = λ place.
+      ap (λ (view : ObjectsView). shown_threshold view place) written ∙ threshold-row old.objects.rows change at place (slice_get old.objects.rows at) keeps refl;
+  places = places;
+}
+
+-- ---- the steps of the books
+
+pub follow-advance : (events : Events) (before moment : Moment) (old : Books) (new : DowntimeView)
+    → new ≡ record old.downtime { moment = later old.downtime.moment moment }
+    → DowntimeStands 1 new events.downtimes (later before moment)
+    → BooksFollow events before old
+    → BooksFollow events (later before moment) (record { objects = old.objects; downtime = new; comments = old.comments })
+follow-advance events before moment old new value stands follow =
+    follow-downtime events events.downtimes before (later before moment) old new stands
+    (ap (λ (view : DowntimeView). view.returned) value)
+    (rw value (λ id scheduled. scheduled))
+    (rw value (λ id scheduled dead. dead-later old.downtime.entries old.downtime.moment.0 (max old.downtime.moment.0 moment.0) id (omega arith) dead))
+    follow
+
+pub follow-transition : (events : Events) (moment : Moment) (place : ℕ) (old : Books) (new : DowntimeView)
+    → new ≡ record old.downtime { entries = map (after_transition old.downtime.moment place) old.downtime.entries }
+    → DowntimeStands 1 new (downtime.Transition moment place ∷ events.downtimes) moment
+    → BooksFollow events moment old
+    → BooksFollow (record { objects = events.objects; downtimes = downtime.Transition moment place ∷ events.downtimes; comments = events.comments }) moment (record { objects = old.objects; downtime = new; comments = old.comments })
+follow-transition events moment place old new value stands follow =
+    let book = old.downtime in
+    follow-downtime events (downtime.Transition moment place ∷ events.downtimes) moment moment old new stands
+    (ap (λ (view : DowntimeView). view.returned) value)
+    (rw value (λ id scheduled. scheduled-map (turn book.moment place) (λ entry. refl) book.entries id ∙ scheduled))
+    (rw value (λ id scheduled dead. gone-stays book.moment place book.moment.0 book.entries id (omega arith) dead))
+    follow
+
+-- ---- entries are returned as gone
+
+abbrev count_unless : Bool → ℕ
+count_unless returned = cond (not returned) 1 0
+
+fewer-at : (old new gone : Bool) → new ≡ (old || gone) → count_unless new ≤ count_unless old
+fewer-at true new gone is = omega (arith, ap count_unless is)
+fewer-at false new true is = omega (arith, ap count_unless is)
+fewer-at false new false is = omega (arith, ap count_unless is)
+
+abbrev one_unreturned : List ℕ → Entry → ℕ
+one_unreturned returned entry = count_unless (was_returned returned entry.scheduled.id)
+
+fewer-all : (old new : List ℕ) (gone : ℕ) → ((other : ℕ) → was_returned new other ≡ (was_returned old other || eqb gone other)) → (entries : List Entry)
+    → sum_by (one_unreturned new) entries ≤ sum_by (one_unreturned old) entries
+fewer-all old new gone returns [] = omega arith
+fewer-all old new gone returns (entry ∷ older) =
+    omega (
+      arith,
+      sum_by-cons (one_unreturned new) entry older,
+      sum_by-cons (one_unreturned old) entry older,
+      fewer-all old new gone returns older,
+      fewer-at (was_returned old entry.scheduled.id) (was_returned new entry.scheduled.id) (eqb gone entry.scheduled.id) (returns entry.scheduled.id),
+    )
+
+fewer-one : (old new : List ℕ) (gone : ℕ) → ((other : ℕ) → was_returned new other ≡ (was_returned old other || eqb gone other)) → was_returned old gone ≡ false → (entries : List Entry)
+    → is_scheduled entries gone ≡ true → sum_by (one_unreturned new) entries < sum_by (one_unreturned old) entries
+fewer-one old new gone returns fresh [] scheduled = cc
+fewer-one old new gone returns fresh (entry ∷ older) scheduled =
+    elim (either (eqb entry.scheduled.id gone) (is_scheduled older gone) scheduled) [
+      | inl here ↦
+          let same : entry.scheduled.id ≡ gone = eqb-true entry.scheduled.id gone here in
+          let was : one_unreturned old entry ≡ 1 = ap (λ id. count_unless (was_returned old id)) same ∙ ap count_unless fresh in
+          let now : one_unreturned new entry ≡ 0 =
+          ap (λ id. count_unless (was_returned new id)) same ∙ ap count_unless (returns gone ∙ ap (λ b. b || eqb gone gone) fresh ∙ eq-eqb gone gone refl)
+          in
+          omega (arith, was, now, sum_by-cons (one_unreturned new) entry older, sum_by-cons (one_unreturned old) entry older, fewer-all old new gone returns older)
+      | inr there ↦
+          omega (
+            arith,
+            sum_by-cons (one_unreturned new) entry older,
+            sum_by-cons (one_unreturned old) entry older,
+            fewer-one old new gone returns fresh older there,
+            fewer-at (was_returned old entry.scheduled.id) (was_returned new entry.scheduled.id) (eqb gone entry.scheduled.id) (returns entry.scheduled.id),
+          )
+    ]
+  where
+    either : (a b : Bool) → (a || b) ≡ true → (a ≡ true) ⊎ (b ≡ true)
+    either true b e = inl refl
+    either false b e = inr e
+
+-- each entry that is returned leaves fewer to return
+pub fewer-unreturned : (entries : List Entry) (moment : Moment) (old new : List ℕ) (gone : ℕ) → next_gone_of entries moment old ≡ Some gone
+    → ((id : ℕ) → was_returned new id ≡ (was_returned old id || eqb gone id))
+    → count_by (λ (entry : Entry). not (was_returned new entry.scheduled.id)) entries < count_by (λ (entry : Entry). not (was_returned old entry.scheduled.id)) entries
+fewer-unreturned entries moment old new gone is returns =
+    let known = returned-next entries moment old gone is in
+    fewer-one old new gone returns known.2 entries known.0
+
+-- one more entry is returned, and its comment dropped
+pub goes-gone : (gone : ℕ) (first old : Books) (downtime : DowntimeView) (comments : CommentsView) → GoesOn first old
+    → next_gone_of old.downtime.entries old.downtime.moment old.downtime.returned ≡ Some gone
+    → ((id : ℕ) → was_returned downtime.returned id ≡ (was_returned old.downtime.returned id || eqb gone id))
+    → downtime ≡ record old.downtime { returned = downtime.returned }
+    → comments.comments ≡ without_comments (Gone gone) old.comments.comments
+    → comments.next_id ≡ old.comments.next_id
+    → old.comments.room ≤ comments.room
+    → GoesOn first (record { objects = old.objects; downtime = downtime; comments = comments })
+goes-gone gone first old downtime comments goes is returns same dropped next room = record {
+  objects = goes.objects;
+  downtime = same ∙ ap (λ (view : DowntimeView). let changed : DowntimeView = record view { returned = downtime.returned } in changed) goes.downtime;
+  comment_room = omega (arith, goes.comment_room, room);
+  next_comment = next ∙ goes.next_comment;
+  follow = λ events moment follow. rw same (follow-gone events moment gone old downtime.returned comments is returns dropped next (goes.follow events moment follow));
+}

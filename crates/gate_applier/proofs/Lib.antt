@@ -1,3 +1,7 @@
+pub mod ListSteps
+pub mod GoneSteps
 pub mod BookSteps
+pub mod JudgeSteps
+pub mod OutsideSteps
+pub mod CountSteps
 pub mod RoomSteps
-pub mod EscapeSteps

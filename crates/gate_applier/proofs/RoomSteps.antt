@@ -1,5 +1,8 @@
--- What the memory for a list is after it is taken, and after one more element.
-use Rattle.std.proofs.Common.{◌≡◌, ℕ, ◌+◌, ◌-◌, ◌≤◌, arith}
+-- What the memory for a list is after it is taken, and after one more element; records at a later moment.
+use Rattle.std.proofs.Common.{◌≡◌, ℕ, ◌+◌, ◌-◌, ◌≤◌, List, arith}
+use Rattle.gate_model.specs.declared.record.Moment.{Moment}
+use Rattle.gate_model.specs.declared.record.Record.{Record}
+use Rattle.gate_model.specs.Record.{later, AreInOrder}
 use Rattle.std.specs.Prelude.{min, max}
 use Rattle.gate_applier.specs.inner.Applier.{IsModest}
 
@@ -18,4 +21,13 @@ pub modest-pushed : (limit count capacity : ℕ) → IsModest limit count capaci
 modest-pushed limit count capacity is = record {
   within_limit = is.within_limit;
   modest = omega (arith, is.modest);
+}
+
+-- the records are in order at a later moment too
+pub in_order-later : (opening : Moment) (records : List Record) (moment now : Moment) → AreInOrder opening records moment → AreInOrder opening records (later moment now)
+in_order-later opening records moment now order = record {
+  opened = omega (arith, order.opened);
+  since_opening = order.since_opening;
+  never_decreasing = order.never_decreasing;
+  come = λ index applied within. omega (arith, order.come index applied within);
 }

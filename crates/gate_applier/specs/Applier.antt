@@ -1,9 +1,7 @@
--- What an applier shows. Own rules: the limits of a log, and which bodies are supported so far.
-use Rattle.std.specs.Prelude.{ℕ, Bool, true, false, ◌&&◌, nat_le, List, []}
+-- What an applier shows. Own rule: the limits of a log.
+use Rattle.std.specs.Prelude.{ℕ, Bool, ◌&&◌, nat_le, List, []}
 use Rattle.gate_model.specs.declared.record.Moment.{Moment}
 use Rattle.gate_model.specs.declared.object.ObjectLine.{ObjectLine}
-use Rattle.gate_model.specs.declared.submission.Body.{Body}
-use Rattle.gate_model.specs.declared.submission.Body.TheVariants.{Result, Shutdown}
 use Rattle.gate_model.specs.declared.record.Record.{Record}
 use Rattle.gate_model.specs.declared.record.Outcome.{Outcome}
 
@@ -33,9 +31,3 @@ opened table moment limit = record {
   outcomes = [];
   room = 0;
 }
-
--- an applier supports the body: a check result, or a shutdown, which has no effect
-abbrev pub is_supported : Body → Bool
-is_supported (Result host service code output) = true
-is_supported Shutdown = true
-is_supported _ = false

@@ -1,3 +1,2 @@
 pub mod inner
 pub mod Applier
-pub mod Page

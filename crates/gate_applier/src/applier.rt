@@ -1,13 +1,15 @@
-ghost use Rattle.std.specs.Prelude.{◌≡◌, ◌<◌, ◌≤◌, ◌+◌, length, max, vec_len, vec_capacity, false, IsTrue, IsOk, IfOk, IfErr, IsOkAnd, IsErrAnd, OnOk, OnErr};
-ghost use Rattle.gate_model.specs.Record.{AreInOrder};
-ghost use Rattle.gate_model.specs.Meaning.{outcomes_of, state_at};
+ghost use Rattle.std.specs.Prelude.{◌≡◌, ◌<◌, ◌≤◌, ◌+◌, length, max, nat_lt, slice_get, vec_len, vec_capacity, false, IsTrue, IsOk, IfOk, IfErr, IfSome, IsOkAnd, IsErrAnd, OnOk, OnErr};
+ghost use Rattle.gate_model.specs.Record.{AreInOrder, later};
+ghost use Rattle.gate_model.specs.Meaning.{outcomes_of, state_at, last_result_at, acknowledgement_at, is_stale_at, comments_at, depth_at};
 ghost use Rattle.gate_applier.specs.declared.applier.OpenCause.TheVariants.{BadLimit};
 ghost use Rattle.gate_applier.specs.declared.applier.PrepareCause.TheVariants.{LogFull};
-ghost use Rattle.gate_applier.specs.Applier.{opened, is_limit, is_supported};
+ghost use Rattle.gate_applier.specs.Applier.{opened, is_limit};
 
 use crate::books::Books;
 use crate::ready::Ready;
-use gate_model::{Body, Moment, ObjectId, ObjectTable, Outcome, Record, State};
+use gate_model::{
+    Acknowledgement, CheckResult, Comment, Moment, ObjectId, ObjectTable, Outcome, Record, State,
+};
 use std::alloc::{AllocError, Global};
 use std::fmt;
 use std::marker::Model;
@@ -15,14 +17,6 @@ use thiserror::Error;
 
 /// The most records to which a log can be limited.
 pub const MOST_RECORDS: u32 = 1_000_000;
-
-/// Whether an applier supports the body so far: a check result, or a shutdown, which is accepted
-/// and has no effect.
-pub fn takes(body: &Body) -> bool
-    ensures { result ≡ is_supported body.now }
-{
-    matches!(body, Body::Result { .. } | Body::Shutdown)
-}
 
 /// The records that were applied, with their outcomes, and what they mean.
 ///
@@ -129,7 +123,7 @@ impl Applier {
                 table,
             });
         }
-        match Books::open(alloc, table.len()) {
+        match Books::open(alloc, &table, moment) {
             Ok(books) => Ok(Applier {
                 table,
                 opening: moment,
@@ -192,7 +186,20 @@ impl Applier {
         let count = self.records.len();
         let additional = count.max(16).min(self.limit as usize - count);
         reserve(&mut self.records, additional)?;
-        reserve(&mut self.outcomes, additional)
+        reserve(&mut self.outcomes, additional)?;
+        self.books.make_room()
+    }
+
+    /// Goes on to the clock's moment, where it is later: what is due by then happens. The records
+    /// stay. Own rule.
+    pub fn advance(&mut self, now: Moment)
+        ensures moment { self.new.moment ≡ later self.old.moment now }
+        ensures shown { self.new
+            ≡ record self.old { moment = self.new.moment; room = self.new.room } }
+        ensures room { self.old.room ≤ self.new.room }
+    {
+        self.books.advance(now);
+        self.moment = self.moment.later(now);
     }
 
     /// The monitored objects.
@@ -242,12 +249,77 @@ impl Applier {
         self.outcomes.as_slice()
     }
 
-    /// The state of the object at this place, whatever its kind is. It is PENDING at a place
-    /// outside the table. Nagios Core 4 manual, Passive Checks.
+    /// The object's state, PENDING without a result, and for an object outside the table. Nagios
+    /// Core 4 manual, Passive Checks.
     pub fn state(&self, object: ObjectId) -> State
         ensures { result ≡ state_at self.now.table self.now.records object.place }
     {
-        self.books.state(object.place)
+        if self.has(object) {
+            self.books.objects.state(object)
+        } else {
+            State::Pending
+        }
+    }
+
+    /// The object's last accepted result, if there is one.
+    pub fn last(&self, object: ObjectId) -> Option<CheckResult>
+        ensures { result ≡ last_result_at self.now.table self.now.records object.place }
+    {
+        if self.has(object) {
+            self.books.objects.last(object)
+        } else {
+            None
+        }
+    }
+
+    /// The object's acknowledgement, if one is in force (External Command List,
+    /// ACKNOWLEDGE_SVC_PROBLEM).
+    pub fn ack(&self, object: ObjectId) -> Option<Acknowledgement>
+        ensures { result ≡ acknowledgement_at self.now.table self.now.records object.place }
+    {
+        if self.has(object) {
+            self.books.objects.ack(object)
+        } else {
+            None
+        }
+    }
+
+    /// Whether the object is stale at the applier's moment: its threshold isn't 0, and more seconds
+    /// than it have passed since its last accepted result, or since the opening without one. An
+    /// object outside the table is not. Own rule.
+    pub fn stale(&self, object: ObjectId) -> bool
+        ensures stale { IfSome (slice_get self.now.table object.place) (λ line.
+            result ≡ is_stale_at self.now.table self.now.opening self.now.records self.now.moment (
+            line.threshold) object.place) }
+        ensures outside { length self.now.table ≤ object.place → result ≡ false }
+    {
+        self.has(object) && self.books.objects.stale(object, self.moment)
+    }
+
+    /// How many downtime entries of the object are active at the applier's moment. Nagios Core 4
+    /// manual, Scheduled Downtime.
+    pub fn depth(&self, object: ObjectId) -> u32
+        ensures { result ≡ depth_at self.now.table self.now.records self.now.moment object.place }
+    {
+        if self.has(object) {
+            self.books.downtime.depth(object)
+        } else {
+            0
+        }
+    }
+
+    /// The comments that stand at the applier's moment, ids ascending.
+    pub fn comments(&self) -> &[Comment]
+        ensures { result.now ≡ comments_at self.now.table self.now.records self.now.moment }
+    {
+        self.books.comments.list()
+    }
+
+    /// Whether the table has a line at the object's place.
+    fn has(&self, object: ObjectId) -> bool
+        ensures { result ≡ nat_lt object.place (length self.now.table) }
+    {
+        (object.place as usize) < self.table.len()
     }
 }
 

@@ -1,101 +1,134 @@
-ghost use Rattle.std.specs.Prelude.{◌≡◌, ℕ, ◌<◌, List, [], ◌∷◌, length, IfOk, IsTrue};
+ghost use Rattle.std.specs.Prelude.{◌≡◌, ◌<◌, ◌≤◌, ℕ, Bool, false, [], length, IsOk, IfOk, OnOk, OnErr};
 ghost use Rattle.gate_model.specs.declared.record.Moment.{Moment};
-ghost use Rattle.gate_model.specs.declared.submission.Body.TheVariants.{Result as ResultBody};
-ghost use Rattle.gate_model.specs.declared.record.Outcome.TheVariants.{Accepted};
-ghost use Rattle.gate_model.specs.declared.status.ObjectEvent.{ObjectEvent};
-ghost use Rattle.gate_model.specs.declared.status.ObjectEvent.TheVariants.{Result as ResultEvent};
-ghost use Rattle.gate_model.specs.Meaning.{Judged, judgement_of, outcome_for, outcome_at};
-ghost use Rattle.gate_applier.specs.Applier.{is_supported};
-ghost use Rattle.gate_applier.specs.inner.Books.{kept_state, BooksKeep, BooksStand, BooksFollow};
+ghost use Rattle.gate_model.specs.Record.{later};
+ghost use Rattle.gate_downtime.specs.Book.{next_id};
+ghost use Rattle.gate_applier.specs.inner.Books.{Events, events_of, BooksFollow, BooksStand, Follows, TakesOne, SameTable, KeepsRoom, HasRoom, room_of_books, SharesRoom, IsOfTable, result_added, comment_added, transition_added, clearing_added, IsStandingSource};
 
-use gate_model::{Body, ObjectId, ObjectTable, Outcome, Record, State, Text, find_object};
+use gate_comments::CommentBook;
+use gate_downtime::DowntimeBook;
+use gate_model::{Moment, ObjectId, ObjectTable, Source};
+use gate_objects::ObjectBook;
 use std::alloc::{AllocError, Global};
 
 /// What the judged records leave, kept so that no question and no further record needs a scan of
 /// the log.
 #[derive(Drop)]
 pub struct Books {
-    /// The state of each object of the table, by its place.
-    pub states: Vec<State>,
+    pub objects: ObjectBook,
+    pub downtime: DowntimeBook,
+    pub comments: CommentBook,
 }
 
 impl Books {
-    /// Opens the books of so many objects, before any record. It fails only where memory runs out.
-    pub fn open(alloc: Global, objects: usize) -> Result<Books, AllocError>
-        ensures count { IfOk result (λ books. length books.states.items ≡ objects) }
-        ensures keep { IfOk result (λ books. BooksKeep [] books) }
+    /// The books of the table's objects, opened at that moment. It fails only where memory runs out.
+    pub fn open(alloc: Global, table: &ObjectTable, opening: Moment) -> Result<Books, AllocError>
+        ensures stand { IfOk result (λ books. BooksStand (events_of table.now []) opening books) }
+        ensures table { IfOk result (λ books. IsOfTable table.now opening books) }
     {
         Ok(Books {
-            states: vec![in alloc; State::Pending; objects]?,
+            objects: ObjectBook::open(alloc, table, opening)?,
+            downtime: DowntimeBook::open(alloc, table.len(), 1, opening)?,
+            comments: CommentBook::open(alloc, 1),
         })
     }
 
-    /// The state of the object at this place, and PENDING where there is none.
-    pub fn state(&self, place: u32) -> State
-        ensures { result ≡ kept_state self.now place }
+    /// Makes room for one more comment and one more downtime entry.
+    pub fn make_room(&mut self) -> Result<(), AllocError>
+        ensures same { SharesRoom self.old self.new }
+        ensures room { OnOk result (HasRoom self.new) }
+        ensures kept { OnErr result (room_of_books self.new ≡ room_of_books self.old) }
+        ensures has_room { HasRoom self.old → IsOk result × (self.new ≡ self.old) }
     {
-        match self.states.get(place as usize) {
-            Some(state) => *state,
-            None => State::Pending,
+        if self.comments.room() == 0 {
+            self.comments.reserve(1)?;
+        }
+        if self.downtime.room() == 0 {
+            self.downtime.reserve(1)?;
+        }
+        Ok(())
+    }
+
+    /// Goes on to a later moment: entries begin and end, and the comments of those that end are
+    /// dropped. An earlier moment changes nothing.
+    pub fn advance(&mut self, moment: Moment)
+        ensures stand { (events : Events) (before : Moment) → BooksStand events before self.old
+            → BooksStand events (later before moment) self.new }
+        ensures table { SameTable self.old self.new }
+        ensures room { KeepsRoom self.old self.new }
+    {
+        self.downtime.advance(moment);
+        self.settle();
+    }
+
+    /// Drops the comments of the downtime entries that are gone.
+    pub fn settle(&mut self)
+        ensures stand { (events : Events) (moment : Moment) → BooksFollow events moment self.old
+            → BooksStand events moment self.new }
+        ensures table { SameTable self.old self.new }
+        ensures room { KeepsRoom self.old self.new }
+    {
+        'gone: while let Some(id) = self.downtime.next_gone() {
+            self.comments.drop_downtime(id);
         }
     }
 
-    /// Judges a record after those before it, and where it is accepted keeps what it changes.
-    pub fn judge(&mut self, table: &ObjectTable, applied: &Record) -> Outcome
-        requires objects { length self.old.states.items ≡ length table.now }
-        requires supported { IsTrue (is_supported applied.now.item.body) }
-        ensures outcome { (before : List Judged) → BooksStand table.now before self.old
-            → let body = applied.now.item.body in
-            result ≡ outcome_at table.now before applied.now.moment body }
-        ensures stands { (before : List Judged) → BooksStand table.now before self.old
-            → let after = judgement_of table.now before applied.now ∷ before in
-            BooksStand table.now after self.new }
-        ensures count { length self.new.states.items ≡ length self.old.states.items }
+    /// Takes an accepted result: what it makes of its object, what it begins and what it clears.
+    pub fn take_result(&mut self, object: ObjectId, code: i16, log_index: u32, moment: Moment)
+        requires row { object.place < length self.old.objects.rows }
+        requires place { object.place < self.old.downtime.objects }
+        ensures follow { Follows moment (result_added object code log_index moment) self.old self.new }
+        ensures takes { TakesOne self.old self.new }
     {
-        match &applied.item.body {
-            Body::Result {
-                host,
-                service,
-                code,
-                ..
-            } => self.judge_result(table, host, service, *code),
-            // Of the other bodies only a shutdown is supported.
-            _ => Outcome::Accepted,
+        let change = self.objects.result(object, code, log_index, moment);
+        self.take_transition(object, change.transition);
+        self.take_clearing(object, change.cleared);
+    }
+
+    /// Begins the downtime entries that a transition of the object begins, if there is one.
+    fn take_transition(&mut self, object: ObjectId, transition: bool)
+        requires { object.place < self.old.downtime.objects }
+        ensures follow { (moment : Moment)
+            → Follows moment (transition_added transition moment object.place) self.old self.new }
+        ensures table { SameTable self.old self.new }
+        ensures room { KeepsRoom self.old self.new }
+        ensures same { self.new.objects ≡ self.old.objects }
+    {
+        if transition {
+            self.downtime.transition(object);
         }
     }
 
-    /// Judges a passive check result, and where it is accepted keeps the state that it leaves.
-    fn judge_result(
+    /// Removes the comments that a clearing of the object's acknowledgement removes, if there is one.
+    fn take_clearing(&mut self, object: ObjectId, cleared: bool)
+        ensures follow { (moment : Moment)
+            → Follows moment (clearing_added cleared object.place) self.old self.new }
+        ensures table { SameTable self.old self.new }
+        ensures room { KeepsRoom self.old self.new }
+        ensures same { self.new.objects ≡ self.old.objects }
+    {
+        if cleared {
+            self.comments.clear_ack(object);
+        }
+    }
+
+    /// Adds a comment.
+    pub fn add_comment(
         &mut self,
-        table: &ObjectTable,
-        host: &Text,
-        service: &Option<Text>,
-        code: i16,
-    ) -> Outcome
-        requires { length self.old.states.items ≡ length table.now }
-        ensures outcome { result ≡ outcome_for table.now host.now service.now (λ place. Accepted) }
-        ensures follows { (output : List ℕ)
-            → let body = ResultBody host.now service.now code output in
-            BooksFollow table.now body result self.old self.new }
-        ensures count { length self.new.states.items ≡ length self.old.states.items }
+        object: ObjectId,
+        source: Source,
+        persistent: bool,
+        log_index: u32,
+    )
+        requires room { 0 < self.old.comments.room }
+        requires id { self.old.comments.next_id ≤ 4294967295 }
+        ensures follow { (moment : Moment) → IsStandingSource self.old.downtime source
+            → Follows moment (comment_added object source persistent log_index) self.old self.new }
+        ensures takes { TakesOne self.old self.new }
+        ensures downtime { self.new.downtime ≡ self.old.downtime }
     {
-        match find_object(table, host, service) {
-            Err(refusal) => refusal,
-            Ok(object) => {
-                self.keep_state(object, State::of_code(object.kind, code));
-                Outcome::Accepted
-            }
+        match self.comments.add(object, source, persistent, log_index) {
+            Ok(_) => {}
+            Err(_) => unreachable!(),
         }
-    }
-
-    /// Keeps the state that an accepted result leaves an object of the table in.
-    fn keep_state(&mut self, object: ObjectId, state: State)
-        requires { object.place < length self.old.states.items }
-        ensures keeps { (history : List ObjectEvent) (moment : Moment) (log_index : ℕ)
-            → BooksKeep history self.old
-            → BooksKeep (ResultEvent object.place state moment log_index ∷ history) self.new }
-        ensures count { length self.new.states.items ≡ length self.old.states.items }
-    {
-        self.states[object.place as usize] = state;
     }
 }

@@ -1,13 +1,12 @@
 //! The applier: records in the order in which they were applied, and what they mean. It judges one
 //! record at a time, keeps its outcome beside it, and answers from books what the definitions of
-//! the meaning give for all of its records. Beside it stands the log page.
+//! the meaning give for all of its records.
 #![tactic(auto)]
 
 mod applier;
 mod books;
-mod page;
+mod judging;
 mod ready;
 
-pub use applier::{Applier, MOST_RECORDS, OpenCause, OpenFault, PrepareCause, PrepareFault, takes};
-pub use page::{log_page, outcome_name};
+pub use applier::{Applier, MOST_RECORDS, OpenCause, OpenFault, PrepareCause, PrepareFault};
 pub use ready::Ready;

@@ -1,7 +1,6 @@
-ghost use Rattle.std.specs.Prelude.{◌≡◌, ◌≤◌, ◌+◌, [], ◌∷◌, ◌++◌, IsTrue};
+ghost use Rattle.std.specs.Prelude.{◌≡◌, ◌≤◌, ◌+◌, [], ◌∷◌, ◌++◌};
 ghost use Rattle.gate_model.specs.Record.{later};
 ghost use Rattle.gate_model.specs.Meaning.{outcome_after};
-ghost use Rattle.gate_applier.specs.Applier.{is_supported};
 
 use crate::applier::Applier;
 use gate_model::{Moment, Numbered, Outcome, Record};
@@ -26,11 +25,9 @@ impl Model for Ready {
 
 impl Ready {
     /// Applies the item, at the clock's moment or the applier's, whichever is later, and returns
-    /// the outcome. A refused item is recorded as well. So far only check results and shutdowns
-    /// are supported. Own rule.
+    /// the outcome. A refused item is recorded as well. What is due by then happens before it. Own
+    /// rule.
     pub fn apply(self, item: Numbered, now: Moment) -> (Applier, Outcome)
-        requires { IsTrue (is_supported item.body) }
-
         ensures outcome { let moment = later self.moment now in
             result.1 ≡ outcome_after self.table self.records moment item.body }
         ensures records { let moment = later self.moment now in
@@ -47,7 +44,10 @@ impl Ready {
         let mut applier = self.applier;
         let moment = applier.moment.later(now);
         let applied = Record { moment, item };
-        let outcome = applier.books.judge(&applier.table, &applied);
+        let log_index = applier.records.len() as u32;
+        applier.books.advance(moment);
+        let outcome = applier.books.judge(&applier.table, &applied, log_index);
+        applier.books.settle();
         applier.moment = moment;
         applier.records.push_reserved(applied);
         applier.outcomes.push_reserved(outcome);

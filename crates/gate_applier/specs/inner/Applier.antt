@@ -5,13 +5,15 @@ use Rattle.gate_model.specs.Record.{AreInOrder}
 use Rattle.gate_model.specs.Meaning.{outcomes_of, history_of}
 use Rattle.gate_applier.specs.declared.applier.Applier.TheInside.{Inside}
 use Rattle.gate_applier.specs.Applier.{ApplierView, is_limit}
-use Rattle.gate_applier.specs.inner.Books.{BooksStand}
+use Rattle.gate_applier.specs.inner.Books.{events_of, room_of_books, BooksStand, IsOfTable}
 
--- how many more records fit in the memory that was taken for records and outcomes
+-- how many more records fit in the memory that was taken for records, outcomes, comments and downtime entries
 abbrev pub room_of : Inside → ℕ
 room_of applier =
-    min (vec_capacity applier.records - vec_len applier.records)
-    (vec_capacity applier.outcomes - vec_len applier.outcomes)
+    min
+    (min (vec_capacity applier.records - vec_len applier.records)
+    (vec_capacity applier.outcomes - vec_len applier.outcomes))
+    (room_of_books applier.books)
 
 -- what an applier shows
 abbrev pub view_of : Inside → ApplierView
@@ -38,9 +40,9 @@ pub record IsSound (applier : Inside) : Type 0 where
   pub few : length applier.records.items ≤ applier.limit
   pub in_order : AreInOrder applier.opening applier.records.items applier.moment
   pub outcomes_are : applier.outcomes.items ≡ outcomes_of applier.table applier.records.items
-  pub states_fit : length applier.books.states.items ≡ length applier.table
+  pub of_table : IsOfTable applier.table applier.opening applier.books
   pub books_stand
-      : BooksStand applier.table (history_of applier.table applier.records.items) applier.books
+      : BooksStand (events_of applier.table (history_of applier.table applier.records.items)) applier.moment applier.books
   pub records_modest
       : IsModest applier.limit (vec_len applier.records) (vec_capacity applier.records)
   pub outcomes_modest

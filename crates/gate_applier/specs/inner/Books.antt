@@ -1,41 +1,210 @@
--- Only proofs and private functions use this: what the books keep, once records were judged.
-use Rattle.std.specs.Prelude.{◌≡◌, ℕ, List, None, unwrap_or, slice_get, if◌then◌else◌}
-use Rattle.std.specs.List.{cons_option}
+-- Only proofs and private functions use this: what happened in judged records, and when the books follow it.
+use Rattle.std.specs.Prelude.{◌≡◌, ℕ, ℤ, min, ◌+◌, ◌<◌, ◌≤◌, ◌==◌, Bool, true, false, not, List, ◌∷◌, length, filter, slice_get, Option, Some, None, if◌then◌else◌}
+use Rattle.std.specs.List.{cons_option, list_any, list_all}
 use Rattle.gate_model.specs.declared.record.Moment.{Moment}
+use Rattle.gate_model.specs.declared.object.ObjectId.{ObjectId}
 use Rattle.gate_model.specs.declared.object.ObjectLine.{ObjectLine}
 use Rattle.gate_model.specs.declared.submission.Body.{Body}
 use Rattle.gate_model.specs.declared.record.Outcome.{Outcome}
-use Rattle.gate_model.specs.declared.state.State.{State}
-use Rattle.gate_model.specs.declared.state.State.TheVariants.{Pending}
 use Rattle.gate_model.specs.declared.status.ObjectEvent.{ObjectEvent}
+use Rattle.gate_model.specs.declared.downtime.DowntimeEvent.{DowntimeEvent}
+use Rattle.gate_model.specs.declared.downtime.DowntimeEvent.TheVariants.{Transition}
+use Rattle.gate_model.specs.declared.downtime.Entry.{Entry}
+use Rattle.gate_model.specs.declared.comments.CommentEvent.{CommentEvent}
+use Rattle.gate_model.specs.declared.comments.CommentEvent.TheVariants.{Add, Clear}
+use Rattle.gate_model.specs.declared.comments.Comment.{Comment}
+use Rattle.gate_model.specs.declared.comments.Source.{Source}
 use Rattle.gate_model.specs.Record.{is_accepted}
-use Rattle.gate_model.specs.Status.{state_of}
-use Rattle.gate_model.specs.Meaning.{Judged, object_event_of, object_events}
+use Rattle.gate_model.specs.Comments.{comments_of, number_made}
+use Rattle.gate_model.specs.Downtime.{scheduled_in, is_live_in}
+use Rattle.gate_model.specs.Meaning.{Judged, object_event_of, object_events, downtime_event_of, downtime_events, transition_by, clearing_by, comment_event_of, comment_events, outlives, outcome_at}
+use Rattle.gate_objects.specs.Book.{shown_threshold}
+use Rattle.gate_objects.specs.Standing.{IsStanding as ObjectsStand, result_event}
+use Rattle.gate_downtime.specs.Standing.{IsStanding as DowntimeStands}
+use Rattle.gate_downtime.specs.Book.{DowntimeView, next_id, was_returned, next_gone_of}
 use Rattle.gate_applier.specs.declared.books.Books.{Books}
 
--- the state that the books keep of the object at this place, and PENDING where there is none
-abbrev pub kept_state : Books → ℕ → State
-kept_state books object = unwrap_or (slice_get books.states.items object) Pending
+-- what happened to the objects, to the downtime entries and to the comments, the newest first
+pub record Events : Type 0 where
+  pub objects : List ObjectEvent
+  pub downtimes : List DowntimeEvent
+  pub comments : List CommentEvent
 
--- the books keep, of each object, what this history leaves
-pub record BooksKeep (history : List ObjectEvent) (books : Books) : Type 0 where
-  pub states_are : (object : ℕ) → kept_state books object ≡ state_of object history
+-- what happened in these judged records
+abbrev pub events_of : List ObjectLine → List Judged → Events
+events_of table judgements = record {
+  objects = object_events table judgements;
+  downtimes = downtime_events table judgements;
+  comments = comment_events table judgements;
+}
 
--- the books keep what these judged records leave
-pub record BooksStand (table : List ObjectLine) (judgements : List Judged) (books : Books)
-    : Type 0 where
-  pub objects : BooksKeep (object_events table judgements) books
+-- the threshold that a line of the table gives its object, in seconds
+abbrev pub threshold_of_line : Option ObjectLine → ℕ
+threshold_of_line None = 0
+threshold_of_line (Some line) = line.threshold
 
--- this history, and what a body of this outcome is to the objects
-abbrev pub history_with
-    : List ObjectLine → Body → Outcome → Moment → ℕ → List ObjectEvent → List ObjectEvent
-history_with table body outcome moment log_index history =
-    cons_option
-    (if is_accepted outcome then object_event_of table moment log_index body else None) history
+-- these events, and what an accepted body adds to them
+abbrev pub events_after : List ObjectLine → Moment → ℕ → Body → Events → Events
+events_after table moment log_index body events = record {
+  objects = cons_option (object_event_of table moment log_index body) events.objects;
+  downtimes = cons_option (downtime_event_of table events.objects moment log_index body) events.downtimes;
+  comments =
+      cons_option
+      (comment_event_of table events.objects (1 + length (scheduled_in 1 events.downtimes)) moment log_index body)
+      events.comments;
+}
 
--- the books follow a body of this outcome, whatever happened before
-pub record BooksFollow (table : List ObjectLine) (body : Body) (outcome : Outcome) (old new : Books)
-    : Type 0 where
-  pub objects : (history : List ObjectEvent) (moment : Moment) (log_index : ℕ)
-      → BooksKeep history old
-      → BooksKeep (history_with table body outcome moment log_index history) new
+-- these events, and what a body of this outcome adds to them: nothing, if it was refused
+abbrev pub events_with : List ObjectLine → Moment → ℕ → Body → Outcome → Events → Events
+events_with table moment log_index body outcome events =
+    if is_accepted outcome then events_after table moment log_index body events else events
+
+-- the entry of this id was scheduled
+abbrev pub is_scheduled : List Entry → ℕ → Bool
+is_scheduled entries id = list_any (λ (entry : Entry). entry.scheduled.id == id) entries
+
+-- the source is no downtime entry, or one that was scheduled
+abbrev pub is_of_scheduled : List Entry → Source → Bool
+is_of_scheduled entries source = outlives (is_scheduled entries) source
+
+-- the entry was scheduled, and isn't live
+pub record IsGone (book : DowntimeView) (id : ℕ) : Type 0 where
+  pub scheduled : is_scheduled book.entries id ≡ true
+  pub dead : is_live_in book.entries book.moment.0 id ≡ false
+
+-- the entry of this id was not returned as gone
+abbrev pub is_unreturned : DowntimeView → ℕ → Bool
+is_unreturned book id = not (was_returned book.returned id)
+
+-- a comment stands as long as its entry wasn't returned as gone
+abbrev pub stands_unreturned : DowntimeView → Comment → Bool
+stands_unreturned book comment = outlives (is_unreturned book) comment.source
+
+-- the comment is of no entry, or of one that was scheduled
+abbrev pub has_scheduled : DowntimeView → Comment → Bool
+has_scheduled book comment = is_of_scheduled book.entries comment.source
+
+-- the books follow these events up to this moment, but for the comments of entries that are gone and were not
+-- returned yet
+pub record BooksFollow (events : Events) (moment : Moment) (books : Books) : Type 0 where
+  pub objects_stand : ObjectsStand books.objects events.objects
+  pub downtime_stands : DowntimeStands 1 books.downtime events.downtimes moment
+  pub comments_are : books.comments.comments ≡ filter (stands_unreturned books.downtime) (comments_of 1 events.comments)
+  pub next_comment_is : books.comments.next_id ≡ 1 + number_made events.comments
+  pub scheduled : list_all (has_scheduled books.downtime) books.comments.comments ≡ true
+  pub returned_gone : (id : ℕ) → was_returned books.downtime.returned id ≡ true → IsGone books.downtime id
+
+-- the books follow these events up to this moment, and all entries that are gone were returned
+pub record BooksStand (events : Events) (moment : Moment) (books : Books) : Type 0 where
+  pub follow : BooksFollow events moment books
+  pub settled : next_gone_of books.downtime.entries books.downtime.moment books.downtime.returned ≡ None
+
+-- whatever happened before, the new books follow it with this change of the events, where the old ones do
+abbrev pub Follows : Moment → (Events → Events) → Books → Books → Type 0
+Follows moment change old new = (events : Events) → BooksFollow events moment old → BooksFollow (change events) moment new
+
+-- the body of this outcome was judged after whichever records the old books stand after, and the new ones follow it
+pub record IsJudged (table : List ObjectLine) (before : List Judged) (moment : Moment) (log_index : ℕ) (body : Body) (outcome : Outcome) (new : Books) : Type 0 where
+  pub outcome_is : outcome ≡ outcome_at table before moment body
+  pub follow : BooksFollow (events_with table moment log_index body outcome (events_of table before)) moment new
+
+abbrev pub Judges : List ObjectLine → Moment → ℕ → Body → Outcome → Books → Books → Type 0
+Judges table moment log_index body outcome old new =
+    (before : List Judged) → BooksStand (events_of table before) moment old → IsJudged table before moment log_index body outcome new
+
+-- a source that stands: no downtime entry, or one that was scheduled and not returned as gone
+pub record IsStandingSource (book : DowntimeView) (source : Source) : Type 0 where
+  pub scheduled : is_of_scheduled book.entries source ≡ true
+  pub unreturned : outlives (is_unreturned book) source ≡ true
+
+-- the events with an accepted result, and with the transition and the clearing that it is
+abbrev pub result_added : ObjectId → ℤ → ℕ → Moment → Events → Events
+result_added object code log_index moment events =
+    let event = result_event object code log_index moment in
+    record {
+      objects = event ∷ events.objects;
+      downtimes = cons_option (transition_by events.objects (Some event)) events.downtimes;
+      comments = cons_option (clearing_by events.objects (Some event)) events.comments;
+    }
+
+-- the events with a transition of the object at this place, if there is one
+abbrev pub transition_added : Bool → Moment → ℕ → Events → Events
+transition_added transition moment place events = record {
+  objects = events.objects;
+  downtimes = cons_option (if transition then Some (Transition moment place) else None) events.downtimes;
+  comments = events.comments;
+}
+
+-- the events with a clearing of the acknowledgement of the object at this place, if there is one
+abbrev pub clearing_added : Bool → ℕ → Events → Events
+clearing_added cleared place events = record {
+  objects = events.objects;
+  downtimes = events.downtimes;
+  comments = cons_option (if cleared then Some (Clear place) else None) events.comments;
+}
+
+-- the events with a comment added
+abbrev pub comment_added : ObjectId → Source → Bool → ℕ → Events → Events
+comment_added object source persistent log_index events = record {
+  objects = events.objects;
+  downtimes = events.downtimes;
+  comments = Add object source persistent log_index ∷ events.comments;
+}
+
+-- the objects are those of the table, at that opening
+pub record IsOfTable (table : List ObjectLine) (opening : Moment) (books : Books) : Type 0 where
+  pub opening_is : books.objects.opening ≡ opening
+  pub rows : length books.objects.rows ≡ length table
+  pub thresholds : (place : ℕ) → shown_threshold books.objects place ≡ threshold_of_line (slice_get table place)
+  pub places : books.downtime.objects ≡ length table
+
+-- for how many more comments and entries there is room
+abbrev pub room_of_books : Books → ℕ
+room_of_books books = min books.comments.room books.downtime.room
+
+-- there is room for one more comment and one more entry
+pub record HasRoom (books : Books) : Type 0 where
+  pub comment_room : 0 < books.comments.room
+  pub entry_room : 0 < books.downtime.room
+
+-- the books are the same but for the room
+pub record SharesRoom (old new : Books) : Type 0 where
+  pub objects : new.objects ≡ old.objects
+  pub downtime : new.downtime ≡ record old.downtime { room = new.downtime.room }
+  pub comments : new.comments ≡ record old.comments { room = new.comments.room }
+
+-- the books have a row for each object of the table, room and ids for one more comment and one more entry
+pub record CanTake (table : List ObjectLine) (books : Books) : Type 0 where
+  pub rows : length books.objects.rows ≡ length table
+  pub places : books.downtime.objects ≡ length table
+  pub room : HasRoom books
+  pub comment_id : books.comments.next_id ≤ 4294967295
+  pub entry_id : next_id books.downtime ≤ 4294967295
+
+-- the objects are those of the same table, at the same opening
+pub record SameTable (old new : Books) : Type 0 where
+  pub opening : new.objects.opening ≡ old.objects.opening
+  pub rows : length new.objects.rows ≡ length old.objects.rows
+  pub thresholds : (place : ℕ) → shown_threshold new.objects place ≡ shown_threshold old.objects place
+  pub places : new.downtime.objects ≡ old.downtime.objects
+
+-- there is no less room, and no id was given
+pub record KeepsRoom (old new : Books) : Type 0 where
+  pub comments : old.comments.room ≤ new.comments.room
+  pub entries : old.downtime.room ≤ new.downtime.room
+  pub next_comment : new.comments.next_id ≡ old.comments.next_id
+  pub next_entry : next_id new.downtime ≡ next_id old.downtime
+
+-- the table is the same, and the room of one comment and of one entry is taken at most
+pub record TakesOne (old new : Books) : Type 0 where
+  pub table : SameTable old new
+  pub comments : old.comments.room ≤ new.comments.room + 1
+  pub entries : old.downtime.room ≤ new.downtime.room + 1
+
+-- entries were returned as gone and their comments dropped, and nothing else changed
+pub record GoesOn (old new : Books) : Type 0 where
+  pub objects : new.objects ≡ old.objects
+  pub downtime : new.downtime ≡ record old.downtime { returned = new.downtime.returned }
+  pub comment_room : old.comments.room ≤ new.comments.room
+  pub next_comment : new.comments.next_id ≡ old.comments.next_id
+  pub follow : (events : Events) (moment : Moment) → BooksFollow events moment old → BooksFollow events moment new

@@ -1,4 +1,5 @@
 use Rattle.std.proofs.Common.{◌≡◌, length, ap, ◌∙◌, arith}
+use Rattle.gate_applier.proofs.BookSteps.{stand-room, table-room}
 use Rattle.gate_model.proofs.MeaningSteps.{length-outcomes_of}
 use Rattle.gate_applier.proofs.applier.Applier.make_room.Goals as goal
 
@@ -14,8 +15,8 @@ invariant_of-self-2 c =
       few = rw c.reserve.ensures.items sound.few;
       in_order = rw c.reserve.ensures.items sound.in_order;
       outcomes_are = rw (c.reserve.ensures.items, c.reserve-2.ensures.items) sound.outcomes_are;
-      states_fit = sound.states_fit;
-      books_stand = rw c.reserve.ensures.items sound.books_stand;
+      of_table = table-room was.table was.opening was.books c.make_room.new.self c.make_room.ensures.same sound.of_table;
+      books_stand = rw c.reserve.ensures.items (stand-room _ was.moment was.books c.make_room.new.self c.make_room.ensures.same sound.books_stand);
       records_modest = record {
         within_limit = omega (arith, sound.few, sound.records_modest.within_limit);
         modest = omega (arith, sound.few, sound.records_modest.modest);

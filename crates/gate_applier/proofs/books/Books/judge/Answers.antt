@@ -1,23 +1,30 @@
-use Rattle.std.proofs.Common.{rules, ◌≡◌, List, [], refl, sym, ap}
-use Rattle.gate_model.specs.declared.submission.Body.TheVariants.{Shutdown}
-use Rattle.gate_model.specs.declared.record.Outcome.TheVariants.{Accepted}
-use Rattle.gate_model.specs.Meaning.{Judged, outcome_at}
-use Rattle.gate_applier.proofs.BookSteps.{follow-same, stand-judged, supported-other, follow-shutdown}
+use Rattle.std.proofs.Common.{rules, ◌≡◌, refl}
+use mir.Syntax.{w16}
+use mir.Val.{to_z, of_z}
 use Rattle.gate_applier.proofs.books.Books.judge.Goals as goal
 
-pub returns-in-Result-clause-stands : goal.returns-in-Result-clause-stands
-returns-in-Result-clause-stands c = λ before stands.
-    stand-judged c.args.table.now before c.args.applied.now c.judge_result.result c.args.self.now c.judge_result.new.self
-    (search (rules, c.judge_result.ensures.outcome))
-    (follow-same c.args.table.now c.args.applied.now.item.body c.judge_result.result c.args.self.now c.judge_result.new.self (c.judge_result.ensures.follows []) (λ moment log_index. rw c.in-Result.is (search rules)))
-    stands
+pub returns-in-Result-clause-judged : goal.returns-in-Result-clause-judged
+returns-in-Result-clause-judged c =
+    let code : to_z w16 (of_z w16 c.in-Result.code) ≡ c.in-Result.code = search rules in
+    rw c.in-Result.is (λ before stand. rw code at (c.judge_result.ensures.judged c.in-Result.output before stand))
 
-pub returns-in_default : goal.returns-in_default
-returns-in_default c =
-    let is : c.args.applied.now.item.body ≡ Shutdown = supported-other c.args.applied.now.item.body c.requires.supported c.in_default.not-Result in
-    let accepted = λ (before : List Judged). sym (ap (outcome_at c.args.table.now before c.args.applied.now.moment) is) in
-    record {
-      outcome = λ before stands. accepted before;
-      stands = λ before stands. stand-judged c.args.table.now before c.args.applied.now Accepted c.args.self.now c.args.self.now (accepted before) (follow-shutdown c.args.table.now c.args.applied.now.item.body c.args.self.now is) stands;
-      count = refl;
-    }
+pub returns-in-AddComment-clause-judged : goal.returns-in-AddComment-clause-judged
+returns-in-AddComment-clause-judged c = rw c.in-AddComment.is (λ before stand. c.judge_comment.ensures.judged _ c.in-AddComment.author c.in-AddComment.text before stand)
+
+pub returns-in-DelComment-clause-judged : goal.returns-in-DelComment-clause-judged
+returns-in-DelComment-clause-judged c = rw c.in-DelComment.is (λ before stand. c.judge_comment_deletion.ensures.judged _ _ _ before stand)
+
+pub returns-in-DelAllComments-clause-judged : goal.returns-in-DelAllComments-clause-judged
+returns-in-DelAllComments-clause-judged c = rw c.in-DelAllComments.is (λ before stand. c.judge_deletion_of_all.ensures.judged _ _ before stand)
+
+pub returns-in-Acknowledge-clause-judged : goal.returns-in-Acknowledge-clause-judged
+returns-in-Acknowledge-clause-judged c = rw c.in-Acknowledge.is (λ before stand. c.judge_acknowledgement.ensures.judged _ c.in-Acknowledge.notify c.in-Acknowledge.author c.in-Acknowledge.text before stand)
+
+pub returns-in-RemoveAck-clause-judged : goal.returns-in-RemoveAck-clause-judged
+returns-in-RemoveAck-clause-judged c = rw c.in-RemoveAck.is (λ before stand. c.judge_removal.ensures.judged _ _ before stand)
+
+pub returns-in-Schedule-clause-judged : goal.returns-in-Schedule-clause-judged
+returns-in-Schedule-clause-judged c = rw c.in-Schedule.is (λ before stand. c.judge_schedule.ensures.judged _ c.in-Schedule.fixed c.in-Schedule.author c.in-Schedule.text refl before stand)
+
+pub returns-in-DelDowntime-clause-judged : goal.returns-in-DelDowntime-clause-judged
+returns-in-DelDowntime-clause-judged c = rw c.in-DelDowntime.is (λ before stand. c.judge_downtime_deletion.ensures.judged _ _ _ before stand)

@@ -1,9 +1,0 @@
-use Rattle.std.proofs.Common.{◌≡◌, ◌++◌, length}
-use Rattle.gate_applier.specs.Page.{escaped}
-use Rattle.gate_applier.proofs.page.push_escaped.Given as goal
-
-abbrev pub invariant-loop-run : goal.invariant-loop-run
-invariant-loop-run l = l.out.items ++ escaped l.rest ≡ l.fn.out.items ++ escaped l.fn.text
-
-abbrev pub decreases-loop-run : goal.decreases-loop-run
-decreases-loop-run l = length l.rest
