@@ -1,0 +1,3 @@
+pub mod EscapeSteps
+pub mod LineSteps
+mod StatusExamples

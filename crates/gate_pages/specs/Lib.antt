@@ -1,0 +1,4 @@
+pub mod Escaping
+pub mod LogPage
+pub mod Rows
+pub mod StatusPage

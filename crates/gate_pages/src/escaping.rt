@@ -1,0 +1,49 @@
+//! How a page shows a text of any bytes.
+
+ghost use Rattle.std.specs.Prelude.{◌≡◌, ◌++◌, ◌<◌, length, position, IfSome, OnOk};
+ghost use Rattle.gate_pages.specs.Escaping.{is_escaped, escape_of, escaped};
+
+use std::alloc::AllocError;
+
+const HEX: [u8; 16] = *b"0123456789abcdef";
+
+/// Whether a page shows the byte by an escape.
+fn is_escaped(byte: u8) -> bool
+    ensures { result ≡ is_escaped byte }
+{
+    byte == b'\\' || byte < 0x20 || byte == 0x7f
+}
+
+/// Appends the escape of a byte that has one.
+fn push_escape(out: &mut Vec<u8>, byte: u8) -> Result<(), AllocError>
+    ensures { OnOk result (out.new.items ≡ out.old.items ++ escape_of byte) }
+{
+    if byte == b'\\' {
+        out.extend_from_slice(b"\\\\")
+    } else {
+        let high = HEX[(byte / 16) as usize];
+        let low = HEX[(byte % 16) as usize];
+        out.extend_from_slice(&[b'\\', b'x', high, low])
+    }
+}
+
+/// The index of the first byte that has an escape.
+fn first_escaped(text: &[u8]) -> Option<usize>
+    ensures first { result ≡ position is_escaped text.now }
+    ensures within { IfSome result (λ index. index < length text.now) }
+{
+    text.iter().position(|byte| is_escaped(*byte))
+}
+
+/// Appends a text as a page shows it, each run of bytes without an escape at once.
+pub fn push_escaped(out: &mut Vec<u8>, text: &[u8]) -> Result<(), AllocError>
+    ensures { OnOk result (out.new.items ≡ out.old.items ++ escaped text.now) }
+{
+    let mut rest = text;
+    while let Some(run) = first_escaped(rest) {
+        out.extend_from_slice(&rest[..run])?;
+        push_escape(out, rest[run])?;
+        rest = &rest[run + 1..];
+    }
+    out.extend_from_slice(rest)
+}

@@ -1,0 +1,164 @@
+//! The lines of the status page.
+
+ghost use Rattle.std.specs.Prelude.{◌≡◌, ◌++◌, OnOk};
+ghost use Rattle.std.specs.List.{flat_map};
+ghost use Rattle.gate_pages.specs.StatusPage.{state_name, last_moment, freshness_name, acknowledgement_name, source_name, persistence_digit, plan_name, object_line, comment_line, downtime_line, closing_line};
+
+use crate::fields::{push_count, push_optional, push_service, push_text, push_word};
+use crate::rows::{CommentRow, DowntimeRow, ObjectRow};
+use gate_model::{Acknowledgement, CheckResult, Moment, Source, State};
+use std::alloc::AllocError;
+
+fn state_name(state: State) -> &'static [u8]
+    ensures { result.now ≡ state_name state }
+{
+    match state {
+        State::Pending => b"PENDING",
+        State::Ok => b"OK",
+        State::Warning => b"WARNING",
+        State::Critical => b"CRITICAL",
+        State::Unknown => b"UNKNOWN",
+        State::Up => b"UP",
+        State::Down => b"DOWN",
+        State::Unreachable => b"UNREACHABLE",
+    }
+}
+
+fn last_moment(last: Option<CheckResult>) -> Option<u32>
+    ensures { result ≡ last_moment last }
+{
+    match last {
+        None => None,
+        Some(last) => Some(last.moment.0),
+    }
+}
+
+fn freshness_name(stale: bool) -> &'static [u8]
+    ensures { result.now ≡ freshness_name stale }
+{
+    if stale { b"stale" } else { b"fresh" }
+}
+
+fn acknowledgement_name(acknowledgement: Option<Acknowledgement>) -> &'static [u8]
+    ensures { result.now ≡ acknowledgement_name acknowledgement }
+{
+    match acknowledgement {
+        None => b"-",
+        Some(made) => { if made.sticky { b"sticky" } else { b"normal" } }
+    }
+}
+
+fn source_name(source: Source) -> &'static [u8]
+    ensures { result.now ≡ source_name source }
+{
+    match source {
+        Source::User => b"user",
+        Source::Ack => b"ack",
+        Source::Downtime(_) => b"downtime",
+    }
+}
+
+fn persistence_digit(persistent: bool) -> &'static [u8]
+    ensures { result.now ≡ persistence_digit persistent }
+{
+    if persistent { b"1" } else { b"0" }
+}
+
+fn plan_name(fixed: bool) -> &'static [u8]
+    ensures { result.now ≡ plan_name fixed }
+{
+    if fixed { b"fixed" } else { b"flexible" }
+}
+
+fn push_object(out: &mut Vec<u8>, row: &ObjectRow) -> Result<(), AllocError>
+    ensures { OnOk result (out.new.items ≡ out.old.items ++ object_line row.now) }
+{
+    out.extend_from_slice(b"object")?;
+    push_text(out, &row.host)?;
+    push_service(out, &row.service)?;
+    push_word(out, state_name(row.state))?;
+    push_optional(out, last_moment(row.last))?;
+    push_word(out, freshness_name(row.stale))?;
+    push_word(out, acknowledgement_name(row.acknowledgement))?;
+    push_count(out, row.depth)?;
+    push_text(out, &row.output)?;
+    out.extend_from_slice(b"\n")
+}
+
+fn push_comment(out: &mut Vec<u8>, row: &CommentRow) -> Result<(), AllocError>
+    ensures { OnOk result (out.new.items ≡ out.old.items ++ comment_line row.now) }
+{
+    out.extend_from_slice(b"comment")?;
+    push_count(out, row.comment.id)?;
+    push_text(out, &row.host)?;
+    push_service(out, &row.service)?;
+    push_word(out, source_name(row.comment.source))?;
+    push_word(out, persistence_digit(row.comment.persistent))?;
+    push_count(out, row.moment.0)?;
+    push_text(out, &row.author)?;
+    push_text(out, &row.text)?;
+    out.extend_from_slice(b"\n")
+}
+
+fn push_downtime(out: &mut Vec<u8>, row: &DowntimeRow) -> Result<(), AllocError>
+    ensures { OnOk result (out.new.items ≡ out.old.items ++ downtime_line row.now) }
+{
+    let plan = row.scheduled.plan;
+    out.extend_from_slice(b"downtime")?;
+    push_count(out, row.scheduled.id)?;
+    push_text(out, &row.host)?;
+    push_service(out, &row.service)?;
+    push_word(out, plan_name(plan.fixed))?;
+    push_count(out, plan.trigger)?;
+    push_count(out, plan.starts.0)?;
+    push_count(out, plan.ends.0)?;
+    push_count(out, plan.lasts)?;
+    push_optional(out, row.begin)?;
+    push_text(out, &row.author)?;
+    push_text(out, &row.text)?;
+    out.extend_from_slice(b"\n")
+}
+
+/// Appends a line for each object.
+pub fn push_objects(out: &mut Vec<u8>, rows: &[ObjectRow]) -> Result<(), AllocError>
+    ensures { OnOk result (out.new.items ≡ out.old.items ++ flat_map object_line rows.now) }
+{
+    for row in rows {
+        push_object(out, row)?;
+    }
+    Ok(())
+}
+
+/// Appends a line for each comment.
+pub fn push_comments(out: &mut Vec<u8>, rows: &[CommentRow]) -> Result<(), AllocError>
+    ensures { OnOk result (out.new.items ≡ out.old.items ++ flat_map comment_line rows.now) }
+{
+    for row in rows {
+        push_comment(out, row)?;
+    }
+    Ok(())
+}
+
+/// Appends a line for each downtime entry.
+pub fn push_downtimes(out: &mut Vec<u8>, rows: &[DowntimeRow]) -> Result<(), AllocError>
+    ensures { OnOk result (out.new.items ≡ out.old.items ++ flat_map downtime_line rows.now) }
+{
+    for row in rows {
+        push_downtime(out, row)?;
+    }
+    Ok(())
+}
+
+/// Appends the line of the close, where there is one.
+pub fn push_closing(out: &mut Vec<u8>, closing: Option<Moment>) -> Result<(), AllocError>
+    ensures { OnOk result (out.new.items ≡ out.old.items ++ closing_line closing) }
+{
+    match closing {
+        None => Ok(()),
+        Some(moment) => {
+            out.extend_from_slice(b"closing")?;
+            push_count(out, moment.0)?;
+            out.extend_from_slice(b"\n")
+        }
+    }
+}
