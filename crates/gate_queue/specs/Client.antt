@@ -6,8 +6,8 @@ use Rattle.gate_model.specs.declared.submission.Body.{Body}
 use Rattle.gate_model.specs.declared.submission.Numbered.{Numbered}
 use Rattle.gate_core.specs.Limits.{Limits}
 use Rattle.gate_core.specs.Merge.{IsCoreState}
-use Rattle.gate_queue.specs.declared.client.Refused.{Refused}
-use Rattle.gate_queue.specs.declared.client.Refused.TheVariants.{Closing, Spent, Full}
+use Rattle.gate_core.specs.declared.submit.Refused.{Refused}
+use Rattle.gate_core.specs.declared.submit.Refused.TheVariants.{Closing, Spent, Full}
 use Rattle.gate_queue.specs.Gate.{GateId}
 
 -- a client, or one that has ended: its gate, its number, what it was answered is queued, and the moment of the close, once it knows of it

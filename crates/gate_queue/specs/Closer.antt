@@ -1,8 +1,8 @@
 -- What contracts see of a notice, and why a gate is not closed. Own rules.
 use Rattle.std.specs.Prelude.{◌≡◌, ℕ, Some, None, IfSome}
 use Rattle.gate_model.specs.declared.record.Moment.{Moment}
-use Rattle.gate_queue.specs.declared.closer.CloseFault.{CloseFault}
-use Rattle.gate_queue.specs.declared.closer.CloseFault.TheVariants.{AlreadyClosing, OutOfMemory}
+use Rattle.gate_core.specs.declared.submit.CloseFault.{CloseFault}
+use Rattle.gate_core.specs.declared.submit.CloseFault.TheVariants.{AlreadyClosing, OutOfMemory}
 use Rattle.gate_queue.specs.Knowledge.{CloseKnowledge, close_knowledge}
 
 -- a notice: of which close cell it is, and the moment of the close

@@ -3,5 +3,8 @@ pub mod Knowledge
 pub mod Closer
 pub mod Client
 pub mod Taker
+pub mod GateClient
+pub mod GateOperator
+pub mod DrainedClose
 pub mod Opening
 pub mod inner

@@ -38,6 +38,10 @@ abbrev pub AllowsAfter : Limits → List Numbered → List EndedList → List Nu
 AllowsAfter limits taken ended queue =
     (sent : ℕ → List Numbered) × IsCoreState limits.clients limits.quota limits.capacity sent taken queue × AreListsOf sent ended
 
+-- what was taken, followed by what the queue may hold, is a merge of what was queued for the clients: nothing is lost, made or out of order
+abbrev pub IsConserved : TakerState → Type 0
+IsConserved taker = (queue : List Numbered) × AllowsAfter taker.gate.limits taker.taken taker.ended queue
+
 -- the item was taken, and it is the next of its client
 abbrev pub TakesOne : Numbered → TakerState → TakerState → Type 0
 TakesOne x old new =

@@ -1,5 +1,6 @@
-ghost use Rattle.std.specs.Prelude.{◌≡◌, ◌+◌, [], ◌∷◌, ◌++◌, length, IfOk, IfErr, IfSome, OnOk, Some, None};
+ghost use Rattle.std.specs.Prelude.{◌≡◌, ◌+◌, [], ◌∷◌, ◌++◌, length, IfOk, IfErr, IfSome, OnOk, Some, None, is_some};
 ghost use Rattle.gate_core.specs.Merge.{numbered};
+ghost use Rattle.gate_queue.specs.Knowledge.{close_knowledge, Learns};
 ghost use Rattle.gate_queue.specs.Client.{client_state};
 
 use crate::closer::Notice;
@@ -7,25 +8,10 @@ use crate::gate::Gate;
 use crate::knowledge::Knowledge;
 use crate::rule::{Push, View};
 use crossbeam_queue::Pass;
+use gate_core::Refused;
 use gate_model::{Body, Moment, Numbered};
 use std::marker::Model;
 use std::sync::Wait;
-use thiserror::Error;
-
-/// Why a submission was refused. The body is returned. The first that applies is reported. Own
-/// rules.
-#[derive(Debug, Drop, Error)]
-pub enum Refused {
-    /// The gate is closing, since this moment.
-    #[error("the gate is closing")]
-    Closing(Moment, Body),
-    /// As many items as the quota allows were queued for this client.
-    #[error("the client's quota is used up")]
-    Spent(Body),
-    /// The queue held as many items as it may.
-    #[error("the queue is full")]
-    Full(Body),
-}
 
 /// A client, which submits to a gate. Contracts see its gate, its number, what it was answered is
 /// queued, and the moment of the close, once it knows of it.
@@ -119,6 +105,23 @@ impl Client {
         self.knowledge.learn(notice.knowledge.again());
     }
 
+    /// What the client knows of the close, for another part.
+    pub(crate) fn known(&self) -> Knowledge
+        ensures { result ≡ close_knowledge self.now.gate.cell self.now.known_close }
+    {
+        self.knowledge.again()
+    }
+
+    /// Learns what another part of the gate knows of the close.
+    pub(crate) fn learn_from(&mut self, other: Knowledge)
+        requires { other.cell ≡ self.old.gate.cell }
+        ensures same { self.new ≡ client_state
+            self.old.gate self.old.number self.old.queued self.new.known_close }
+        ensures known { Learns other.known_close self.old.known_close self.new.known_close }
+    {
+        self.knowledge.learn(other);
+    }
+
     /// How many items were queued for this client.
     pub fn count(&self) -> u64
         ensures { result ≡ length self.now.queued }
@@ -161,6 +164,13 @@ impl Ended {
         ensures { result ≡ self.now.number }
     {
         self.client.number()
+    }
+
+    /// Whether the client knew of the close.
+    pub(crate) fn knows_of_close(&self) -> bool
+        ensures { result ≡ is_some self.now.known_close }
+    {
+        self.client.knowledge.moment().is_some()
     }
 
     pub(crate) fn into_client(self) -> Client

@@ -1,24 +1,13 @@
 ghost use Rattle.std.specs.Prelude.{◌≡◌, IfOk, IfErr, IfSome, Some, None};
-ghost use Rattle.gate_queue.specs.Knowledge.{close_knowledge};
+ghost use Rattle.gate_queue.specs.Knowledge.{close_knowledge, Learns};
 ghost use Rattle.gate_queue.specs.Closer.{notice_of};
 
 use crate::gate::Gate;
 use crate::knowledge::Knowledge;
+use gate_core::CloseFault;
 use gate_model::Moment;
 use std::alloc::Global;
 use std::marker::Model;
-use thiserror::Error;
-
-/// Why a gate was not closed. Own rules.
-#[derive(Clone, Copy, Debug, Error, PartialEq, Eq)]
-pub enum CloseFault {
-    /// Another close was first, at this moment.
-    #[error("the gate is closing already")]
-    AlreadyClosing(Moment),
-    /// There is no room for the close's moment. Nothing was closed.
-    #[error("out of memory")]
-    OutOfMemory,
-}
 
 /// The right to close a gate. Contracts see what it knows of the gate's close.
 #[derive(Drop)]
@@ -77,6 +66,22 @@ impl Closer {
         ensures same { IfSome self.old.known_close (λ known. known ≡ notice.now.moment) }
     {
         self.knowledge.learn(notice.knowledge.again());
+    }
+
+    /// Learns what another part of the gate knows of the close.
+    pub(crate) fn learn_from(&mut self, other: Knowledge)
+        requires { other.cell ≡ self.old.cell }
+        ensures cell { self.new.cell ≡ self.old.cell }
+        ensures known { Learns other.known_close self.old.known_close self.new.known_close }
+    {
+        self.knowledge.learn(other);
+    }
+
+    /// What the closer knows of the close, for another part.
+    pub(crate) fn known(&self) -> Knowledge
+        ensures { result ≡ self.now }
+    {
+        self.knowledge.again()
     }
 
     /// One more right to close the gate. It knows what this one knows.

@@ -78,6 +78,13 @@ impl Knowledge {
         }
     }
 
+    /// The moment of the close, if it is known.
+    pub(crate) fn moment(&self) -> Option<Moment>
+        ensures { result ≡ self.now.known_close }
+    {
+        self.moment
+    }
+
     /// The same knowledge, for another part. It takes no memory.
     pub(crate) fn again(&self) -> Knowledge
         ensures { result ≡ self.now }

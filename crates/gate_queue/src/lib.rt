@@ -6,14 +6,24 @@
 
 mod client;
 mod closer;
+mod drained_close;
+mod draining;
 mod gate;
+mod gate_client;
+mod gate_operator;
 mod knowledge;
+mod law;
 mod opening;
 mod rule;
 mod taker;
 
-pub use client::{Client, Ended, Refused};
-pub use closer::{CloseFault, Closer, Notice};
+pub use client::{Client, Ended};
+pub use closer::{Closer, Notice};
+pub use drained_close::{CloseAllCause, CloseAllFault, Closed, close_all};
 pub use gate::Gate;
+pub use gate_client::GateClient;
+pub use gate_core::{CloseFault, Refused};
+pub use gate_operator::GateOperator;
+pub use law::conservation;
 pub use opening::{open, open_with};
 pub use taker::Taker;

@@ -1,5 +1,6 @@
-ghost use Rattle.std.specs.Prelude.{◌≡◌, ◌↔◌, IsTrue, IsSome, IfSome, IfNone, Some};
+ghost use Rattle.std.specs.Prelude.{◌≡◌, ◌↔◌, IsTrue, IsSome, IfSome, IfNone, Some, ◌<◌, ◌≤◌, length};
 ghost use Rattle.gate_queue.specs.Taker.{taker_state, queued_of, TakesOne, HasAll, BeginsEach, TakesIn};
+ghost use Rattle.gate_queue.specs.inner.Draining.{total_counted};
 
 use crate::client::{Client, Ended};
 use crate::closer::Notice;
@@ -39,6 +40,10 @@ impl Model for Taker {
 }
 
 impl Taker {
+    ghost use Rattle.gate_core.specs.Merge.{IsMerge};
+    ghost use Rattle.gate_queue.specs.DrainedClose.{LeavesSome};
+    ghost use Rattle.gate_queue.specs.inner.Draining.{AllTakenIn, list_of, total_queued};
+
     /// Takes the oldest item of the queue, or nothing where the queue is empty.
     ///
     /// It waits while other threads are in the midst of a step at the queue.
@@ -104,4 +109,45 @@ impl Taker {
         }
         counts[client as usize - 1].is_some()
     }
+
+    // How many items were queued for all clients.
+    pub(crate) fn total_queued(&self) -> u64
+        requires { AllTakenIn self.now }
+        ensures { result ≡ total_queued self.now.ended self.now.gate.limits.clients }
+    {
+        total(self.counts.as_slice())
+    }
+
+    // Where as many items were taken as were queued, all were taken.
+    pub(crate) fn shows_all(&self)
+        requires all { AllTakenIn self.now }
+        requires count { total_queued self.now.ended self.now.gate.limits.clients
+            ≤ length self.now.taken }
+        ensures { IsMerge self.now.gate.limits.clients (list_of self.now.ended) self.now.taken }
+    {
+        let _ = &self.pass;
+    }
+
+    // Where fewer items were taken than were queued, one is left.
+    pub(crate) fn shows_some(&self)
+        requires all { AllTakenIn self.now }
+        requires count { length self.now.taken
+            < total_queued self.now.ended self.now.gate.limits.clients }
+        ensures { LeavesSome
+            self.now.gate.limits.clients (list_of self.now.ended) self.now.taken }
+    {
+        let _ = &self.pass;
+    }
+}
+
+// The counts of clients, added up.
+fn total(counts: &[Option<u32>]) -> u64
+    requires { length counts.now ≤ 64 }
+    ensures { result ≡ total_counted counts.now (length counts.now) }
+{
+    let mut total = 0u64;
+    for count in counts {
+        total += u64::from(count.unwrap_or(0));
+    }
+    total
 }
