@@ -1,0 +1,10 @@
+pub mod Readings
+pub mod Serving
+pub mod Writing
+pub mod Blocks
+pub mod Sessions
+pub mod PacketSessions
+pub mod KeptLines
+pub mod LineCuts
+pub mod LineSteps
+pub mod LineProgress

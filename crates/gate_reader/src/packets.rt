@@ -1,0 +1,260 @@
+ghost use Rattle.std.specs.Prelude.{◌≡◌, ◌<◌, ◌≤◌, [], length, IfOk, IfErr, OnOk, OnErr, IfSome};
+ghost use Rattle.gate_reader.specs.Source.{source_state};
+ghost use Rattle.gate_reader.specs.Sink.{sink_state, Delivers, FailsOnce};
+ghost use Rattle.gate_reader.specs.Report.{AreOpen};
+ghost use Rattle.gate_reader.specs.Session.{client_view, parties, IsSession, AnswersFront};
+ghost use Rattle.gate_reader.specs.Packets.{greeting, packets, IsPacketSession};
+ghost use Rattle.gate_reader.specs.inner.Progress.{AnswersOneBlock, IsLastBlock, stop_by, ServesFront};
+
+use crate::clock::Clock;
+use crate::report::{Answer, Answers, Report, SessionLimits, Stop};
+use crate::sink::Sink;
+use crate::source::Source;
+use crate::submitting::{is_open, submit_body};
+use gate_core::Submit;
+use gate_model::Moment;
+use gate_packet::{Cutter, PACKET_SIZE, PacketFault, decode};
+use std::alloc::Global;
+use std::io;
+
+// How many bytes a read may give.
+const PIECE: usize = 65536;
+
+// Reads a block as a packet and submits its result. An error ends the session.
+fn serve_block<C: Clock, S: Submit>(
+    alloc: Global,
+    block: &[u8; PACKET_SIZE],
+    clock: &mut C,
+    client: &mut S,
+    greatest_age: u32,
+) -> Result<Answer, PacketFault>
+    ensures ok { let view = client_view S.stands S.knows S.answers (S.named client.old) in
+        IfOk result (λ answer. AnswersOneBlock view greatest_age
+        (parties client.old (C.readings clock.old)) block.now answer
+        (parties client.new (C.readings clock.new))) }
+    ensures err { IfErr result (λ fault. IsLastBlock greatest_age block.now fault
+        (parties client.old (C.readings clock.old)) (parties client.new (C.readings clock.new))) }
+    ensures named { S.named client.new ≡ S.named client.old }
+    ensures keeps { S.keeps client.old client.new }
+{
+    let now = clock.now();
+    match decode(alloc, block, now, greatest_age) {
+        Ok(packet) => Ok(submit_body(client, packet.into_body())),
+        Err(PacketFault::Stale) => Ok(Answer::Stale),
+        Err(PacketFault::EmptyHost) => Ok(Answer::EmptyHost),
+        Err(fault) => Err(fault),
+    }
+}
+
+// How a fault ends a session.
+fn stop_of(fault: PacketFault) -> Stop
+    ensures { result ≡ stop_by fault }
+{
+    match fault {
+        PacketFault::OutOfMemory => Stop::OutOfMemory,
+        fault => Stop::BadPacket(fault),
+    }
+}
+
+// Serves the blocks that are held.
+fn serve_held<C: Clock, S: Submit>(
+    alloc: Global,
+    cutter: &mut Cutter,
+    clock: &mut C,
+    client: &mut S,
+    items: u32,
+    greatest_age: u32,
+    answers: &mut Vec<Answer>,
+) -> Option<Stop>
+    requires within { length answers.old.items ≤ items }
+    requires open { AreOpen answers.old.items }
+    ensures served { let view = client_view S.stands S.knows S.answers (S.named client.old) in
+        ServesFront view (packets view items greatest_age) items
+        (parties client.old (C.readings clock.old)) (parties client.new (C.readings clock.new))
+        answers.old.items answers.new.items cutter.old (λ rest. cutter.new ≡ rest) result }
+    ensures named { S.named client.new ≡ S.named client.old }
+    ensures keeps { S.keeps client.old client.new }
+{
+    while let Some(block) = cutter.next_packet() {
+        if answers.len() >= items as usize {
+            return Some(Stop::TooMany);
+        }
+        if answers.reserve(1).is_err() {
+            return Some(Stop::OutOfMemory);
+        }
+        match serve_block(alloc, &block, clock, client, greatest_age) {
+            Ok(answer) => {
+                let is_last = !is_open(&answer);
+                answers.push_reserved(answer);
+                if is_last {
+                    return Some(Stop::Shutdown);
+                }
+            }
+            Err(fault) => return Some(stop_of(fault)),
+        }
+    }
+    None
+}
+
+// How a session stops at the end of its input, of which so many bytes are no whole item.
+pub(crate) fn stop_at_end(rest: usize) -> Stop
+    ensures end { rest ≡ 0 → result ≡ Stop.End }
+    ensures truncated { 0 < rest → result ≡ Stop.Truncated rest }
+{
+    if rest == 0 {
+        Stop::End
+    } else {
+        Stop::Truncated(rest)
+    }
+}
+
+// Reads and serves the packets of the input.
+fn read_packets<R: Source, C: Clock, S: Submit>(
+    alloc: Global,
+    reader: &mut R,
+    clock: &mut C,
+    client: &mut S,
+    limits: SessionLimits,
+    greatest_age: u32,
+    answers: &mut Vec<Answer>,
+) -> Stop
+    requires none { answers.old.items ≡ [] }
+    ensures served { let view = client_view S.stands S.knows S.answers (S.named client.old) in
+        let source = source_state R.remaining R.tally in
+        IsSession view (packets view limits.items greatest_age) limits
+        (parties client.old (C.readings clock.old)) (parties client.new (C.readings clock.new))
+        (source reader.old) (source reader.new) answers.new.items result }
+    ensures named { S.named client.new ≡ S.named client.old }
+    ensures keeps { S.keeps client.old client.new }
+{
+    let mut cutter = Cutter::new(alloc);
+    let mut piece = [0; PIECE];
+    for _ in 0..limits.reads {
+        let count = match reader.take_some(&mut piece) {
+            Err(_) => return Stop::ReadFault,
+            Ok(0) => return stop_at_end(cutter.rest()),
+            Ok(count) => count,
+        };
+        if cutter.feed(&piece[..count]).is_err() {
+            return Stop::OutOfMemory;
+        }
+        match serve_held(
+            alloc,
+            &mut cutter,
+            clock,
+            client,
+            limits.items,
+            greatest_age,
+            answers,
+        ) {
+            Some(stop) => return stop,
+            None => {}
+        }
+    }
+    Stop::ReadFault
+}
+
+// 128 zeros and the moment.
+fn greeting_of(now: Moment) -> [u8; 132]
+    ensures { result ≡ greeting now }
+{
+    let mut bytes = [0; 132];
+    bytes[128..].copy_from_slice(&now.0.to_be_bytes());
+    bytes
+}
+
+// Writes and delivers the greeting.
+fn greet<W: Sink>(writer: &mut W, now: Moment) -> io::Result<()>
+    ensures ok { let sink = sink_state W.contents W.pending W.failures in
+        OnOk result (Delivers (sink writer.old) (sink writer.new) (greeting now)) }
+    ensures err { let sink = sink_state W.contents W.pending W.failures in
+        OnErr result (FailsOnce (sink writer.old) (sink writer.new)) }
+{
+    writer.put(&greeting_of(now))?;
+    writer.deliver()
+}
+
+// Greets, and reads and serves the packets of the input.
+fn serve<R: Source, W: Sink, C: Clock, S: Submit>(
+    alloc: Global,
+    reader: &mut R,
+    writer: &mut W,
+    clock: &mut C,
+    client: &mut S,
+    limits: SessionLimits,
+    greatest_age: u32,
+) -> Report
+    ensures session { let view = client_view S.stands S.knows S.answers (S.named client.old) in
+        let source = source_state R.remaining R.tally in
+        let sink = sink_state W.contents W.pending W.failures in
+        IsPacketSession view limits greatest_age
+        (parties client.old (C.readings clock.old)) (parties client.new (C.readings clock.new))
+        (source reader.old) (source reader.new) (sink writer.old) (sink writer.new)
+        result.answers result.stop }
+    ensures named { S.named client.new ≡ S.named client.old }
+    ensures keeps { S.keeps client.old client.new }
+{
+    let mut answers = Vec::new(alloc);
+    let now = clock.now();
+    if greet(writer, now).is_err() {
+        return Report {
+            answers: Answers::new(answers),
+            stop: Stop::WriteFault,
+        };
+    }
+    let stop = read_packets(
+        alloc,
+        reader,
+        clock,
+        client,
+        limits,
+        greatest_age,
+        &mut answers,
+    );
+    Report {
+        answers: Answers::new(answers),
+        stop,
+    }
+}
+
+/// Serves one connection of a sender: writes the greeting with the clock's moment, and then reads
+/// packets and submits the result of each, one after the other.
+///
+/// Each packet has one answer in the report: `Queued`, `Full`, `Spent` or `Closing` as the client
+/// answers its submission, or `Stale` or `EmptyHost` where it was dropped. The session stops at the
+/// end of the input (`End`, `Truncated`), at a packet with another fault (`BadPacket`), after the
+/// answer `Closing` (`Shutdown`), where a read failed or `limits.reads` reads were made
+/// (`ReadFault`), where the greeting can't be written (`WriteFault`), where `limits.items` packets
+/// were answered and one more is there (`TooMany`), and where memory runs out (`OutOfMemory`).
+///
+/// `greatest_age` is in seconds, and with 0 no packet is stale. The greeting takes the clock's
+/// first reading and each packet the next one. What waits is the reader, the writer or the client.
+///
+/// Source: `init_packet_struct` and `data_packet` of NSCA 2.9, `common.h`. Own rules: the answers
+/// and the stops.
+pub fn serve_packets<R: Source, W: Sink, C: Clock, S: Submit>(
+    alloc: Global,
+    reader: &mut R,
+    writer: &mut W,
+    clock: &mut C,
+    client: &mut S,
+    limits: SessionLimits,
+    greatest_age: u32,
+) -> Report
+    ensures session { let view = client_view S.stands S.knows S.answers (S.named client.old) in
+        let source = source_state R.remaining R.tally in
+        let sink = sink_state W.contents W.pending W.failures in
+        IsPacketSession view limits greatest_age
+        (parties client.old (C.readings clock.old)) (parties client.new (C.readings clock.new))
+        (source reader.old) (source reader.new) (sink writer.old) (sink writer.new)
+        result.answers result.stop }
+    // Where the reader's bytes are known, the answers are those of the packets at their front.
+    ensures stream { let view = client_view S.stands S.knows S.answers (S.named client.old) in
+        IfSome (R.remaining reader.old) (λ stream.
+        AnswersFront (packets view limits.items greatest_age) stream result.answers result.stop) }
+
+    ensures named { S.named client.new ≡ S.named client.old }
+    ensures keeps { S.keeps client.old client.new }
+{
+    serve(alloc, reader, writer, clock, client, limits, greatest_age)
+}
