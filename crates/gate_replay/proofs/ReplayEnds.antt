@@ -9,7 +9,7 @@ use Rattle.gate_model.specs.declared.record.Record.{Record}
 use Rattle.gate_model.specs.Record.{later}
 use Rattle.gate_model.specs.Meaning.{outcomes_of}
 use Rattle.gate_applier.specs.Applier.{ApplierView, opened}
-use Rattle.gate_applier.specs.Page.{log_text}
+use Rattle.gate_pages.specs.LogPage.{log_text}
 use Rattle.gate_replay.specs.declared.player.Player.{Player}
 use Rattle.gate_replay.specs.declared.script.Script.{Script}
 use Rattle.gate_replay.specs.Replay.{Arrival, answers, answered, records_of, arriving_in, items_in, recorded_by, printed_by, fault_in}
@@ -107,3 +107,19 @@ unwritten script b m a WriteFault h k = fails_then b.failures m.failures a.failu
 pub log_ends : (r : Result (Unit {0}) ReplayFault) (script : Script) (b m a : SinkState) (P : Type 0) → Fails b.failures m.failures 0 → OnOk r P → IfErr r (IsWriteEnd m a) → (P → EndsPlaying script b a None) → EndsPlaying script b a (fault_in r)
 log_ends (Ok x) script b m a P h ok err f = f ok
 log_ends (Err fault) script b m a P h ok err f = unwritten script b m a fault h err
+
+fault_is : (result : Result (Unit {0}) ReplayFault) (fault : ReplayFault) (script : Script) (b a : SinkState) → result ≡ Err fault → EndsPlaying script b a (Some fault) → EndsPlaying script b a (fault_in result)
+fault_is result fault script b a is ends = rw is ends
+
+-- the log page after a full log ends the replay
+pub full_ends : (printed result : Result (Unit {0}) ReplayFault) (player : Player) (applier : ApplierView) (script : Script) (b m a : SinkState) → Begins player script → StoppedEarly player applier script.steps.items b m
+    → OnOk printed (Delivers m a (log_text applier.records (outcomes_of applier.table applier.records))) → IfErr printed (IsWriteEnd m a)
+    → OnOk printed (result ≡ Err LogFull) → IfErr printed (λ other. result ≡ Err other) → EndsPlaying script b a (fault_in result)
+full_ends (Ok done) result player applier script b m a begins stopped ok err is other = fault_is result LogFull script b a is (finished_full player applier script b m a begins stopped ok)
+full_ends (Err fault) result player applier script b m a begins stopped ok err is other = fault_is result fault script b a other (unwritten script b m a fault stopped.none_failed err)
+
+-- the log page after memory ran out ends the replay
+pub memory_ends : (printed result : Result (Unit {0}) ReplayFault) (script : Script) (b m a : SinkState) → Fails b.failures m.failures 0
+    → IfErr printed (IsWriteEnd m a) → OnOk printed (result ≡ Err OutOfMemory) → IfErr printed (λ other. result ≡ Err other) → EndsPlaying script b a (fault_in result)
+memory_ends (Ok done) result script b m a none_failed err is other = fault_is result OutOfMemory script b a is tt
+memory_ends (Err fault) result script b m a none_failed err is other = fault_is result fault script b a other (unwritten script b m a fault none_failed err)

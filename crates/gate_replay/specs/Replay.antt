@@ -17,7 +17,7 @@ use Rattle.gate_replay.specs.declared.script.Step.TheVariants as step
 use Rattle.gate_replay.specs.declared.script.Script.{Script}
 use Rattle.gate_replay.specs.declared.fault.ReplayFault.{ReplayFault}
 use Rattle.gate_replay.specs.declared.fault.ReplayFault.TheVariants.{TooLong, Line, LogFull, OutOfMemory, ReadFault, WriteFault}
-use Rattle.gate_applier.specs.Page.{log_text}
+use Rattle.gate_pages.specs.LogPage.{log_text}
 use Rattle.gate_replay.specs.Script.{parsed_lines, IsScript, IsFirstFaultyLine}
 use Rattle.gate_replay.specs.Sink.{SinkState, Delivers, FailsOnce}
 use Rattle.gate_replay.specs.Fault.{status_at_end, message_of}

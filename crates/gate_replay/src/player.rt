@@ -2,7 +2,6 @@ ghost use Rattle.std.specs.Prelude.{◌≡◌, ◌≤◌, [], ◌∷◌, false, 
 ghost use Rattle.std.specs.Bool.{MatchBool};
 ghost use Rattle.gate_packet.specs.Packet.{reported_body};
 ghost use Rattle.gate_packet.specs.Decoding.{is_stale};
-ghost use Rattle.gate_applier.specs.Applier.{is_supported};
 ghost use Rattle.gate_applier.specs.Applier.{opened};
 ghost use Rattle.gate_replay.specs.declared.script.Step.{Step};
 ghost use Rattle.gate_replay.specs.Replay.{queued_line};
@@ -49,7 +48,6 @@ fn received(
 ) -> Result<Option<Body>, AllocError>
     ensures body { IfOk result (λ body. body ≡ (if is_stale packet.now.timestamp now.0 greatest_age
         then None else Some (reported_body packet.now))) }
-    ensures taken { IfOk result (λ body. IfSome body (λ b. IsTrue (is_supported b))) }
 {
     match round_trip(alloc, packet, now, greatest_age) {
         Ok(packet) => Ok(Some(packet.into_body())),
@@ -112,7 +110,6 @@ impl Player {
     fn apply(self, body: Body, number: u64) -> Result<Player, Stopped>
         requires number { number ≡ next_of self }
         requires few { length self.applier.records ≤ self.applier.limit }
-        requires taken { IsTrue (is_supported body) }
         ensures item { IfOk result (λ now. TakesItem self now body) }
         ensures stopped { IfErr result (StopsBy
             (λ applier. (length self.applier.records ≡ self.applier.limit)
@@ -154,7 +151,6 @@ impl Player {
     }
 
     fn queue<W: Sink>(self, body: Body, output: &mut W) -> Result<Player, Stopped>
-        requires { IsTrue (is_supported body) }
         ensures item { IfOk result (λ now. TakesItem self now body) }
         ensures printed { let state = sink_state W.contents W.pending W.failures in
             OnOk result (Writes (state output.old) (state output.new)

@@ -1,6 +1,6 @@
 ghost use Rattle.std.specs.Prelude.{◌≡◌, ◌≤◌, length, IfOk, IfErr, OnOk};
 ghost use Rattle.gate_model.specs.Meaning.{outcomes_of};
-ghost use Rattle.gate_applier.specs.Page.{log_text};
+ghost use Rattle.gate_pages.specs.LogPage.{log_text};
 ghost use Rattle.gate_replay.specs.Sink.{sink_state, Delivers, IsDelivered, Fails};
 ghost use Rattle.std.specs.Io.KnownBytes.{Keeps};
 ghost use Rattle.gate_replay.specs.Replay.{IsWholeInput, fault_in, EndsWith, IsReplayRun};
@@ -10,7 +10,8 @@ use crate::fault::{ReplayFault, read_fault, write_fault};
 use crate::player::{Player, Stopped, print};
 use crate::script::{Script, read_script};
 use crate::sink::Sink;
-use gate_applier::{Applier, log_page};
+use gate_applier::Applier;
+use gate_pages::log_page;
 use std::alloc::Global;
 use std::io::Read;
 
@@ -68,6 +69,15 @@ fn print_log<W: Sink>(alloc: Global, applier: &Applier, output: &mut W) -> Resul
     }
 }
 
+// The fault after which the log was printed, unless printing it failed.
+fn fault_after(printed: Result<(), ReplayFault>, fault: ReplayFault) -> Result<(), ReplayFault>
+    ensures ok { OnOk printed (result ≡ Err fault) }
+    ensures err { IfErr printed (λ other. result ≡ Err other) }
+{
+    printed?;
+    Err(fault)
+}
+
 // Plays a script, and prints the log of what was applied, unless a write failed.
 fn run<W: Sink>(alloc: Global, script: Script, output: &mut W) -> Result<(), ReplayFault>
     ensures { let state = sink_state W.contents W.pending W.failures in
@@ -78,12 +88,12 @@ fn run<W: Sink>(alloc: Global, script: Script, output: &mut W) -> Result<(), Rep
     match player.play(alloc, &steps, output) {
         Ok(player) => print_log(alloc, &player.applier, output),
         Err(Stopped::Full(applier)) => {
-            print_log(alloc, &applier, output)?;
-            Err(ReplayFault::LogFull)
+            let printed = print_log(alloc, &applier, output);
+            fault_after(printed, ReplayFault::LogFull)
         }
         Err(Stopped::OutOfMemory(applier)) => {
-            print_log(alloc, &applier, output)?;
-            Err(ReplayFault::OutOfMemory)
+            let printed = print_log(alloc, &applier, output);
+            fault_after(printed, ReplayFault::OutOfMemory)
         }
         Err(Stopped::Unwritten(fault)) => Err(fault),
     }

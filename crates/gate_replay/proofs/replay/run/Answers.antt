@@ -1,7 +1,7 @@
 use Rattle.gate_model.specs.Meaning.{outcomes_of}
-use Rattle.gate_applier.specs.Page.{log_text}
+use Rattle.gate_pages.specs.LogPage.{log_text}
 use Rattle.gate_replay.specs.Sink.{sink_state, Delivers}
-use Rattle.gate_replay.proofs.ReplayEnds.{Begins, finished, finished_full, log_ends}
+use Rattle.gate_replay.proofs.ReplayEnds.{Begins, finished, log_ends, full_ends, memory_ends}
 use Rattle.gate_replay.proofs.replay.run.Goals as goal
 
 pub returns-in-Ok : goal.returns-in-Ok
@@ -18,5 +18,12 @@ pub returns-in-Err-Full : goal.returns-in-Err-Full
 returns-in-Err-Full g c =
     let state = sink_state g.W.Write.contents g.W.Sink.pending g.W.Sink.failures in
     let begins : Begins c.in_ok-player.player c.args.script = record { applier = c.in_ok-player.ensures.applier; clock = c.in_ok-player.ensures.clock; age = c.in_ok-player.ensures.age } in
-    finished_full c.in_ok-player.player c.in-Err-Full.applier c.args.script (state c.args.output.now) (state c.play.new.output) (state c.print_log-in-Err-Full.new.output) begins
-    (rw (c.in-Err-Full.field-0-is, c.deref.ensures.value) at c.in-Err-Full.ensures.stopped) c.in_ok-print_log-in-Err-Full.ensures.ok
+    let stopped = rw (c.in-Err-Full.field-0-is, c.deref.ensures.value) at c.in-Err-Full.ensures.stopped in
+    full_ends c.print_log-printed.result c.fault_after.result c.in_ok-player.player c.in-Err-Full.applier c.args.script (state c.args.output.now) (state c.play.new.output) (state c.print_log-printed.new.output) begins
+    stopped c.print_log-printed.ensures.ok c.print_log-printed.ensures.err c.fault_after.ensures.ok c.fault_after.ensures.err
+
+pub returns-in-Err-OutOfMemory : goal.returns-in-Err-OutOfMemory
+returns-in-Err-OutOfMemory g c =
+    let state = sink_state g.W.Write.contents g.W.Sink.pending g.W.Sink.failures in
+    memory_ends c.print_log-printed-in-Err-OutOfMemory.result c.fault_after-in-Err-OutOfMemory.result c.args.script (state c.args.output.now) (state c.play.new.output) (state c.print_log-printed-in-Err-OutOfMemory.new.output)
+    (rw c.in-Err-OutOfMemory.field-0-is at c.in-Err-OutOfMemory.ensures.stopped) c.print_log-printed-in-Err-OutOfMemory.ensures.err c.fault_after-in-Err-OutOfMemory.ensures.ok c.fault_after-in-Err-OutOfMemory.ensures.err
