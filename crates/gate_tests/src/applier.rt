@@ -1,9 +1,6 @@
-ghost use Rattle.std.specs.Prelude.{IfSome, IsTrue};
-ghost use Rattle.gate_applier.specs.Applier.{is_supported};
-
-use gate_applier::{Applier, OpenCause, PrepareCause, log_page, takes};
+use gate_applier::{Applier, OpenCause, PrepareCause};
 use gate_model::{
-    Body, Kind, Moment, Numbered, ObjectId, ObjectLine, ObjectTable, Outcome, Record, State, Text,
+    Body, Kind, Moment, Numbered, ObjectId, ObjectLine, ObjectTable, Outcome, State, Text,
 };
 use std::alloc::Global;
 use std::fmt::Display;
@@ -35,9 +32,7 @@ fn opened(alloc: Global, limit: u32) -> Option<Applier> {
 }
 
 /// A result of a host, with this output.
-fn result(alloc: Global, host: &str, code: i16, output: &[u8]) -> Option<Numbered>
-    ensures { IfSome result (λ item. IsTrue (is_supported item.body)) }
-{
+fn result(alloc: Global, host: &str, code: i16, output: &[u8]) -> Option<Numbered> {
     let host = Text::copied(alloc, host.as_bytes()).ok()?;
     let output = Text::copied(alloc, output).ok()?;
     let body = Body::Result {
@@ -53,9 +48,7 @@ fn result(alloc: Global, host: &str, code: i16, output: &[u8]) -> Option<Numbere
     })
 }
 
-fn applied(applier: Applier, item: Numbered, now: u32) -> Option<Applier>
-    requires { IsTrue (is_supported item.body) }
-{
+fn applied(applier: Applier, item: Numbered, now: u32) -> Option<Applier> {
     let ready = applier.prepare().ok()?;
     Some(ready.apply(item, Moment(now)).0)
 }
@@ -139,55 +132,4 @@ fn given_back(applier: Applier) -> Option<Applier> {
 fn an_applier_that_is_given_back_shows_what_it_showed(rt: HostRuntime) {
     let applier = applied_twice(rt.alloc(), 10).and_then(given_back);
     assert!(rt; applier.is_some_and(|applier| shows_both(&applier)));
-}
-
-#[test]
-fn shutdowns_are_supported_and_deletions_are_not_yet(rt: HostRuntime) {
-    let deletion = Body::DelComment {
-        kind: Kind::Host,
-        id: 1,
-    };
-    assert_eq!(rt; [takes(&Body::Shutdown), takes(&deletion)], [true, false]);
-}
-
-fn record(alloc: Global, code: i16, output: &[u8]) -> Option<Record> {
-    let item = result(alloc, "web1", code, output)?;
-    Some(Record {
-        moment: Moment(1000),
-        item,
-    })
-}
-
-fn page_of_two(alloc: Global) -> Option<Vec<u8>> {
-    let records = [
-        record(alloc, 2, b"a\\b\tc\x7f\xc3\xa9")?,
-        record(alloc, 0, b"up")?,
-    ];
-    log_page(alloc, &records, &[Outcome::Accepted, Outcome::NoSuchHost]).ok()
-}
-
-#[test]
-fn the_log_page_has_a_line_for_each_record(rt: HostRuntime) {
-    let page = page_of_two(rt.alloc());
-    let expected = b"log 2\n\
-[1000] 1:7 PROCESS_HOST_CHECK_RESULT;web1;2;a\\\\b\\x09c\\x7f\xc3\xa9 -> Accepted\n\
-[1000] 1:7 PROCESS_HOST_CHECK_RESULT;web1;0;up -> NoSuchHost\n";
-    assert!(rt; page.is_some_and(|page| page.as_slice() == expected.as_slice()));
-}
-
-fn is_shown(alloc: Global, cause: &impl Display, phrase: &str) -> bool {
-    cause
-        .to_string(alloc)
-        .is_ok_and(|text| text.as_str() == phrase)
-}
-
-#[test]
-fn causes_are_shown_as_phrases(rt: HostRuntime) {
-    let full = is_shown(rt.alloc(), &PrepareCause::LogFull, "the log is full");
-    let limit = is_shown(
-        rt.alloc(),
-        &OpenCause::BadLimit,
-        "log limit out of range: 1 to 1000000 records are allowed",
-    );
-    assert!(rt; full && limit);
 }

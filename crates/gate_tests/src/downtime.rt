@@ -1,7 +1,7 @@
-ghost use Rattle.std.specs.Prelude.{◌≡◌, ◌<◌};
+ghost use Rattle.std.specs.Prelude.{◌≡◌, ◌<◌, IfSome};
 
 use gate_downtime::{CancelFault, DowntimeBook, ScheduleFault};
-use gate_model::{Kind, Moment, ObjectId, Plan};
+use gate_model::{Kind, Moment, ObjectId, Plan, Steps};
 use std::alloc::Global;
 
 /// A call of a book over two objects, with what it must answer.
@@ -365,6 +365,154 @@ fn begins_and_deletes_a_chain(alloc: Global) -> bool {
 #[test]
 fn a_chain_of_10000_triggers_is_begun_and_deleted(rt: HostRuntime) {
     assert!(rt; begins_and_deletes_a_chain(rt.alloc()));
+}
+
+/// The entries 1 to 1,000: entry k from 1100 + k to 2100 + k.
+fn schedules_a_thousand(book: &mut DowntimeBook) -> bool
+    requires { book.old.objects ≡ 2 }
+    ensures { book.new.objects ≡ 2 }
+{
+    'entries: for id in 1..1001 {
+        if !schedules(book, HTTP, fixed(1100 + id, 2100 + id, 0), Ok(id)) {
+            return false;
+        }
+    }
+    true
+}
+
+/// A book at 1050 with a thousand entries.
+fn thousand(alloc: Global) -> Option<DowntimeBook>
+    ensures { IfSome result (λ book. book.objects ≡ 2) }
+{
+    let mut book = DowntimeBook::open(alloc, 2, 1, Moment(1050)).ok()?;
+    if schedules_a_thousand(&mut book) {
+        Some(book)
+    } else {
+        None
+    }
+}
+
+fn steps_to_find(book: &DowntimeBook, id: u32) -> Option<u32> {
+    let mut steps = Steps::new();
+    let index = book.find(id, &mut steps)?;
+    let entry = book.live().nth(index)?;
+    if entry.id == id {
+        Some(steps.count())
+    } else {
+        None
+    }
+}
+
+fn each_is_found_in_1_to_10_steps(alloc: Global) -> bool {
+    match thousand(alloc) {
+        Some(book) => {
+            (1..1001).all(
+                |id| matches!(steps_to_find(&book, id), Some(steps) if 1 <= steps && steps <= 10),
+            )
+        }
+        None => false,
+    }
+}
+
+#[test]
+fn each_of_a_thousand_entries_is_found_in_1_to_10_comparisons(rt: HostRuntime) {
+    assert!(rt; each_is_found_in_1_to_10_steps(rt.alloc()));
+}
+
+fn is_as_deep_at(book: &mut DowntimeBook, moment: u32, wanted: u32) -> bool
+    requires { book.old.objects ≡ 2 }
+    ensures { book.new.objects ≡ 2 }
+{
+    advances(book, moment) && is_as_deep(book, HTTP, wanted)
+}
+
+fn deepens_and_empties(alloc: Global) -> bool {
+    let Some(mut book) = thousand(alloc) else {
+        return false;
+    };
+    is_as_deep_at(&mut book, 1100, 0)
+        && is_as_deep_at(&mut book, 1600, 500)
+        && is_as_deep_at(&mut book, 2100, 1000)
+        && is_as_deep_at(&mut book, 2101, 999)
+        && is_as_deep_at(&mut book, 3099, 1)
+        && is_as_deep_at(&mut book, 3100, 0)
+}
+
+#[test]
+fn a_thousand_windows_are_as_deep_as_they_overlap(rt: HostRuntime) {
+    assert!(rt; deepens_and_empties(rt.alloc()));
+}
+
+fn returns_the_gone_in_order(book: &mut DowntimeBook) -> bool {
+    (1..401).all(|id| book.next_gone() == Some(id)) && book.next_gone().is_none()
+}
+
+fn ends_400_at_once(alloc: Global) -> bool {
+    let Some(mut book) = thousand(alloc) else {
+        return false;
+    };
+    is_as_deep_at(&mut book, 2500, 600) && returns_the_gone_in_order(&mut book)
+}
+
+#[test]
+fn what_one_advance_ends_is_returned_by_id(rt: HostRuntime) {
+    assert!(rt; ends_400_at_once(rt.alloc()));
+}
+
+/// The ids and plans of the live entries.
+fn lists(book: &DowntimeBook, wanted: &[(u32, ObjectId, Plan)]) -> bool {
+    let mut left = wanted;
+    'entries: for entry in book.live() {
+        let Some((first, rest)) = left.split_first() else {
+            return false;
+        };
+        if *first != (entry.id, entry.object, entry.plan) {
+            return false;
+        }
+        left = rest;
+    }
+    left.is_empty()
+}
+
+fn lists_what_is_live(alloc: Global) -> bool {
+    let Ok(mut book) = DowntimeBook::open(alloc, 2, 1, Moment(1100)) else {
+        return false;
+    };
+    schedules(&mut book, WEB1, fixed(1100, 1200, 0), Ok(1))
+        && schedules(&mut book, HTTP, flexible(1100, 1300, 0, 100), Ok(2))
+        && schedules(&mut book, HTTP, fixed(1100, 1150, 1), Ok(3))
+        && advances(&mut book, 1150)
+        && lists(
+            &book,
+            &[
+                (1, WEB1, fixed(1100, 1200, 0)),
+                (2, HTTP, flexible(1100, 1300, 0, 100)),
+            ],
+        )
+        && book.cancel(Kind::Host, 1) == Ok(())
+        && lists(&book, &[(2, HTTP, flexible(1100, 1300, 0, 100))])
+}
+
+#[test]
+fn live_entries_are_listed_with_their_plans(rt: HostRuntime) {
+    assert!(rt; lists_what_is_live(rt.alloc()));
+}
+
+fn ended_are_left_out(alloc: Global) -> bool {
+    let Some(mut book) = thousand(alloc) else {
+        return false;
+    };
+    advances(&mut book, 2101)
+        && book.find(1, &mut Steps::new()).is_none()
+        && book.find(2, &mut Steps::new()) == Some(0)
+        && advances(&mut book, 2500)
+        && book.find(401, &mut Steps::new()) == Some(0)
+        && book.live().count() == 600
+}
+
+#[test]
+fn entries_that_are_over_leave_the_list(rt: HostRuntime) {
+    assert!(rt; ended_are_left_out(rt.alloc()));
 }
 
 #[test]

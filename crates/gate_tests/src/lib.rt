@@ -18,6 +18,8 @@ mod objects;
 #[cfg(test)]
 mod packet;
 #[cfg(test)]
+mod pages;
+#[cfg(test)]
 mod queue;
 #[cfg(test)]
 mod replay;
