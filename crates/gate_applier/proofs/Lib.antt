@@ -4,4 +4,5 @@ pub mod BookSteps
 pub mod JudgeSteps
 pub mod OutsideSteps
 pub mod CountSteps
+pub mod LiveSteps
 pub mod RoomSteps

@@ -1,11 +1,12 @@
 ghost use Rattle.std.specs.Prelude.{◌≡◌, ◌<◌, ◌≤◌, ◌+◌, length, max, nat_lt, slice_get, vec_len, vec_capacity, false, IsTrue, IsOk, IfOk, IfErr, IfSome, IsOkAnd, IsErrAnd, OnOk, OnErr};
 ghost use Rattle.gate_model.specs.Record.{AreInOrder, later};
-ghost use Rattle.gate_model.specs.Meaning.{outcomes_of, state_at, last_result_at, acknowledgement_at, is_stale_at, comments_at, depth_at};
+ghost use Rattle.gate_model.specs.Meaning.{outcomes_of, state_at, last_result_at, acknowledgement_at, is_stale_at, comments_at, depth_at, downtimes_at};
 ghost use Rattle.gate_applier.specs.declared.applier.OpenCause.TheVariants.{BadLimit};
 ghost use Rattle.gate_applier.specs.declared.applier.PrepareCause.TheVariants.{LogFull};
 ghost use Rattle.gate_applier.specs.Applier.{opened, is_limit};
 
 use crate::books::Books;
+use crate::downtimes::Downtimes;
 use crate::ready::Ready;
 use gate_model::{
     Acknowledgement, CheckResult, Comment, Moment, ObjectId, ObjectTable, Outcome, Record, State,
@@ -313,6 +314,14 @@ impl Applier {
         ensures { result.now ≡ comments_at self.now.table self.now.records self.now.moment }
     {
         self.books.comments.list()
+    }
+
+    /// The downtime entries that are live at the applier's moment, ids ascending, each with its
+    /// beginning. Nagios Core 4 manual, Scheduled Downtime.
+    pub fn downtimes(&self) -> Downtimes<'_>
+        ensures { result ≡ downtimes_at self.now.table self.now.records self.now.moment }
+    {
+        Downtimes::new(&self.books.downtime)
     }
 
     /// Whether the table has a line at the object's place.

@@ -5,8 +5,10 @@
 
 mod applier;
 mod books;
+mod downtimes;
 mod judging;
 mod ready;
 
 pub use applier::{Applier, MOST_RECORDS, OpenCause, OpenFault, PrepareCause, PrepareFault};
+pub use downtimes::{Downtimes, LiveDowntime};
 pub use ready::Ready;

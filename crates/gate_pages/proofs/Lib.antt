@@ -1,3 +1,4 @@
 pub mod EscapeSteps
 pub mod LineSteps
+pub mod FillingSteps
 mod StatusExamples

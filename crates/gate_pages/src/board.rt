@@ -1,8 +1,10 @@
 ghost use Rattle.std.specs.Prelude.{◌≡◌, Some, IfOk};
-ghost use Rattle.gate_pages.specs.StatusPage.{status_text};
+ghost use Rattle.gate_pages.specs.StatusPage.{board_at, status_text};
 
+use crate::filling::{comment_rows, downtime_rows, object_rows};
 use crate::rows::{CommentRow, DowntimeRow, ObjectRow};
 use crate::status_lines::{push_closing, push_comments, push_downtimes, push_objects};
+use gate_applier::Applier;
 use gate_grammar::push_number;
 use gate_model::Moment;
 use std::alloc::{AllocError, Global};
@@ -34,6 +36,26 @@ impl Model for Board {
 }
 
 impl Board {
+    /// The board of what an applier shows: its moment, and a row for each object of its table, for
+    /// each comment and for each live downtime entry. The only error is out of memory.
+    pub fn of(alloc: Global, applier: &Applier) -> Result<Board, AllocError>
+        ensures { let shown = applier.now in IfOk result (λ board.
+            board ≡ board_at shown.table shown.opening shown.records shown.moment) }
+    {
+        Ok(Board {
+            moment: applier.moment(),
+            objects: object_rows(alloc, applier)?,
+            comments: comment_rows(
+                alloc,
+                applier.table(),
+                applier.records(),
+                applier.comments(),
+            )?,
+            downtimes: downtime_rows(alloc, applier)?,
+            closing: None,
+        })
+    }
+
     /// Marks the board closing, so that its page ends with the close's moment.
     pub fn closing(self, moment: Moment) -> Board
         ensures { result ≡ record self { closing = Some moment } }

@@ -5,6 +5,7 @@
 mod board;
 mod escaping;
 mod fields;
+mod filling;
 mod log_lines;
 mod rows;
 mod status_lines;
