@@ -3,7 +3,7 @@ ghost use Rattle.std.specs.Prelude.{◌≡◌, IfSome};
 
 use crate::parts::{Answer, closed, submitted, two_clients};
 use gate_model::Moment;
-use gate_queue::{Client, Closer, Gate, Notice, Taker};
+use gate_queue::{Client, CloseFault, Closer, Gate, Notice, Taker};
 use std::alloc::Global;
 use std::sync::Wait;
 use std::thread;
@@ -42,7 +42,7 @@ fn close_elsewhere<R: Threads>(rt: &R, alloc: Global, gate: &Gate, closer: Close
 
 // What a client is answered that no notice reached, before and after another thread closed the
 // gate, and what the taker then finds.
-fn answers_round_a_close<R: Threads + Wait>(
+fn answers_before_and_after_a_close<R: Threads + Wait>(
     rt: &R,
     alloc: Global,
     gate: &Gate,
@@ -62,7 +62,7 @@ fn answers_round_a_close<R: Threads + Wait>(
 fn is_found<R: Threads + Wait>(rt: &R, alloc: Global) -> bool {
     match two_clients(alloc, 9, 9) {
         Some((gate, mut taker, closer, mut one, _)) => {
-            answers_round_a_close(rt, alloc, &gate, closer, &mut one, &mut taker)
+            answers_before_and_after_a_close(rt, alloc, &gate, closer, &mut one, &mut taker)
                 == (
                     Answer::Queued(1),
                     Answer::Closing(1500, 6),
@@ -129,4 +129,23 @@ fn is_learned(alloc: Global) -> bool {
 #[test]
 fn a_notice_of_the_close_is_learned(rt: HostRuntime) {
     assert!(rt; is_learned(rt.alloc()));
+}
+
+const FAULTS: [(CloseFault, &str); 2] = [
+    (
+        CloseFault::AlreadyClosing(Moment(1500)),
+        "another close was first",
+    ),
+    (CloseFault::OutOfMemory, "out of memory"),
+];
+
+fn is_text(alloc: Global, fault: CloseFault, text: &str) -> bool {
+    format!(in alloc; "{fault}").is_ok_and(|shown| shown.as_str() == text)
+}
+
+#[test]
+fn each_fault_of_a_close_has_its_text(rt: HostRuntime) {
+    for (fault, text) in FAULTS {
+        assert!(rt; is_text(rt.alloc(), fault, text), "{text}");
+    }
 }

@@ -126,7 +126,7 @@ fn tried<R: Wait>(
 }
 
 // Closes all, closes the gate, and closes all again.
-fn closes_all_round_a_close<R: Wait>(
+fn closes_all_before_and_after_a_close<R: Wait>(
     rt: &R,
     alloc: Global,
     gate: &Gate,
@@ -148,12 +148,12 @@ fn closes_all_round_a_close<R: Wait>(
     }
 }
 
-fn shown_round_a_close<R: Wait>(rt: &R, alloc: Global) -> Option<(Shown, Shown)> {
+fn shown_before_and_after_a_close<R: Wait>(rt: &R, alloc: Global) -> Option<(Shown, Shown)> {
     match two_clients(alloc, 9, 9) {
         Some((gate, taker, mut closer, one, two)) => {
             match all_ended(rt, alloc, &gate, one, two) {
                 Some(ended) => {
-                    closes_all_round_a_close(rt, alloc, &gate, &mut closer, taker, ended)
+                    closes_all_before_and_after_a_close(rt, alloc, &gate, &mut closer, taker, ended)
                 }
                 None => None,
             }
@@ -165,7 +165,7 @@ fn shown_round_a_close<R: Wait>(rt: &R, alloc: Global) -> Option<(Shown, Shown)>
 #[test]
 fn all_is_applied_once_a_close_has_begun(rt: HostRuntime) {
     let early = (Some(CloseAllCause::NotClosing), 0, 2);
-    assert!(rt; shown_round_a_close(&rt, rt.alloc()) == Some((early, ALL_APPLIED)));
+    assert!(rt; shown_before_and_after_a_close(&rt, rt.alloc()) == Some((early, ALL_APPLIED)));
 }
 
 fn with(gate: &Gate, ended: Vec<Ended>, client: Ended) -> Vec<Ended>
@@ -322,4 +322,22 @@ fn shown_after_applying<R: Wait>(rt: &R, alloc: Global, limit: u32) -> Option<Sh
 #[test]
 fn an_item_beyond_the_log_stays_queued(rt: HostRuntime) {
     assert!(rt; shown_after_applying(&rt, rt.alloc(), 2) == Some(TWO_APPLIED));
+}
+
+const CAUSES: [(CloseAllCause, &str); 4] = [
+    (CloseAllCause::Missing(2), "client 2 has not ended"),
+    (CloseAllCause::NotClosing, "no close has begun"),
+    (CloseAllCause::LogFull, "the log is full"),
+    (CloseAllCause::OutOfMemory, "out of memory"),
+];
+
+fn is_text(alloc: Global, cause: CloseAllCause, text: &str) -> bool {
+    format!(in alloc; "{cause}").is_ok_and(|shown| shown.as_str() == text)
+}
+
+#[test]
+fn each_cause_of_an_unfinished_close_has_its_text(rt: HostRuntime) {
+    for (cause, text) in CAUSES {
+        assert!(rt; is_text(rt.alloc(), cause, text), "{text}");
+    }
 }

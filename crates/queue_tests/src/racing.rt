@@ -101,7 +101,7 @@ fn closed_after(alloc: Global, gate: &Gate, closer: Closer, attempts: usize, mad
 }
 
 // The clients submit, and another thread closes the gate once so many attempts were made.
-fn attempted_round_a_close<R: Threads + Wait + Sync>(
+fn attempted_with_a_close<R: Threads + Wait + Sync>(
     rt: &R,
     alloc: Global,
     gate: &Gate,
@@ -162,7 +162,7 @@ fn run_all<R: Threads + Wait + Sync>(
             requires closer { closer.cell ≡ gate.now.cell }
             ensures { IfSome result (λ done.
                 All (λ client. client.0.gate ≡ gate.entry.now) done.items) }
-        { attempted_round_a_close(rt, alloc, gate, clients, closer, attempts) },
+        { attempted_with_a_close(rt, alloc, gate, clients, closer, attempts) },
     )
 }
 

@@ -9,7 +9,7 @@ use std::alloc::Global;
 use std::sync::Wait;
 
 // What two clients and a taker are answered at a queue with room for one item.
-fn answers_at_one_place<R: Wait>(
+fn answers_with_room_for_one<R: Wait>(
     rt: &R,
     gate: &Gate,
     one: &mut Client,
@@ -35,7 +35,7 @@ fn answers_at_one_place<R: Wait>(
 fn is_full_until_a_take<R: Wait>(rt: &R, alloc: Global) -> bool {
     match two_clients(alloc, 1, 9) {
         Some((gate, mut taker, _, mut one, mut two)) => {
-            answers_at_one_place(rt, &gate, &mut one, &mut two, &mut taker)
+            answers_with_room_for_one(rt, &gate, &mut one, &mut two, &mut taker)
         }
         None => false,
     }
