@@ -79,7 +79,7 @@ begins = record {
     )
     one (suc j) u e = absurd (some-ne-none u (sym e))
 
--- a client's push lands
+-- a client adds an item
 pub sends : (ring index n quota capacity c : ℕ) (s : List Numbered) (b : Body) → ring ≡ capacity → length s < quota
     → Pushes IsRuled ring index (client n quota capacity c s) (numbered c (length s + 1) b) (λ w. w ≡ client n quota capacity c (s ++ numbered c (length s + 1) b ∷ []))
 sends ring index n quota capacity c s b same left items views room h at =
@@ -120,19 +120,19 @@ sends ring index n quota capacity c s b same left items views room h at =
       refl,
     )
 
--- a client's push meets a full queue
+-- a client finds the queue full
 pub sees_full : (index n quota capacity c : ℕ) (s : List Numbered) → Learns IsRuled index (client n quota capacity c s) (AllowsBeside (limits_of n quota capacity) c s)
 sees_full index n quota capacity c s items views h at =
     let mine = h.of_clients index (client n quota capacity c s) at refl in
     let m = mine.limits in (h.sent, h.taken, core_as h.n h.quota h.capacity n quota capacity h.sent h.taken h.taken items m.clients_is m.quota_is m.capacity_is refl h.core, mine.queued_is)
 
--- the taker's pop meets an empty queue, or looks
+-- the taker finds the queue empty, or learns what it may hold
 pub sees_rest : (index n quota capacity made : ℕ) (taken : List Numbered) (ended : List EndedList) → Learns IsRuled index (taker n quota capacity made taken ended) (AllowsAfter (limits_of n quota capacity) taken ended)
 sees_rest index n quota capacity made taken ended items views h at =
     let mine = h.of_taker index (taker n quota capacity made taken ended) at refl in
     let m = mine.limits in (h.sent, core_as h.n h.quota h.capacity n quota capacity h.sent h.taken taken items m.clients_is m.quota_is m.capacity_is mine.taken_is h.core, λ c s e. (mine.ended c s e).2)
 
--- the taker's pop takes the front
+-- the taker takes the oldest item
 pub takes : (index n quota capacity made : ℕ) (taken : List Numbered) (ended : List EndedList) → Pops IsRuled index (taker n quota capacity made taken ended) (TakesNext (taker n quota capacity made taken ended))
 takes index n quota capacity made taken ended x items views h at =
     let mine = h.of_taker index (taker n quota capacity made taken ended) at refl in

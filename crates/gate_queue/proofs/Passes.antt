@@ -83,7 +83,7 @@ no_length : (xs : List Numbered) → length xs ≡ 0 → xs ≡ []
 no_length [] h = refl
 no_length (x ∷ xs) h = absurd (omega arith)
 
--- what a pop tells the taker
+-- what the taker learns as it takes an item or finds none
 abbrev pub Popped : View → View → Option Numbered → Type 0
 Popped v w r = MatchOption r ((w ≡ v) × Held 0 (AllowsAfter (limits_in v) v.taken v.ended)) (λ x. TakesNext v x w)
 

@@ -1,4 +1,5 @@
-ghost use Rattle.std.specs.Prelude.{◌≡◌, ◌+◌, [], ◌∷◌, ◌++◌, length, IfOk, IfErr, IfSome, OnOk, Some, None, is_some};
+ghost use Rattle.std.specs.Prelude.{◌≡◌, ◌+◌, [], ◌∷◌, ◌++◌, length, IfOk, IfErr, IfSome, OnOk};
+ghost use Rattle.std.specs.Prelude.{Some, None, is_some};
 ghost use Rattle.gate_core.specs.Merge.{numbered};
 ghost use Rattle.gate_queue.specs.Knowledge.{close_knowledge, Learns};
 ghost use Rattle.gate_queue.specs.Client.{client_state};

@@ -1,6 +1,8 @@
 ghost use Rattle.std.specs.Prelude.{◌≡◌, IfOk, IfErr, OnOk};
 ghost use Rattle.gate_core.specs.Merge.{IsMerge};
-ghost use Rattle.gate_queue.specs.DrainedClose.{AreAllPresent, queued_by, items_of_records, AppliesMore, close_parts, CanClose, IsCloseAllFault};
+ghost use Rattle.gate_queue.specs.DrainedClose.{AreAllPresent, queued_by, items_of_records};
+ghost use Rattle.gate_queue.specs.DrainedClose.{AppliesMore, close_parts, CanClose};
+ghost use Rattle.gate_queue.specs.DrainedClose.{IsCloseAllFault};
 ghost use Rattle.gate_queue.specs.inner.Draining.{close_cause};
 
 use crate::client::Ended;

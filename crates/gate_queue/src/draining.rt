@@ -1,10 +1,12 @@
-ghost use Rattle.std.specs.Prelude.{◌≡◌, ◌↔◌, ◌<◌, ◌≤◌, ◌==◌, [], ◌∷◌, ◌++◌, All, length, IsTrue, IfNone, IfSome, IfOk, IfErr, Some, is_some};
+ghost use Rattle.std.specs.Prelude.{◌≡◌, ◌↔◌, ◌<◌, ◌≤◌, ◌==◌, [], ◌∷◌, ◌++◌, All, length, IsTrue};
+ghost use Rattle.std.specs.Prelude.{IfNone, IfSome, IfOk, IfErr, Some, is_some};
 ghost use Rattle.std.specs.List.{list_any};
 ghost use Rattle.gate_model.specs.Record.{later};
 ghost use Rattle.gate_core.specs.Merge.{IsMerge};
 ghost use Rattle.gate_applier.specs.declared.applier.PrepareCause.TheVariants.{LogFull};
 ghost use Rattle.gate_queue.specs.Taker.{taker_state};
-ghost use Rattle.gate_queue.specs.DrainedClose.{is_present, AreAllPresent, IsLeastMissing, items_of_records, AppliesMore, LeavesSome};
+ghost use Rattle.gate_queue.specs.DrainedClose.{is_present, AreAllPresent, IsLeastMissing};
+ghost use Rattle.gate_queue.specs.DrainedClose.{items_of_records, AppliesMore, LeavesSome};
 ghost use Rattle.gate_queue.specs.inner.Draining.{AllTakenIn, TakesInAll, list_of, is_known};
 
 use crate::client::Ended;

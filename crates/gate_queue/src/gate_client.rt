@@ -84,5 +84,6 @@ impl<'a, R: Wait> Submit for GateClient<'a, R> {
 
     ghost keeps_itself = { λ x. record { gate = refl; number = refl } };
 
-    ghost keeps_on = { λ x y z p q. record { gate = q.gate ∙ p.gate; number = q.number ∙ p.number } };
+    ghost keeps_on = { λ x y z p q.
+        record { gate = q.gate ∙ p.gate; number = q.number ∙ p.number } };
 }

@@ -2,7 +2,8 @@ ghost use Rattle.std.specs.Prelude.{◌≡◌, ◌-◌, ◌≤◌, [], IfOk, IfE
 ghost use Rattle.once_cell.specs.Once.{cell_name};
 ghost use Rattle.crossbeam_queue.specs.Passes.{view as pass_view, IsPassOf};
 ghost use Rattle.gate_core.specs.Merge.{IsClient};
-ghost use Rattle.gate_core.specs.Limits.{limits_of, default_quota, IsGoodCount, IsGoodCapacity, IsOpenFault};
+ghost use Rattle.gate_core.specs.Limits.{limits_of, default_quota, IsGoodCount, IsGoodCapacity};
+ghost use Rattle.gate_core.specs.Limits.{IsOpenFault};
 ghost use Rattle.gate_queue.specs.Knowledge.{close_knowledge};
 ghost use Rattle.gate_queue.specs.Client.{client_state};
 ghost use Rattle.gate_queue.specs.Taker.{taker_state};
@@ -32,7 +33,10 @@ struct Bounds {
 }
 
 /// Opens a gate for clients 1 to `clients`, with room for `capacity` items. Each client may queue
-/// 4,294,967,295 items. It fails as `open_with` does.
+/// 4,294,967,295 items. It returns the gate, its taker, a closer, and the clients in order.
+///
+/// It fails with BadCount where `clients` isn't 1 to 64, then with BadCapacity where `capacity`
+/// isn't 1 to 65,536, and then with OutOfMemory. Own rule: the limits are those of a World.
 pub fn open(
     alloc: Global,
     clients: u32,
@@ -53,8 +57,9 @@ pub fn open(
 /// Opens a gate for clients 1 to `clients`, with room for `capacity` items. Each client may queue
 /// `quota` items. It returns the gate, its taker, a closer, and the clients in order.
 ///
-/// It fails with BadCount, BadCapacity or BadQuota, tested in this order, where an argument is out
-/// of its limits, and then with OutOfMemory. Own rule: the limits are those of a World.
+/// It fails with BadCount where `clients` isn't 1 to 64, then with BadCapacity where `capacity`
+/// isn't 1 to 65,536, then with BadQuota where `quota` is 0, and then with OutOfMemory. Own rule:
+/// the limits are those of a World.
 pub fn open_with(
     alloc: Global,
     clients: u32,

@@ -89,12 +89,13 @@ impl Join<View> for TakeIn {
     ghost use Rattle.gate_queue.specs.inner.Rule.{taker, blank};
 
     ghost both = { λ v w.
-        taker v.clients v.quota v.capacity v.made v.taken (ended_list w.number w.queued ∷ v.ended) };
+        taker v.clients v.quota v.capacity v.made v.taken
+        (ended_list w.number w.queued ∷ v.ended) };
 
     ghost spent = { blank };
 }
 
-/// A client's push: it lands, or it meets a full queue.
+/// A client adds an item to the queue, or finds it full.
 pub struct Push;
 
 impl Outcome<Numbered, View> for Push {
@@ -113,7 +114,7 @@ impl Lesson<Numbered, View> for Push {
         AllowsBeside (limits_of v.clients v.quota v.capacity) v.number v.queued items };
 }
 
-/// The taker's pop: it takes, or it meets an empty queue.
+/// The taker takes the oldest item of the queue, or finds it empty.
 pub struct Pop;
 
 impl Outcome<Numbered, View> for Pop {

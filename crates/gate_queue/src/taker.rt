@@ -1,5 +1,7 @@
-ghost use Rattle.std.specs.Prelude.{◌≡◌, ◌↔◌, IsTrue, IsSome, IfSome, IfNone, Some, ◌<◌, ◌≤◌, length};
-ghost use Rattle.gate_queue.specs.Taker.{taker_state, queued_of, TakesOne, HasAll, BeginsEach, TakesIn};
+ghost use Rattle.std.specs.Prelude.{◌≡◌, ◌↔◌, IsTrue, IsSome, IfSome, IfNone, Some, ◌<◌, ◌≤◌};
+ghost use Rattle.std.specs.Prelude.{length};
+ghost use Rattle.gate_queue.specs.Taker.{taker_state, queued_of, TakesOne, HasAll, BeginsEach};
+ghost use Rattle.gate_queue.specs.Taker.{TakesIn};
 ghost use Rattle.gate_queue.specs.inner.Draining.{total_counted};
 
 use crate::client::{Client, Ended};

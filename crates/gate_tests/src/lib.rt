@@ -20,6 +20,4 @@ mod packet;
 #[cfg(test)]
 mod pages;
 #[cfg(test)]
-mod queue;
-#[cfg(test)]
 mod replay;
