@@ -1,0 +1,138 @@
+ghost use Rattle.std.specs.Prelude.{◌≤◌, length};
+
+use crate::settings::Settings;
+use gate_model::Moment;
+use gate_reader::{Clock, Sink, Source};
+use std::io;
+use std::io::{Error, ErrorKind, Read, Write};
+
+/// A reader that gives a stream in pieces. One read may fail and one be interrupted; the next ones
+/// go on where the last one ended.
+#[derive(Drop)]
+pub struct Pieces<'a> {
+    front: &'a [u8],
+    back: &'a [u8],
+    piece: usize,
+    calls: u32,
+    failed: u32,
+    interrupted: u32,
+}
+
+impl<'a> Pieces<'a> {
+    pub fn new(stream: &'a [u8], settings: &Settings) -> Pieces<'a> {
+        let (front, back) = stream.split_at(stream.len().min(settings.cut as usize));
+        Pieces {
+            front,
+            back,
+            piece: settings.piece as usize,
+            calls: 0,
+            failed: settings.failed_read,
+            interrupted: settings.interrupted_read,
+        }
+    }
+
+    fn copy(&mut self, buf: &mut [u8]) -> usize
+        ensures { result ≤ length buf.new }
+    {
+        if self.front.is_empty() {
+            self.front = self.back;
+            self.back = &[];
+        }
+        let count = self.front.len().min(buf.len()).min(self.piece);
+        let (given, left) = self.front.split_at(count);
+        buf[..count].copy_from_slice(given);
+        self.front = left;
+        count
+    }
+}
+
+impl Read for Pieces<'_> {
+    fn read(&mut self, buf: &mut [u8]) -> io::Result<usize> {
+        self.calls = self.calls.saturating_add(1);
+        if self.calls == self.failed {
+            return Err(Error::from(ErrorKind::ConnectionReset));
+        }
+        if self.calls == self.interrupted {
+            return Err(Error::from(ErrorKind::Interrupted));
+        }
+        Ok(self.copy(buf))
+    }
+}
+
+impl Source for Pieces<'_> {
+    fn take_some(&mut self, buf: &mut [u8]) -> io::Result<usize> {
+        self.read(buf)
+    }
+}
+
+/// A writer that keeps what is written. One call may fail, which keeps nothing; the next ones go on.
+#[derive(Drop)]
+pub struct Kept<'a> {
+    bytes: &'a mut Vec<u8>,
+    calls: u32,
+    failed: u32,
+}
+
+impl<'a> Kept<'a> {
+    pub fn new(bytes: &'a mut Vec<u8>, settings: &Settings) -> Kept<'a> {
+        Kept {
+            bytes,
+            calls: 0,
+            failed: settings.failed_write,
+        }
+    }
+
+    fn call(&mut self) -> io::Result<()> {
+        self.calls = self.calls.saturating_add(1);
+        if self.calls == self.failed {
+            return Err(Error::from(ErrorKind::BrokenPipe));
+        }
+        Ok(())
+    }
+}
+
+impl Write for Kept<'_> {
+    fn write(&mut self, buf: &[u8]) -> io::Result<usize> {
+        self.call()?;
+        self.bytes.extend_from_slice(buf)?;
+        Ok(buf.len())
+    }
+
+    fn flush(&mut self) -> io::Result<()> {
+        self.call()
+    }
+}
+
+impl Sink for Kept<'_> {
+    fn put(&mut self, bytes: &[u8]) -> io::Result<()> {
+        self.write_all(bytes)
+    }
+
+    fn deliver(&mut self) -> io::Result<()> {
+        self.flush()
+    }
+}
+
+/// A clock that goes on by so many seconds with each reading.
+#[derive(Drop)]
+pub struct Ticking {
+    next: u32,
+    tick: u32,
+}
+
+impl Ticking {
+    pub fn new(settings: &Settings) -> Ticking {
+        Ticking {
+            next: settings.moment,
+            tick: settings.tick,
+        }
+    }
+}
+
+impl Clock for Ticking {
+    fn now(&mut self) -> Moment {
+        let now = self.next;
+        self.next = now.saturating_add(self.tick);
+        Moment(now)
+    }
+}
