@@ -1,5 +1,5 @@
 -- What a client queued in an allowed run.
-use Rattle.std.proofs.Common.{◌≡◌, ◌≢◌, ℕ, ◌+◌, ◌<◌, ◌≤◌, List, [], ◌∷◌, ◌++◌, length, refl, sym, ap, ◌∙◌, subst, arith, length-append}
+use Rattle.std.proofs.Common.{◌≡◌, ◌≢◌, ℕ, ◌+◌, ◌<◌, ◌≤◌, List, [], ◌∷◌, ◌++◌, length, sym, ap, ◌∙◌, subst, arith, length-append}
 use Rattle.std.proofs.lemmas.List.{append-nil}
 use mathlib.Core.Logic.{dite}
 use native.Mathlib.Decide.{ℕ_discrete}
@@ -9,7 +9,7 @@ use Rattle.gate_core.specs.declared.event.Event.TheVariants.{Look, Push, Take, C
 use Rattle.gate_core.specs.declared.event.Reply.{Reply}
 use Rattle.gate_core.specs.declared.event.Reply.TheVariants as reply
 use Rattle.gate_core.specs.Limits.{Limits}
-use Rattle.gate_core.specs.Merge.{IsNumbered, numbered, of_client}
+use Rattle.gate_core.specs.Merge.{IsNumbered, numbered}
 use Rattle.gate_core.specs.Legal.{Run, all_queued, queued}
 use Rattle.gate_core.proofs.Merges.{IsNumbered-snoc, of_client-append, of_client_other}
 use Rattle.gate_core.proofs.Runs.{queued-own}
@@ -33,6 +33,7 @@ sent_push limits pushing number body run client room is h = dite (ℕ_discrete p
           numbers = subst (λ (l : List Numbered). IsNumbered pushing l) (sym list) (IsNumbered-snoc pushing (queued pushing run) body before.numbers);
           within = omega (arith, ap length list, length-append (queued pushing run) (numbered pushing (length (queued pushing run) + 1) body ∷ []));
         })
+
     other : pushing ≢ client → IsSent limits ((Push pushing body, reply.Queued number) ∷ run) client
     other ne =
         let list : queued client ((Push pushing body, reply.Queued number) ∷ run) ≡ queued client run =

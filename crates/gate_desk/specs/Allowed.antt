@@ -1,6 +1,6 @@
 -- Runs that a queue may show to one thread that does all its work: what a gate promises of each reply, whatever other threads do. Own rules.
 -- A legal run is one of them. More is allowed where a gate can't exclude it: a push is answered Full and a take Empty unasked, a close of somebody else is found, and items of two clients come in any order.
-use Rattle.std.specs.Prelude.{◌≡◌, ℕ, ◌+◌, ◌-◌, ◌*◌, ◌<◌, ◌≤◌, ◌&&◌, Bool, true, false, List, [], ◌∷◌, length, Option, Some, None, IfSome}
+use Rattle.std.specs.Prelude.{◌≡◌, ℕ, ◌+◌, ◌-◌, ◌*◌, ◌<◌, ◌≤◌, ◌&&◌, Bool, true, false, [], ◌∷◌, length, Option, Some, None, IfSome}
 use mathlib.Core.List.{IsPrefix}
 use Rattle.gate_model.specs.declared.record.Moment.{Moment}
 use Rattle.gate_model.specs.declared.submission.Body.{Body}

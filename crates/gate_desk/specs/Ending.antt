@@ -1,5 +1,5 @@
 -- The end of a desk: both clients have ended and were taken in, and what is left in the queue can be taken. Own rules.
-use Rattle.std.specs.Prelude.{◌≡◌, ℕ, true, List, [], ◌∷◌}
+use Rattle.std.specs.Prelude.{◌≡◌, ℕ, true, [], ◌∷◌}
 use Rattle.gate_core.specs.declared.event.Event.TheVariants.{End, TakeIn}
 use Rattle.gate_core.specs.declared.event.Reply.TheVariants.{Ended, Joined}
 use Rattle.gate_core.specs.Merge.{IsClient}

@@ -1,5 +1,5 @@
 -- A gate of two clients as the desk of one thread: what contracts see of it, and after which runs it stands. Own rules.
-use Rattle.std.specs.Prelude.{◌≡◌, ℕ, ◌+◌, Bool, false, [], Option, Some, IfSome, Result}
+use Rattle.std.specs.Prelude.{◌≡◌, ℕ, ◌+◌, false, [], Option, Some, IfSome, Result}
 use Rattle.gate_model.specs.declared.record.Moment.{Moment}
 use Rattle.gate_model.specs.declared.submission.Body.{Body}
 use Rattle.gate_core.specs.declared.submit.Refused.{Refused}

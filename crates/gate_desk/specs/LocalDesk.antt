@@ -1,5 +1,5 @@
 -- A World's client as the desk of one thread. Own rules.
-use Rattle.std.specs.Prelude.{◌≡◌, ℕ, Bool, false}
+use Rattle.std.specs.Prelude.{◌≡◌, ℕ, false}
 use Rattle.gate_core.specs.Merge.{IsClient}
 use Rattle.gate_core.specs.Legal.{Run, has_ended}
 use Rattle.gate_core.specs.State.{StandsAfter}

@@ -1,12 +1,11 @@
 -- Only proofs use this: legal runs are allowed.
-use Rattle.std.proofs.Common.{◌≡◌, ℕ, ◌+◌, ◌-◌, ◌*◌, ◌<◌, ◌≤◌, ◌&&◌, List, [], ◌∷◌, ◌++◌, length, drop, Option, Some, None, Bool, true, false, cond, eqb, refl, sym, ap, ◌∙◌, subst, arith, length-append}
+use Rattle.std.proofs.Common.{◌≡◌, ℕ, ◌+◌, ◌-◌, ◌*◌, ◌≤◌, ◌&&◌, List, [], ◌∷◌, ◌++◌, length, drop, Option, Some, None, Bool, true, false, cond, eqb, refl, sym, ap, ◌∙◌, subst, arith}
 use Rattle.std.specs.Prelude.{slice_get, unwrap_or}
 use Rattle.std.proofs.lemmas.Bool.{eqb-true}
 use Rattle.std.proofs.lemmas.List.{append-nil}
 use Rattle.gate_model.specs.declared.record.Moment.{Moment}
 use Rattle.gate_model.specs.declared.submission.Body.{Body}
 use Rattle.gate_model.specs.declared.submission.Numbered.{Numbered}
-use Rattle.gate_core.specs.declared.event.Event.{Event}
 use Rattle.gate_core.specs.declared.event.Event.TheVariants.{Look, Push, Take, Close, End, TakeIn}
 use Rattle.gate_core.specs.declared.event.Reply.{Reply}
 use Rattle.gate_core.specs.declared.event.Reply.TheVariants as reply
@@ -17,7 +16,7 @@ use Rattle.gate_core.proofs.Runs.{open_client, sound, front_is, was_queued}
 use Rattle.gate_core.proofs.Counts.{next_number, length_beside, taken_and_queued}
 use Rattle.gate_core.proofs.Endings.{past, joined_ended}
 use Rattle.gate_core.proofs.Indexes.{first_and_rest, no_first}
-use Rattle.gate_desk.specs.Allowed.{shown_close, AllowsLook, AllowsClose, AllowsPush, AllowsTake, BeginsEach, Allows, IsAllowed}
+use Rattle.gate_desk.specs.Allowed.{shown_close, AllowsLook, AllowsClose, AllowsPush, AllowsTake, BeginsEach, IsAllowed}
 
 -- ---- the close
 
@@ -97,9 +96,11 @@ full_bound limits client run legal active full =
 
 allows_push : (limits : Limits) (client : ℕ) (body : Body) (r : Reply) (run : Run) → IsLegal limits run → r ≡ reply_after limits run (Push client body) → AllowsPush limits run client body r
 allows_push limits client body (reply.Queued number) run legal e =
-    let was = was_queued limits client number body run e in
-    (ready_rule (is_open limits client run && has_looked client run) (eqb (length (queued client run)) limits.quota) _ body (length (queued client run) + 1) number e,
-    omega (arith, (sound limits run legal).state.within_quota client was.client_is, was.not_spent), was.number_is)
+    let was = was_queued limits client number body run e in (
+      ready_rule (is_open limits client run && has_looked client run) (eqb (length (queued client run)) limits.quota) _ body (length (queued client run) + 1) number e,
+      omega (arith, (sound limits run legal).state.within_quota client was.client_is, was.not_spent),
+      was.number_is,
+    )
 allows_push limits client body (reply.Spent returned) run legal e =
     let rule = spent_rule (is_open limits client run && has_looked client run) (eqb (length (queued client run)) limits.quota) _ returned body (length (queued client run) + 1) e in
     (rule.0, rule.1, eqb-true (length (queued client run)) limits.quota rule.2)

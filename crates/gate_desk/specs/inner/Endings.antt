@@ -1,5 +1,5 @@
 -- Only proofs use this: what is left of a desk stands after each take, and after Empty all was taken.
-use Rattle.std.proofs.Common.{◌≡◌, ◌≢◌, ◌⊎◌, inl, inr, ⊎_elim, ℕ, ◌+◌, ◌<◌, ◌≤◌, List, [], ◌∷◌, ◌++◌, length, Option, Some, None, Bool, true, false, not, ◌&&◌, ◌||◌, cond, eqb, eq-eqb, refl, sym, ap, ◌∙◌, subst, arith}
+use Rattle.std.proofs.Common.{◌≡◌, ◌⊎◌, inl, inr, ⊎_elim, ℕ, ◌+◌, List, [], ◌∷◌, ◌++◌, length, Option, Some, None, Bool, true, false, not, ◌&&◌, ◌||◌, cond, eqb, eq-eqb, refl, sym, ap, ◌∙◌, subst, arith}
 use Rattle.std.specs.Prelude.{IfSome, IfNone}
 use Rattle.std.proofs.lemmas.Bool.{eqb-true}
 use Rattle.std.proofs.lemmas.List.{append-nil}
@@ -12,16 +12,15 @@ use Rattle.gate_core.specs.declared.event.Reply.{Reply}
 use Rattle.gate_core.specs.declared.event.Reply.TheVariants as reply
 use Rattle.gate_core.specs.Limits.{Limits}
 use Rattle.gate_core.specs.Merge.{IsClient, of_client, IsMerge}
-use Rattle.gate_core.specs.Legal.{Run, all_queued, queued, taken, waiting, has_ended, has_joined, is_open, take_reply, reply_after, IsLegal}
+use Rattle.gate_core.specs.Legal.{Run, queued, taken, waiting, has_ended, has_joined, is_open, take_reply, IsLegal}
 use Rattle.gate_core.specs.State.{WorldState, StandsAfter, Extends}
 use Rattle.gate_core.proofs.Runs.{open_client, sound, front_is, was_empty}
 use Rattle.gate_core.proofs.Endings.{joined_ended}
 use Rattle.gate_core.proofs.Indexes.{no_first}
 use Rattle.gate_queue.specs.Gate.{GateId}
-use Rattle.gate_queue.specs.Client.{ClientState}
 use Rattle.gate_queue.specs.Taker.{TakerState, taker_state, ended_list, queued_of, TakesOne, TakesIn, HasAll}
 use Rattle.gate_queue.specs.Taker as gate_taker
-use Rattle.gate_desk.specs.Allowed.{AllowsTake, BeginsEach, IsAllowed}
+use Rattle.gate_desk.specs.Allowed.{BeginsEach, IsAllowed}
 use Rattle.gate_desk.specs.Ending.{with_ends, IsGateAfter}
 use Rattle.gate_desk.specs.GateDesk.{DeskState, IsAfter}
 use Rattle.gate_desk.specs.inner.LocalDesks.{open_at}

@@ -1,11 +1,10 @@
 -- Only proofs use this: a desk over a gate stands after each run that its calls add to.
-use Rattle.std.proofs.Common.{◌≡◌, ◌≢◌, ℕ, ◌+◌, ◌-◌, ◌*◌, ◌<◌, ◌≤◌, List, [], ◌∷◌, ◌++◌, length, Option, Some, None, Result, Ok, Err, Bool, true, false, not, ◌&&◌, cond, eqb, eq-eqb, refl, sym, ap, ◌∙◌, subst, arith}
+use Rattle.std.proofs.Common.{◌≡◌, ◌≢◌, ℕ, ◌+◌, ◌-◌, ◌*◌, ◌<◌, ◌≤◌, List, [], ◌∷◌, ◌++◌, length, Option, Some, None, Result, Ok, Err, true, false, ◌&&◌, cond, eq-eqb, refl, sym, ap, ◌∙◌, subst, arith}
 use Rattle.std.specs.Prelude.{IfSome, IfNone}
 use Rattle.std.proofs.lemmas.List.{append-nil}
 use Rattle.gate_model.specs.declared.record.Moment.{Moment}
 use Rattle.gate_model.specs.declared.submission.Body.{Body}
 use Rattle.gate_model.specs.declared.submission.Numbered.{Numbered}
-use Rattle.gate_core.specs.declared.event.Event.{Event}
 use Rattle.gate_core.specs.declared.event.Event.TheVariants.{Look, Push, Take, Close}
 use Rattle.gate_core.specs.declared.event.Reply.{Reply}
 use Rattle.gate_core.specs.declared.event.Reply.TheVariants as reply
@@ -22,10 +21,9 @@ use Rattle.gate_core.proofs.Runs.{queued-own}
 use Rattle.gate_queue.specs.Gate.{GateId}
 use Rattle.gate_queue.specs.Knowledge.{CloseKnowledge, close_knowledge, Learns}
 use Rattle.gate_queue.specs.Client.{ClientState, client_state}
-use Rattle.gate_queue.specs.Taker.{TakerState, taker_state, TakesOne}
-use Rattle.gate_queue.specs.GateClient.{Submits, Looks}
-use Rattle.gate_queue.specs.GateOperator.{Joins, Closes}
-use Rattle.gate_desk.specs.Allowed.{shown_close, AllowsPush, BeginsEach, Allows, IsAllowed}
+use Rattle.gate_queue.specs.Taker.{TakerState, TakesOne}
+use Rattle.gate_queue.specs.GateOperator.{Joins}
+use Rattle.gate_desk.specs.Allowed.{shown_close, AllowsPush, BeginsEach, IsAllowed}
 use Rattle.gate_desk.specs.GateDesk.{DeskState, desk_of, KeepsRest, DeskSubmits, DeskLooks, DeskCloses, IsAfter}
 use Rattle.gate_desk.specs.inner.LocalDesks.{open_at}
 

@@ -1,6 +1,5 @@
 -- Only proofs use this: a desk over a World stands after each run that its calls add to.
-use Rattle.std.proofs.Common.{◌≡◌, ℕ, ◌+◌, ◌≤◌, List, [], ◌∷◌, ◌++◌, Option, Some, None, Result, Ok, Err, Bool, true, false, not, ◌&&◌, refl, sym, ap, ◌∙◌, subst}
-use Rattle.std.specs.Prelude.{IfSome}
+use Rattle.std.proofs.Common.{◌≡◌, ℕ, ◌≤◌, ◌∷◌, ◌++◌, Option, Result, Ok, Err, true, false, not, ◌&&◌, sym, ap, ◌∙◌, subst}
 use Rattle.gate_model.specs.declared.record.Moment.{Moment}
 use Rattle.gate_model.specs.declared.submission.Body.{Body}
 use Rattle.gate_core.specs.declared.event.Event.TheVariants.{Look}
