@@ -1,11 +1,11 @@
 -- Only proofs use this: a desk over a gate stands after each run that its calls add to.
 use Rattle.std.proofs.Common.{◌≡◌, ◌≢◌, ℕ, ◌+◌, ◌-◌, ◌*◌, ◌<◌, ◌≤◌, List, [], ◌∷◌, ◌++◌, length, Option, Some, None, Result, Ok, Err, true, false, ◌&&◌, cond, eq-eqb, refl, sym, ap, ◌∙◌, subst, arith}
-use Rattle.std.specs.Prelude.{IfSome, IfNone}
+use Rattle.std.specs.Prelude.{IfSome}
 use Rattle.std.proofs.lemmas.List.{append-nil}
 use Rattle.gate_model.specs.declared.record.Moment.{Moment}
 use Rattle.gate_model.specs.declared.submission.Body.{Body}
 use Rattle.gate_model.specs.declared.submission.Numbered.{Numbered}
-use Rattle.gate_core.specs.declared.event.Event.TheVariants.{Look, Push, Take, Close}
+use Rattle.gate_core.specs.declared.event.Event.TheVariants.{Look, Push, Close}
 use Rattle.gate_core.specs.declared.event.Reply.{Reply}
 use Rattle.gate_core.specs.declared.event.Reply.TheVariants as reply
 use Rattle.gate_core.specs.declared.submit.Refused.{Refused}
@@ -13,16 +13,12 @@ use Rattle.gate_core.specs.declared.submit.Refused.TheVariants.{Closing, Spent, 
 use Rattle.gate_core.specs.declared.submit.CloseFault.{CloseFault}
 use Rattle.gate_core.specs.declared.submit.CloseFault.TheVariants.{AlreadyClosing, OutOfMemory}
 use Rattle.gate_core.specs.Limits.{Limits}
-use Rattle.gate_core.specs.Merge.{numbered, IsClient, of_client}
-use Rattle.gate_core.specs.Legal.{Run, all_queued, queued, taken, has_ended, has_joined, is_open, has_looked, last_own, is_open_look, look_reply, take_reply}
+use Rattle.gate_core.specs.Merge.{numbered}
+use Rattle.gate_core.specs.Legal.{Run, all_queued, queued, taken, has_ended, has_joined, is_open, has_looked, last_own, is_open_look, look_reply}
 use Rattle.gate_core.specs.LocalClient.{submitted, closed_by}
 use Rattle.gate_core.proofs.Merges.{of_client-append, of_client_other}
 use Rattle.gate_core.proofs.Runs.{queued-own}
-use Rattle.gate_queue.specs.Gate.{GateId}
-use Rattle.gate_queue.specs.Knowledge.{CloseKnowledge, close_knowledge, Learns}
-use Rattle.gate_queue.specs.Client.{ClientState, client_state}
-use Rattle.gate_queue.specs.Taker.{TakerState, TakesOne}
-use Rattle.gate_queue.specs.GateOperator.{Joins}
+use Rattle.gate_queue.specs.Client.{client_state}
 use Rattle.gate_desk.specs.Allowed.{shown_close, AllowsPush, BeginsEach, IsAllowed}
 use Rattle.gate_desk.specs.GateDesk.{DeskState, desk_of, KeepsRest, DeskSubmits, DeskLooks, DeskCloses, IsAfter}
 use Rattle.gate_desk.specs.inner.LocalDesks.{open_at}
@@ -32,10 +28,6 @@ use Rattle.gate_desk.specs.inner.LocalDesks.{open_at}
 if_some : {X : Type 0} (P Q : X → Type 0) (o : Option X) → ((x : X) → P x → Q x) → IfSome o P → IfSome o Q
 if_some P Q None f h = tt
 if_some P Q (Some x) f h = f x h
-
-if_some_itself : (o : Option Moment) → IfSome o (λ known. o ≡ Some known)
-if_some_itself None = tt
-if_some_itself (Some x) = refl
 
 -- ---- a run that goes on
 
@@ -261,104 +253,3 @@ after_close old new moment (Ok first) run a h = with_client old new old.client.q
 after_close old new moment (Err (AlreadyClosing first)) run a h =
     with_client old new old.client.queued (Some first) ((Close moment, reply.AlreadyClosing first) ∷ run) a.0.0 a.1 (after_second old moment first run a.0.1 h)
 after_close old new moment (Err OutOfMemory) run a h = unchanged old new run a.0.1 a.1 h
-
--- ---- turns
-
-learned : (known shown : Option Moment) (new : Option Moment) → IfSome known (λ first. shown ≡ Some first) → Learns shown known new → new ≡ shown
-learned None None new h l = l
-learned (Some known) None new h l = absurd (cc)
-learned None (Some first) new h l = l
-learned (Some known) (Some first) new h l = l.1
-
-pub after_turn : (old : DeskState) (closer : CloseKnowledge) (next : ClientState) (run : Run) → closer ≡ close_knowledge old.client.gate.cell old.client.known_close → Joins old.other closer next → IsAfter old run
-    → IsAfter (desk_of next old.client old.taker) run
-after_turn old closer next run closer_is joins h =
-    let low = h.number_is.0 in
-    let high = h.number_is.1 in
-    let sum : old.client.number + old.other.number ≡ 3 = h.other_number_is in
-    let gate : next.gate ≡ old.client.gate = joins.gate ∙ h.gates.0 in
-    let client : IsClient 2 old.other.number = (omega (arith, sum, high), omega (arith, sum, low)) in
-    let swapped : old.other.number + old.client.number ≡ 3 = omega (arith, sum) in
-    let shown : closer.known_close ≡ shown_close run = ap (λ (k : CloseKnowledge). k.known_close) closer_is ∙ h.closed_is in
-    record {
-      gates = (sym gate, h.gates.1 ∙ sym gate);
-      two_clients = ap (λ (g : GateId). g.limits.clients) gate ∙ h.two_clients;
-      number_is = subst (λ n. IsClient 2 n) (sym joins.number) client;
-      other_number_is = ap (λ n. n + old.client.number) joins.number ∙ swapped;
-      queued_is = joins.queued ∙ h.other_queued_is ∙ ap (λ n. queued n run) (sym joins.number);
-      other_queued_is = h.queued_is;
-      taken_is = h.taken_is;
-      none_taken_in = h.none_taken_in;
-      closed_is = learned old.other.known_close (shown_close run) next.known_close h.other_knows (subst (λ (o : Option Moment). Learns o old.other.known_close next.known_close) shown joins.known_close);
-      other_knows = subst (λ (o : Option Moment). IfSome o (λ known. shown_close run ≡ Some known)) (sym h.closed_is) (if_some_itself (shown_close run));
-      nobody_ended = h.nobody_ended;
-      nobody_joined = h.nobody_joined;
-      allowed = subst (λ (g : GateId). IsAllowed g.limits run) (sym gate) h.allowed;
-    }
-
--- the other client's number is the one that is left
-pub other_number : (desk : DeskState) (run : Run) (number : ℕ) → IsAfter desk run → IsClient 2 number → desk.client.number ≢ number → desk.other.number ≡ number
-other_number desk run number h i ne =
-    let low = h.number_is.0 in
-    let high = h.number_is.1 in
-    let sum : desk.client.number + desk.other.number ≡ 3 = h.other_number_is in
-    let l = i.0 in
-    let u = i.1 in
-    omega (arith, sum, low, high, l, u, ne)
-
--- ---- takes
-
-with_taker : (old : DeskState) (taker : TakerState) (run more : Run) → taker.gate ≡ old.taker.gate → taker.ended ≡ old.taker.ended → taker.taken ≡ taken more → IsAllowed old.client.gate.limits more
-    → ((client : ℕ) → queued client more ≡ queued client run) → shown_close more ≡ shown_close run → ((client : ℕ) → has_ended client more ≡ has_ended client run) → ((client : ℕ) → has_joined client more ≡ has_joined client run)
-    → IsAfter old run → IsAfter (desk_of old.client old.other taker) more
-with_taker old taker run more gate lists items allowed same shown ended joined h = record {
-  gates = (h.gates.0, gate ∙ h.gates.1);
-  two_clients = h.two_clients;
-  number_is = h.number_is;
-  other_number_is = h.other_number_is;
-  queued_is = h.queued_is ∙ sym (same old.client.number);
-  other_queued_is = h.other_queued_is ∙ sym (same old.other.number);
-  taken_is = items;
-  none_taken_in = lists ∙ h.none_taken_in;
-  closed_is = h.closed_is ∙ sym shown;
-  other_knows = if_some (λ first. shown_close run ≡ Some first) (λ first. shown_close more ≡ Some first) old.other.known_close (λ first is. shown ∙ is) h.other_knows;
-  nobody_ended = λ client. ended client ∙ h.nobody_ended client;
-  nobody_joined = λ client. joined client ∙ h.nobody_joined client;
-  allowed = allowed;
-}
-
-pub after_take : (old : DeskState) (taker : TakerState) (result : Option Numbered) (run : Run) → IfSome result (λ item. TakesOne item old.taker taker) → IfNone result (taker ≡ old.taker) → IsAfter old run
-    → IsAfter (desk_of old.client old.other taker) ((Take, take_reply result) ∷ run)
-after_take old taker None run some none h =
-    with_taker old taker run ((Take, reply.Empty) ∷ run) (ap (λ (t : TakerState). t.gate) none) (ap (λ (t : TakerState). t.ended) none) (ap (λ (t : TakerState). t.taken) none ∙ h.taken_is)
-    ((λ client joined. absurd (let no = h.nobody_joined client in cc)), begins_none ((Take, reply.Empty) ∷ run) h.nobody_joined, h.allowed) (λ client. refl) refl (λ client. refl) (λ client. refl) h
-after_take old taker (Some item) run some none h =
-    let gate : old.taker.gate ≡ old.client.gate = h.gates.1 in
-    with_taker old taker run ((Take, reply.Taken item) ∷ run) (ap (λ (t : TakerState). t.gate) some.0) (ap (λ (t : TakerState). t.ended) some.0) (ap (λ (t : TakerState). t.taken) some.0 ∙ ap (λ (l : List Numbered). l ++ item ∷ []) h.taken_is)
-    ((subst (λ (g : GateId). IsClient g.limits.clients item.client) gate some.1, some.2 ∙ ap (λ (l : List Numbered). length (of_client item.client l) + 1) h.taken_is), begins_none ((Take, reply.Taken item) ∷ run) h.nobody_joined, h.allowed) (λ client. refl) refl (λ client. refl) (λ client. refl) h
-
--- ---- a new desk
-
--- a client that joins a closer which knows of no close is as before
-pub joins_new : (client operator : ClientState) (closer : CloseKnowledge) → closer.known_close ≡ None → Joins client closer operator → operator ≡ client
-joins_new client operator closer none joins =
-    let known : operator.known_close ≡ client.known_close = subst (λ (o : Option Moment). Learns o client.known_close operator.known_close) none joins.known_close in
-    λ i. client_state (joins.gate i) (joins.number i) (joins.queued i) (known i)
-
-pub nothing_yet : (client other : ClientState) (taker : TakerState) → other.gate ≡ client.gate → taker.gate ≡ client.gate → client.gate.limits.clients ≡ 2 → client.number ≡ 1 → other.number ≡ 2 → client.queued ≡ [] → other.queued ≡ [] → taker.taken ≡ [] → taker.ended ≡ [] → client.known_close ≡ None → other.known_close ≡ None
-    → IsAfter (desk_of client other taker) []
-nothing_yet client other taker gate taker_gate two one second queue other_queue items lists known other_known = record {
-  gates = (gate, taker_gate);
-  two_clients = two;
-  number_is = subst (λ n. IsClient 2 n) (sym one) (omega arith, omega arith);
-  other_number_is = omega (arith, one, second);
-  queued_is = queue;
-  other_queued_is = other_queue;
-  taken_is = items;
-  none_taken_in = lists;
-  closed_is = known;
-  other_knows = subst (λ (o : Option Moment). IfSome o (λ first. None ≡ Some first)) (sym other_known) tt;
-  nobody_ended = λ client. refl;
-  nobody_joined = λ client. refl;
-  allowed = tt;
-}
