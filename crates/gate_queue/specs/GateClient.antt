@@ -1,5 +1,5 @@
 -- A client that is used with its gate at hand, and what the trait `Submit` leaves open for it. Own rules.
-use Rattle.std.specs.Prelude.{◌≡◌, ℕ, ◌+◌, List, [], ◌∷◌, ◌++◌, length, Option, None, Result, Ok, Err}
+use Rattle.std.specs.Prelude.{◌≡◌, ℕ, ◌+◌, ◌<◌, List, [], ◌∷◌, ◌++◌, length, Option, None, Result, Ok, Err}
 use Rattle.gate_model.specs.declared.record.Moment.{Moment}
 use Rattle.gate_model.specs.declared.submission.Body.{Body}
 use Rattle.gate_model.specs.declared.submission.Numbered.{Numbered}
@@ -16,10 +16,10 @@ pub record IsSameClient (old new : ClientState) : Type 0 where
   pub gate : new.gate ≡ old.gate
   pub number : new.number ≡ old.number
 
--- a submission that was answered so: an item with the next number was added, or none was and the body is returned
+-- a submission that was answered so: an item with the next number was added within the quota, or none was and the body is returned
 abbrev pub Submits : ClientState → Body → Result ℕ Refused → ClientState → Type 0
 Submits old body (Ok number) new =
-    (number ≡ length old.queued + 1) × (old.known_close ≡ None)
+    (number ≡ length old.queued + 1) × (old.known_close ≡ None) × (length old.queued < old.gate.limits.quota)
     × (new ≡ client_state old.gate old.number (old.queued ++ numbered old.number number body ∷ []) None)
 Submits old body (Err fault) new = IsRefusal fault body old new
 

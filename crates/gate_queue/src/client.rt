@@ -1,4 +1,4 @@
-ghost use Rattle.std.specs.Prelude.{◌≡◌, ◌+◌, [], ◌∷◌, ◌++◌, length, IfOk, IfErr, IfSome, OnOk};
+ghost use Rattle.std.specs.Prelude.{◌≡◌, ◌+◌, ◌<◌, [], ◌∷◌, ◌++◌, length, IfOk, IfErr, IfSome, OnOk};
 ghost use Rattle.std.specs.Prelude.{Some, None, is_some};
 ghost use Rattle.gate_core.specs.Merge.{numbered};
 ghost use Rattle.gate_queue.specs.Knowledge.{close_knowledge, Learns};
@@ -56,6 +56,7 @@ impl Client {
         ensures queued { IfOk result (λ number. self.new ≡ client_state self.old.gate
             self.old.number (self.old.queued ++ numbered self.old.number number body ∷ []) None) }
         ensures open { OnOk result (self.old.known_close ≡ None) }
+        ensures unspent { OnOk result (length self.old.queued < self.old.gate.limits.quota) }
 
         ensures refused { IfErr result (λ fault. IsRefusal fault body self.old self.new) }
     {

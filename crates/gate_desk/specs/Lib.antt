@@ -1,0 +1,5 @@
+pub mod Allowed
+pub mod LocalDesk
+pub mod GateDesk
+pub mod Ending
+pub mod inner

@@ -1,0 +1,5 @@
+pub mod Allowing
+pub mod Drained
+pub mod LocalDesks
+pub mod GateDesks
+pub mod Endings
