@@ -1,0 +1,21 @@
+use Rattle.std.proofs.Common.{[]}
+use Rattle.std.proofs.lemmas.Result.{err_from_is_err_and}
+use Rattle.toml.specs.Data.{as_table}
+use Rattle.toml.specs.View.{view}
+use Rattle.gate_config.specs.Document.{host_checks, host_lines}
+use Rattle.gate_config.proofs.CheckSteps.{fails_at, lines_more, pass_more}
+use Rattle.gate_config.proofs.objects.read_hosts.Goals as goal
+
+pub returns-in_err-push_host-clause-failed : goal.returns-in_err-push_host-clause-failed
+returns-in_err-push_host-clause-failed c =
+    let p = err_from_is_err_and c.from_residual.result c.from_residual.ensures.1 in
+    rw (p.1, p.2) (λ not_memory. fails_at (λ row. host_checks (as_table (view row))) c.args.rows.now c.loop-row.row-index c.row-item.result _
+    c.loop-row-test.true c.row-item.is c.loop-row.invariant.passed (c.in_err-push_host.ensures.failed not_memory))
+
+pub loop-row-preserved : goal.loop-row-preserved
+loop-row-preserved c = record {
+  lines = lines_more (λ row. host_lines (as_table (view row))) c.args.rows.now c.loop-row.row-index c.row-item.result [] _ _
+      c.loop-row-test.true c.row-item.is c.loop-row.invariant.lines c.in_ok-push_host.ensures.lines;
+  passed = pass_more (λ row. host_checks (as_table (view row))) c.args.rows.now c.loop-row.row-index c.row-item.result
+      c.loop-row-test.true c.row-item.is c.loop-row.invariant.passed c.in_ok-push_host.ensures.passed;
+}

@@ -1,0 +1,5 @@
+pub mod Keys
+pub mod Check
+pub mod Values
+pub mod Document
+pub mod Config

@@ -1,0 +1,15 @@
+//! The configuration of the daemon: a document of TOML is read to addresses, limits and the table of
+//! objects. What is wrong with it is reported by its first fault, in a fixed order.
+#![tactic(auto)]
+
+mod config;
+mod fault;
+mod key;
+mod limits;
+mod objects;
+mod values;
+
+pub use config::{Address, CONFIG_BYTES, Config, read_config};
+pub use fault::{ConfigFault, KeyText};
+pub use key::Key;
+pub use limits::Limits;
