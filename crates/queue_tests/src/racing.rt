@@ -4,7 +4,7 @@ ghost use Rattle.gate_queue.specs.DrainedClose.{items_of_records};
 
 use crate::parts::{Answer, applied_until_closed, applier, closed, id_in, submitted};
 use gate_applier::Applier;
-use gate_model::{Moment, Record};
+use gate_model::{Moment, Numbered, Record};
 use gate_queue::{
     Client, CloseAllFault, Closed, Closer, Ended, Gate, Taker, close_all, conservation, open,
 };
@@ -202,18 +202,21 @@ fn all_ended<R: Wait>(
     all
 }
 
+// Whether the item is the next of those that its client was answered are queued, after so many.
+fn is_next(item: &Numbered, count: usize, account: &Account) -> bool {
+    item.number == (count as u64).wrapping_add(1)
+        && account.queued.get(count) == Some(&id_in(&item.body))
+}
+
 // Whether the client's records are those bodies that it was answered are queued, in order.
 fn is_whole(records: &[Record], client: u32, account: &Account) -> bool {
     let mut count = 0usize;
     for applied in records {
         if applied.item.client == client {
-            if account.queued.get(count) != Some(&id_in(&applied.item.body)) {
+            if !is_next(&applied.item, count, account) {
                 return false;
             }
             count = count.wrapping_add(1);
-            if applied.item.number != count as u64 {
-                return false;
-            }
         }
     }
     count == account.queued.len() && account.kept && account.closing == Some(1500)
