@@ -65,7 +65,7 @@ impl Source for Pieces<'_> {
     }
 }
 
-/// A writer that keeps what is written. One call may fail, which keeps nothing; the next ones go on.
+/// A writer that keeps what is written. One call may fail, which keeps nothing; the next go on.
 #[derive(Drop)]
 pub struct Kept<'a> {
     bytes: &'a mut Vec<u8>,

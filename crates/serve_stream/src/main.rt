@@ -12,8 +12,11 @@ mod settings;
 
 use crate::printing::print_outcome;
 use crate::serving::serve;
-use crate::settings::settings_of;
-use std::io::{BufWriter, Error, ErrorKind, Read, Write};
+use crate::settings::{Settings, settings_of};
+use gate_reader::{Sink, Source};
+use std::alloc::Global;
+use std::io::{BufReader, BufWriter};
+use std::process::ExitCode;
 use std::rt::Env;
 use std::{env, io};
 
@@ -23,12 +26,43 @@ fn words(rt: &(impl Env + AllocGlobal)) -> io::Result<Vec<String>> {
     Ok(words.collect(rt.alloc())?)
 }
 
-fn main(rt: HostRuntime) -> io::Result<()> {
-    let settings = settings_of(&words(&rt)?).ok_or(Error::from(ErrorKind::InvalidInput))?;
-    let mut stream = Vec::new(rt.alloc());
-    rt.stdin().lock().read_to_end(&mut stream)?;
-    let outcome = serve(rt.alloc(), &settings, &stream)?;
+fn read_all(alloc: Global, input: &mut impl Source) -> io::Result<Vec<u8>> {
+    let mut piece = [0; 4096];
+    let mut stream = Vec::new(alloc);
+    for _ in 0..u64::MAX {
+        let count = input.take_some(&mut piece)?;
+        if count == 0 {
+            break;
+        }
+        stream.extend_from_slice(&piece[..count])?;
+    }
+    Ok(stream)
+}
+
+// Serves the input, and prints the line.
+fn run(
+    alloc: Global,
+    settings: &Settings,
+    input: &mut impl Source,
+    output: &mut impl Sink,
+) -> io::Result<()> {
+    let stream = read_all(alloc, input)?;
+    let outcome = serve(alloc, settings, &stream)?;
+    let mut line = Vec::new(alloc);
+    print_outcome(alloc, outcome, &mut line)?;
+    output.put(&line)?;
+    output.deliver()
+}
+
+fn main(rt: HostRuntime) -> io::Result<ExitCode> {
+    let Some(settings) = settings_of(&words(&rt)?) else {
+        let mut errors = rt.stderr().lock();
+        errors.put(b"serve_stream: bad words\n")?;
+        errors.deliver()?;
+        return Ok(ExitCode::from(2));
+    };
+    let mut input = BufReader::new(rt.alloc(), rt.stdin().lock())?;
     let mut output = BufWriter::new(rt.alloc(), rt.stdout().lock())?;
-    print_outcome(rt.alloc(), outcome, &mut output)?;
-    output.flush()
+    run(rt.alloc(), &settings, &mut input, &mut output)?;
+    Ok(ExitCode::SUCCESS)
 }
