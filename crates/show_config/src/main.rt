@@ -58,14 +58,17 @@ fn show(read: &Result<Config, ConfigFault>, output: &mut impl Write) -> io::Resu
     }
 }
 
-fn read_input(alloc: Global, input: impl Read) -> io::Result<Vec<u8>> {
+fn read_input(alloc: Global, input: &mut impl Read) -> io::Result<Vec<u8>> {
     let mut text = Vec::new(alloc);
-    input.take(CONFIG_BYTES as u64 + 1).read_to_end(&mut text)?;
+    input
+        .by_ref()
+        .take(CONFIG_BYTES as u64 + 1)
+        .read_to_end(&mut text)?;
     Ok(text)
 }
 
 fn main(rt: HostRuntime) -> io::Result<()> {
-    let text = read_input(rt.alloc(), rt.stdin().lock())?;
+    let text = read_input(rt.alloc(), &mut rt.stdin().lock())?;
     let mut output = BufWriter::new(rt.alloc(), rt.stdout().lock())?;
     show(&read_config(rt.alloc(), &text), &mut output)?;
     output.flush()
