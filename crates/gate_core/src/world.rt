@@ -179,10 +179,10 @@ impl World {
         Ok(number)
     }
 
-    /// The oldest item of the queue, which leaves it.
-    pub(crate) fn take(&mut self) -> Option<Numbered>
+    /// Takes the oldest item, which leaves the queue. It takes no memory.
+    pub fn take(&mut self) -> Option<Numbered>
         ensures oldest { result ≡ slice_get self.old.queue 0 }
-        ensures after { self.new ≡ with_queue self.old (drop 1 self.old.queue) }
+        ensures after { self.new ≡ record self.old { queue = drop 1 self.old.queue } }
         ensures stands { Extends self.old Event.Take (take_reply result) self.new }
         ensures limits { self.new.limits ≡ self.old.limits }
     {

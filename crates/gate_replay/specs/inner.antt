@@ -1,3 +1,4 @@
 -- Only proofs and private functions use these.
 pub mod Parsing
 pub mod Playing
+pub mod Sessions
