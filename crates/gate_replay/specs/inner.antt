@@ -2,3 +2,4 @@
 pub mod Parsing
 pub mod Playing
 pub mod Sessions
+pub mod Examples

@@ -10,8 +10,13 @@ ghost use Rattle.gate_replay.specs.Gateway.{Gateway, Heard, gateway_after, steps
 pub fn replay_laws()
     // The records' items are those that were taken, whatever was answered.
     ensures items { (setup : Setup) (done : List (Step × Heard))
-        → map (λ (record : Record). record.item) (gateway_after setup done).records
+        → map (λ (one : Record). one.item) (gateway_after setup done).records
         ≡ taken (gateway_after setup done).run }
+    // Its steps and what the queue answered make one gateway, whatever the queue is.
+    ensures function { (setup : Setup) (done other : List (Step × Heard))
+        → steps_of done ≡ steps_of other → IsWhole setup done → IsWhole setup other
+        → (gateway_after setup done).run ≡ (gateway_after setup other).run
+        → gateway_after setup done ≡ gateway_after setup other }
     // A script leads to one gateway at most.
     ensures one { (script : Script) (one other : Gateway)
         → IsPlayed script one → IsPlayed script other → one ≡ other }

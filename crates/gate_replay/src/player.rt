@@ -1,15 +1,11 @@
-ghost use Rattle.std.specs.Prelude.{◌≡◌, ◌+◌, ◌<◌, ◌^◌, IfOk, IfErr, IfSome, OnOk};
-ghost use Rattle.gate_model.specs.Record.{later};
-ghost use Rattle.gate_applier.specs.Applier.{opened};
-ghost use Rattle.gate_core.specs.Limits.{limits_of, default_quota};
-ghost use Rattle.gate_core.specs.State.{StandsAfter};
-ghost use Rattle.gate_reader.specs.Sink.{SinkState, sink_state, Fails, Writes};
+ghost use Rattle.std.specs.Prelude.{◌≡◌, ◌≢◌, ◌+◌, ◌<◌, ◌^◌, length, IfOk, IfErr, OnOk};
+ghost use Rattle.gate_reader.specs.Sink.{SinkState, sink_state, Fails};
 ghost use Rattle.gate_pages.specs.StatusPage.{status_text_at};
 ghost use Rattle.gate_replay.specs.declared.script.Step.TheVariants as step;
 ghost use Rattle.gate_replay.specs.declared.script.Setup.{Setup};
 ghost use Rattle.gate_replay.specs.Gateway.{Gateway, is_session};
 ghost use Rattle.gate_replay.specs.inner.Sessions.{queued_in};
-ghost use Rattle.gate_replay.specs.inner.Playing.{Setting, setting, Shows, IsReady, Serves, Drains, DrainsFull, Plays, PlaysFull, PlayedTo, PlayedFull, IsWriteEnd, StopsBy};
+ghost use Rattle.gate_replay.specs.inner.Playing.{Setting, setting, Shows, IsNew, IsReady, Takes, Serves, Drains, DrainsFull, Plays, PlaysFull, PlayedTo, PlayedFull, IsWriteEnd, StopsBy};
 
 use crate::fault::ReplayFault;
 use crate::printing::{print, print_answer};
@@ -58,7 +54,12 @@ fn queued_after(queued: u64, answer: &Answer) -> u64
 }
 
 // Makes room for a record, or stops.
-fn prepare(applier: Applier) -> Result<Ready, Stopped> {
+fn prepare(applier: Applier) -> Result<Ready, Stopped>
+    ensures ready { IfOk result (λ ready. ready ≡ record applier { room = ready.room }) }
+    ensures stopped { IfErr result (StopsBy
+        (λ kept. (kept ≡ applier) × (length applier.records ≡ applier.limit)) (Unit {0}) (λ _. ⊥)) }
+    ensures room { OnOk result (length applier.records ≢ applier.limit) }
+{
     match applier.prepare() {
         Ok(ready) => Ok(ready),
         Err(
@@ -93,7 +94,10 @@ fn opens_session(step: &Step) -> bool
 
 impl Player {
     /// The replay that begins with this setup.
-    pub(crate) fn open(alloc: Global, setup: Setup) -> Result<Player, ReplayFault> {
+    pub(crate) fn open(alloc: Global, setup: Setup) -> Result<Player, ReplayFault>
+        ensures begun { IfOk result (IsNew setup) }
+        ensures err { IfErr result (λ fault. fault ≡ ReplayFault.OutOfMemory) }
+    {
         let Setup {
             table,
             moment,
@@ -117,7 +121,12 @@ impl Player {
     }
 
     // Takes an item and records it. Without one there is nothing more to take.
-    fn take_one(self) -> Result<(Player, bool), Stopped> {
+    fn take_one(self) -> Result<(Player, bool), Stopped>
+        ensures taken { IfOk result (λ turn. Takes self turn.0 turn.1) }
+        ensures stopped { IfErr result (StopsBy
+            (λ kept. (kept ≡ self.applier) × (length self.applier.records ≡ self.applier.limit))
+            (Unit {0}) (λ _. ⊥)) }
+    {
         let Player {
             mut world,
             applier,
@@ -129,30 +138,49 @@ impl Player {
             Ok(ready) => ready,
             Err(stop) => return Err(stop),
         };
-        let (applier, found) = match world.take() {
+        match world.take() {
             Some(item) => {
                 let (applier, _) = ready.apply(item, clock);
-                (applier, true)
+                let player = Player {
+                    world,
+                    applier,
+                    clock,
+                    age,
+                    queued,
+                };
+                Ok((player, true))
             }
-            None => (ready.give_back(), false),
-        };
-        let player = Player {
-            world,
-            applier,
-            clock,
-            age,
-            queued,
-        };
-        Ok((player, found))
+            None => {
+                let applier = ready.give_back();
+                let player = Player {
+                    world,
+                    applier,
+                    clock,
+                    age,
+                    queued,
+                };
+                Ok((player, false))
+            }
+        }
     }
 
     // Records what is queued.
-    fn drain(self) -> Result<Player, Stopped> {
+    fn drain(self) -> Result<Player, Stopped>
+        ensures drained { IfOk result (λ now. (s : Setting) (output : SinkState) (g : Gateway)
+            → Shows s self output g → Drains s now output g) }
+        ensures stopped { IfErr result (StopsBy (λ kept. (s : Setting) (output : SinkState)
+            (g : Gateway) → Shows s self output g → DrainsFull s kept output g)
+            (Unit {0}) (λ _. ⊥)) }
+    {
         let mut player = self;
         while (player.applier.records().len() as u64) < player.queued {
             match player.take_one() {
-                Ok((next, true)) => player = next,
-                Ok((next, false)) => return Ok(next),
+                Ok(turn) => {
+                    if !turn.1 {
+                        return Ok(turn.0);
+                    }
+                    player = turn.0;
+                }
                 Err(stop) => return Err(stop),
             }
         }
@@ -165,7 +193,16 @@ impl Player {
         alloc: Global,
         packet: &Packet,
         output: &mut W,
-    ) -> Result<Player, Stopped> {
+    ) -> Result<Player, Stopped>
+        requires { IsReady self }
+        ensures served { let state = sink_state W.contents W.pending W.failures in
+            IfOk result (λ now. (s : Setting) (g : Gateway) → Shows s self (state output.old) g
+            → Serves s now (state output.new) (step.Packet packet.now) g) }
+        ensures none_failed { OnOk result (Fails (W.failures output.old) (W.failures output.new) 0) }
+        ensures stopped { let state = sink_state W.contents W.pending W.failures in
+            IfErr result (StopsBy (λ _. ⊥) (Fails (W.failures output.old) (W.failures output.new) 0)
+            (IsWriteEnd (state output.old) (state output.new))) }
+    {
         let Player {
             world,
             applier,
@@ -196,7 +233,16 @@ impl Player {
         alloc: Global,
         text: &Text,
         output: &mut W,
-    ) -> Result<Player, Stopped> {
+    ) -> Result<Player, Stopped>
+        requires { IsReady self }
+        ensures served { let state = sink_state W.contents W.pending W.failures in
+            IfOk result (λ now. (s : Setting) (g : Gateway) → Shows s self (state output.old) g
+            → Serves s now (state output.new) (step.Line text.now) g) }
+        ensures none_failed { OnOk result (Fails (W.failures output.old) (W.failures output.new) 0) }
+        ensures stopped { let state = sink_state W.contents W.pending W.failures in
+            IfErr result (StopsBy (λ _. ⊥) (Fails (W.failures output.old) (W.failures output.new) 0)
+            (IsWriteEnd (state output.old) (state output.new))) }
+    {
         let Player {
             world,
             applier,
@@ -226,7 +272,15 @@ impl Player {
     }
 
     // The status page, at the clock's moment or the applier's, whichever is later.
-    fn page<W: Sink>(self, alloc: Global, output: &mut W) -> Result<Player, Stopped> {
+    fn page<W: Sink>(self, alloc: Global, output: &mut W) -> Result<Player, Stopped>
+        ensures served { let state = sink_state W.contents W.pending W.failures in
+            IfOk result (λ now. (s : Setting) (g : Gateway) → Shows s self (state output.old) g
+            → Serves s now (state output.new) step.Page g) }
+        ensures none_failed { OnOk result (Fails (W.failures output.old) (W.failures output.new) 0) }
+        ensures stopped { let state = sink_state W.contents W.pending W.failures in
+            IfErr result (StopsBy (λ _. ⊥) (Fails (W.failures output.old) (W.failures output.new) 0)
+            (IsWriteEnd (state output.old) (state output.new))) }
+    {
         let mut player = self;
         player.applier.advance(player.clock);
         let Ok(page) = page_of(alloc, &player.applier) else {
@@ -239,7 +293,16 @@ impl Player {
     }
 
     // The step without its drain.
-    fn serve<W: Sink>(self, alloc: Global, step: &Step, output: &mut W) -> Result<Player, Stopped> {
+    fn serve<W: Sink>(self, alloc: Global, step: &Step, output: &mut W) -> Result<Player, Stopped>
+        requires { IsReady self }
+        ensures served { let state = sink_state W.contents W.pending W.failures in
+            IfOk result (λ now. (s : Setting) (g : Gateway) → Shows s self (state output.old) g
+            → Serves s now (state output.new) step.now g) }
+        ensures none_failed { OnOk result (Fails (W.failures output.old) (W.failures output.new) 0) }
+        ensures stopped { let state = sink_state W.contents W.pending W.failures in
+            IfErr result (StopsBy (λ _. ⊥) (Fails (W.failures output.old) (W.failures output.new) 0)
+            (IsWriteEnd (state output.old) (state output.new))) }
+    {
         match step {
             Step::Clock(moment) => {
                 let mut player = self;
@@ -252,7 +315,17 @@ impl Player {
         }
     }
 
-    fn step<W: Sink>(self, alloc: Global, step: &Step, output: &mut W) -> Result<Player, Stopped> {
+    fn step<W: Sink>(self, alloc: Global, step: &Step, output: &mut W) -> Result<Player, Stopped>
+        requires { IsReady self }
+        ensures played { let state = sink_state W.contents W.pending W.failures in
+            IfOk result (λ now. (s : Setting) (g : Gateway) → Shows s self (state output.old) g
+            → Plays s now (state output.new) step.now g) }
+        ensures stopped { let state = sink_state W.contents W.pending W.failures in
+            IfErr result (StopsBy (λ kept. (s : Setting) (g : Gateway)
+            → Shows s self (state output.old) g → PlaysFull s kept (state output.new) step.now g)
+            (Fails (W.failures output.old) (W.failures output.new) 0)
+            (IsWriteEnd (state output.old) (state output.new))) }
+    {
         match self.serve(alloc, step, output) {
             Ok(player) => {
                 if opens_session(step) {
@@ -272,7 +345,17 @@ impl Player {
         alloc: Global,
         steps: &[Step],
         output: &mut W,
-    ) -> Result<Player, Stopped> {
+    ) -> Result<Player, Stopped>
+        requires { (setup : Setup) × IsNew setup self }
+        ensures played { let state = sink_state W.contents W.pending W.failures in
+            IfOk result (λ now. (setup : Setup) → IsNew setup self
+            → PlayedTo (setting setup (state output.old)) steps.now now (state output.new)) }
+        ensures stopped { let state = sink_state W.contents W.pending W.failures in
+            IfErr result (StopsBy (λ kept. (setup : Setup) → IsNew setup self
+            → PlayedFull (setting setup (state output.old)) steps.now kept (state output.new))
+            (Fails (W.failures output.old) (W.failures output.new) 0)
+            (IsWriteEnd (state output.old) (state output.new))) }
+    {
         let mut player = self;
         for step in steps {
             match player.step(alloc, step, output) {

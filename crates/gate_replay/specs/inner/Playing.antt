@@ -1,12 +1,15 @@
 -- Only proofs and private functions use this: how a player shows the gateway that it plays, and how it stops.
-use Rattle.std.specs.Prelude.{◌≡◌, ℕ, ◌<◌, ◌^◌, List, [], ◌∷◌, Option, Some, None, Result, Bool, true, false, reverse}
-use Rattle.gate_model.specs.declared.record.Moment.{Moment}
+use Rattle.std.specs.Prelude.{◌≡◌, ◌≢◌, ℕ, ◌<◌, ◌^◌, List, [], ◌∷◌, ◌++◌, length, Option, Some, None, Bool, true, false, reverse}
+use Rattle.std.specs.Bool.{MatchBool}
 use Rattle.gate_model.specs.declared.record.Record.{Record}
 use Rattle.gate_model.specs.declared.submission.Numbered.{Numbered}
+use Rattle.gate_model.specs.Record.{later}
 use Rattle.gate_core.specs.Limits.{Limits, limits_of, default_quota}
 use Rattle.gate_core.specs.Legal.{Run, has_ended, IsLegal}
-use Rattle.gate_core.specs.State.{WorldState, StandsAfter}
-use Rattle.gate_applier.specs.Applier.{ApplierView}
+use Rattle.gate_core.specs.State.{WorldState, StandsAfter, Extends}
+use Rattle.gate_core.specs.declared.event.Event.TheVariants.{Take}
+use Rattle.gate_core.specs.declared.event.Reply.TheVariants.{Taken, Empty}
+use Rattle.gate_applier.specs.Applier.{ApplierView, opened}
 use Rattle.gate_reader.specs.Sink.{SinkState, Fails, FailsOnce, Writes, Delivers}
 use Rattle.gate_replay.specs.declared.fault.ReplayFault.{ReplayFault}
 use Rattle.gate_replay.specs.declared.fault.ReplayFault.TheVariants.{TooLong, Line, LogFull, OutOfMemory, ReadFault, WriteFault}
@@ -53,6 +56,39 @@ pub record Shows (s : Setting) (player : Player) (output : SinkState) (g : Gatew
   pub printed : Writes s.base output g.printed
   pub running : g.full ≡ false
 
+-- a player that has done nothing yet
+pub record IsNew (setup : Setup) (player : Player) : Type 0 where
+  pub stands : StandsAfter player.world []
+  pub limits : player.world.limits ≡ limits_of 2 default_quota setup.capacity
+  pub applier : player.applier ≡ opened setup.table setup.moment setup.limit
+  pub clock : player.clock ≡ setup.moment
+  pub age : player.age ≡ setup.age
+  pub queued : player.queued ≡ 0
+
+-- a player took an item and recorded it
+pub record TakesItem (was now : Player) (item : Numbered) : Type 0 where
+  pub taken : Extends was.world Take (Taken item) now.world
+  pub records : now.applier.records ≡ was.applier.records ++ record { moment = later was.applier.moment was.clock; item = item } ∷ []
+  pub moment : now.applier.moment ≡ later was.applier.moment was.clock
+
+-- a player took nothing
+pub record TakesNothing (was now : Player) : Type 0 where
+  pub taken : Extends was.world Take Empty now.world
+  pub records : now.applier.records ≡ was.applier.records
+  pub moment : now.applier.moment ≡ was.applier.moment
+
+-- a player took an item and recorded it, or nothing where the last is false
+pub record Takes (was now : Player) (found : Bool) : Type 0 where
+  pub room : length was.applier.records ≢ was.applier.limit
+  pub limits : now.world.limits ≡ was.world.limits
+  pub table : now.applier.table ≡ was.applier.table
+  pub opening : now.applier.opening ≡ was.applier.opening
+  pub limit : now.applier.limit ≡ was.applier.limit
+  pub clock : now.clock ≡ was.clock
+  pub age : now.age ≡ was.age
+  pub queued : now.queued ≡ was.queued
+  pub turn : MatchBool found ((item : Numbered) × TakesItem was now item) (TakesNothing was now)
+
 -- no client of the World has ended
 pub record IsUnended (world : WorldState) : Type 0 where
   pub run : Run
@@ -81,7 +117,7 @@ pub record Drains (s : Setting) (player : Player) (output : SinkState) (g : Gate
 -- the log was full with an item left
 pub record Ends (s : Setting) (applier : ApplierView) (output : SinkState) (g : Gateway) : Type 0 where
   pub legal : IsLegal (limits_of 2 default_quota s.setup.capacity) g.run
-  pub applier : ShowsRecords s.setup applier g
+  pub shown : ShowsRecords s.setup applier g
   pub printed : Writes s.base output g.printed
   pub full : g.full ≡ true
 
