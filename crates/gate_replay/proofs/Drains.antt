@@ -41,7 +41,6 @@ not_left m n h = grind arith
 is_left : (m n : ℕ) → m < n → nat_lt m n ≡ true
 is_left m n h = grind arith
 
-
 -- an item is left to be recorded
 left_in : (s : Setting) (now : Player) (output : SinkState) (g : Gateway) → Shows s now output g → length now.applier.records < now.queued → length g.records < number_queued g.run
 left_in s now output g h some = omega (arith, h.queued, ap length h.applier.records)
@@ -137,8 +136,8 @@ drains_more was now next some few t on s output g h =
     let one : TakesItem now next item = t.turn.1 in
     let moment_is : later now.applier.moment now.clock ≡ later r.g.moment r.g.clock = cc (r.shows.moment, r.shows.clock) in
     let records_are : next.applier.records ≡ r.g.records ++ record { moment = later r.g.moment r.g.clock; item = item } ∷ [] =
-        one.records ∙ ap (λ (l : List Record). l ++ record { moment = later now.applier.moment now.clock; item = item } ∷ []) r.shows.applier.records
-        ∙ ap (λ (m : Moment). r.g.records ++ record { moment = m; item = item } ∷ []) moment_is in
+    one.records ∙ ap (λ (l : List Record). l ++ record { moment = later now.applier.moment now.clock; item = item } ∷ []) r.shows.applier.records
+    ∙ ap (λ (m : Moment). r.g.records ++ record { moment = m; item = item } ∷ []) moment_is in
     record {
       g = records_item item r.g;
       shows = record {
@@ -181,12 +180,15 @@ takes_item was now ready next world item room is taken limits records moment tab
       clock = clock;
       age = age;
       queued = queued;
-      turn = (item, record {
-        taken = subst (λ (w : WorldState). Extends was.world Take (take_reply (Some item)) w) (sym world_is) taken;
-        records = ap (λ (v : ApplierView). v.records) next_is ∙ records ∙ ap (λ (l : List Record). l ++ record { moment = later ready.moment was.clock; item = item } ∷ []) records_are
-            ∙ ap (λ (m : Moment). was.applier.records ++ record { moment = m; item = item } ∷ []) later_is;
-        moment = ap (λ (v : ApplierView). v.moment) next_is ∙ moment ∙ later_is;
-      });
+      turn = (
+        item,
+        record {
+          taken = subst (λ (w : WorldState). Extends was.world Take (take_reply (Some item)) w) (sym world_is) taken;
+          records = ap (λ (v : ApplierView). v.records) next_is ∙ records ∙ ap (λ (l : List Record). l ++ record { moment = later ready.moment was.clock; item = item } ∷ []) records_are
+              ∙ ap (λ (m : Moment). was.applier.records ++ record { moment = m; item = item } ∷ []) later_is;
+          moment = ap (λ (v : ApplierView). v.moment) next_is ∙ moment ∙ later_is;
+        },
+      );
     }
 
 pub takes_nothing : (was now : Player) (ready : ApplierView) (world : WorldState) → length was.applier.records ≢ was.applier.limit → ready ≡ record was.applier { room = ready.room }

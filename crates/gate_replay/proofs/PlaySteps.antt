@@ -84,7 +84,7 @@ serves_page was now before after world table opening limit records moment clock 
     let records_are : now.applier.records ≡ g.records = records ∙ h.applier.records in
     let moment_is : now.applier.moment ≡ later g.moment g.clock = moment ∙ cc (h.moment, h.clock) in
     let text : status_text_at now.applier.table now.applier.opening now.applier.records now.applier.moment ≡ status_text_at s.setup.table s.setup.moment g.records (later g.moment g.clock) =
-        rw (table_is, opening_is, records_are, moment_is) refl in
+    rw (table_is, opening_is, records_are, moment_is) refl in
     record {
       heard = nothing_heard [];
       shows = λ takes. record {
@@ -98,6 +98,10 @@ serves_page was now before after world table opening limit records moment clock 
         running = h.running;
       };
     }
+
+-- what a session wrote into an empty buffer
+pub written_line : (text written before line : List ℕ) → text ≡ written → written ≡ before ++ line → before ≡ [] → text ≡ line
+written_line text written before line same grown empty = same ∙ grown ∙ ap (λ (l : List ℕ). l ++ line) empty
 
 -- ---- one step
 

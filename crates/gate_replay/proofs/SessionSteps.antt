@@ -193,6 +193,7 @@ packet_served {S} view limits age p now bytes old new readings source_old source
   where
     first : (r : ℕ → Moment) × (h.greeted ≡ Some r) × (r 0 ≡ now)
     first = greeted_first h.greeted now h.now h.first
+
     go : IsGreeted view limits age h.now (parties old h.greeted) (parties new readings) source_old source_new sink_old sink_new report.answers report.stop
         ⊎ IsUngreeted (parties old h.greeted) (parties new readings) source_old source_new sink_old sink_new report.answers report.stop
         → AnswersPacket view age p now old a new
@@ -200,10 +201,10 @@ packet_served {S} view limits age p now bytes old new readings source_old source
     go (inl g) =
         let s = g.served in
         let after_is : parties new readings ≡ s.answered =
-            stays_at_end (packets view limits.items age) limits report.stop report.answers s.rest s.answered (parties new readings) s.calls s.failures source_new.left
-            (λ rest k. stays_at_shutdown limits.items age report.answers rest s.answered (parties new readings) k) only.ended s.stops in
+        stays_at_end (packets view limits.items age) limits report.stop report.answers s.rest s.answered (parties new readings) s.calls s.failures source_new.left
+        (λ rest k. stays_at_shutdown limits.items age report.answers rest s.answered (parties new readings) k) only.ended s.stops in
         let handles : HandlesOne (packets view limits.items age) (parties old h.greeted) (parties new readings) s.input a =
-            one_of view (packets view limits.items age) (parties old h.greeted) s.answered (parties new readings) s.items s.input s.rest a s.serves (sym s.listed ∙ only.answers) after_is in
+        one_of view (packets view limits.items age) (parties old h.greeted) s.answered (parties new readings) s.items s.input s.rest a s.serves (sym s.listed ∙ only.answers) after_is in
         let front = front_of source_new.left bytes s.input (subst (λ (l : Option (List ℕ)). Consumes l source_new.left s.input) left s.read) in
         one_block view limits.items age p now first.0 bytes s.input front.0 a old new readings is one law first.2 front.1
         (subst (λ (r : Option (ℕ → Moment)). HandlesOne (packets view limits.items age) (parties old r) (parties new readings) s.input a) first.1 handles)
@@ -217,6 +218,7 @@ packet_answer {S} view age p now old new a h = go (is_stale p.timestamp now.0 ag
     of_reply (Err (refused.Closing first given)) = tt
     of_reply (Err (refused.Spent given)) = tt
     of_reply (Err (refused.Full given)) = tt
+
     go : (stale : Bool) → MatchBool stale ((a ≡ answer.Stale) × (new ≡ old)) (SubmitsBody view old (reported_body p) a new) → IsPacketAnswer a
     go true k = subst (λ (x : Answer). IsPacketAnswer x) (sym k.0) tt
     go false k = subst (λ (x : Answer). IsPacketAnswer x) (sym k.2) (of_reply k.0)
@@ -310,10 +312,10 @@ pub line_served : {S : Type 0} (view : OperatorView S) (limits : SessionLimits) 
 line_served {S} view limits now bytes old new readings source_old source_new sink_old sink_new report a left h only =
     let s = h.served in
     let after_is : parties new readings ≡ s.answered =
-        stays_at_end (lines view limits.items) limits report.stop report.answers s.rest s.answered (parties new readings) s.calls s.failures source_new.left
-        (λ rest k. line_stays view limits.items report.answers rest s.answered (parties new readings) k) only.ended s.stops in
+    stays_at_end (lines view limits.items) limits report.stop report.answers s.rest s.answered (parties new readings) s.calls s.failures source_new.left
+    (λ rest k. line_stays view limits.items report.answers rest s.answered (parties new readings) k) only.ended s.stops in
     let handles : HandlesOne (lines view limits.items) (parties old (Some (still now))) (parties new readings) s.input a =
-        one_of view.client (lines view limits.items) (parties old (Some (still now))) s.answered (parties new readings) s.items s.input s.rest a s.serves (sym s.listed ∙ only.answers) after_is in
+    one_of view.client (lines view limits.items) (parties old (Some (still now))) s.answered (parties new readings) s.items s.input s.rest a s.serves (sym s.listed ∙ only.answers) after_is in
     let front = front_of source_new.left bytes s.input (subst (λ (l : Option (List ℕ)). Consumes l source_new.left s.input) left s.read) in
     one_line view limits.items now bytes s.input front.0 a old new readings front.1 handles
 

@@ -55,6 +55,7 @@ more_queued client number body run low high = dite (ℕ_discrete client 1) (λ i
   where
     at_one : (number : ℕ) (body : Body) (run : Run) → number_queued ((Push 1 body, reply.Queued number) ∷ run) ≡ number_queued run + 1
     at_one number body run = omega (arith, ap length (more_of 1 1 number body run), ap length (more_of 2 1 number body run), length-append (queued 1 run) (numbered 1 number body ∷ []), length-append {A = Numbered} (queued 2 run) [])
+
     at_two : (number : ℕ) (body : Body) (run : Run) → number_queued ((Push 2 body, reply.Queued number) ∷ run) ≡ number_queued run + 1
     at_two number body run = omega (arith, ap length (more_of 1 2 number body run), ap length (more_of 2 2 number body run), length-append {A = Numbered} (queued 1 run) [], length-append (queued 2 run) (numbered 2 number body ∷ []))
 

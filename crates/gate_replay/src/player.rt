@@ -228,12 +228,7 @@ impl Player {
     }
 
     // The session of an operator's line.
-    fn line<W: Sink>(
-        self,
-        alloc: Global,
-        text: &Text,
-        output: &mut W,
-    ) -> Result<Player, Stopped>
+    fn line<W: Sink>(self, alloc: Global, text: &Text, output: &mut W) -> Result<Player, Stopped>
         requires { IsReady self }
         ensures served { let state = sink_state W.contents W.pending W.failures in
             IfOk result (λ now. (s : Setting) (g : Gateway) → Shows s self (state output.old) g

@@ -13,9 +13,7 @@ use gate_core::{Operator, Submit};
 use gate_grammar::round_trip;
 use gate_model::Moment;
 use gate_packet::{Packet, encode, one_reading};
-use gate_reader::{
-    Answer, FixedClock, Report, SessionLimits, Stop, serve_lines, serve_packets,
-};
+use gate_reader::{Answer, FixedClock, Report, SessionLimits, Stop, serve_lines, serve_packets};
 use std::alloc::{AllocError, Global};
 
 /// More packets, lines and reads than a session of one packet or one line needs.
@@ -92,12 +90,5 @@ pub(crate) fn line_session<O: Operator>(
     input.push(b'\n')?;
     let mut reader = input.as_slice();
     let mut clock = FixedClock(now);
-    Ok(serve_lines(
-        alloc,
-        &mut reader,
-        written,
-        &mut clock,
-        operator,
-        LIMITS,
-    ))
+    Ok(serve_lines(alloc, &mut reader, written, &mut clock, operator, LIMITS))
 }

@@ -1,6 +1,8 @@
+use Rattle.std.proofs.Common.{List, subst, arith, take_all, length, ◌≤◌, ◌<◌}
+use Rattle.gate_replay.specs.declared.script.Step.{Step}
 use Rattle.gate_reader.specs.Sink.{sink_state}
 use Rattle.gate_replay.specs.Gateway.{gateway_after}
-use Rattle.gate_replay.specs.inner.Playing.{setting}
+use Rattle.gate_replay.specs.inner.Playing.{setting, PlayedTo}
 use Rattle.gate_replay.proofs.PlaySteps.{ready, played_none, next_step, played_more, played_stops}
 use Rattle.gate_replay.proofs.player.Player.play.Goals as goal
 
@@ -25,3 +27,9 @@ loop-step-preserved g c =
     let state = sink_state g.W.Write.contents g.W.Sink.pending g.W.Sink.failures in
     λ setup new. played_more (setting setup (state c.args.output.now)) _ _ c.loop-step.player c.in-Ok.next (state c.loop-step.output) (state c.step.new.output) c.step-item.result
     (next_step c.args.steps.now c.loop-step.step-index c.step-item.result c.loop-step-test.true c.step-item.is) (c.loop-step.invariant setup new) c.in-Ok.ensures.played
+
+pub returns-clause-played : goal.returns-clause-played
+returns-clause-played g c =
+    let state = sink_state g.W.Write.contents g.W.Sink.pending g.W.Sink.failures in
+    λ setup new. subst (λ (steps : List Step). PlayedTo (setting setup (state c.args.output.now)) steps c.loop-step.player (state c.loop-step.output))
+    (take_all c.loop-step.step-index c.args.steps.now (omega (arith, c.loop-step-test.false))) (c.loop-step.invariant setup new)
