@@ -1,14 +1,13 @@
 -- A drain, take by take.
 use Rattle.std.proofs.Common.{◌≡◌, ◌≢◌, ℕ, ◌+◌, ◌-◌, ◌<◌, ◌≤◌, List, [], ◌∷◌, ◌++◌, length, Option, Some, None, Bool, true, false, not, refl, sym, ap, ◌∙◌, subst, arith, length-append}
 use Rattle.std.specs.Prelude.{nat_lt}
-use Rattle.std.specs.Bool.{MatchBool}
 use Rattle.gate_model.specs.declared.record.Moment.{Moment}
 use Rattle.gate_model.specs.declared.record.Record.{Record}
 use Rattle.gate_model.specs.declared.submission.Numbered.{Numbered}
 use Rattle.gate_model.specs.Record.{later}
-use Rattle.gate_core.specs.Limits.{Limits, limits_of, default_quota}
+use Rattle.gate_core.specs.Limits.{Limits}
 use Rattle.gate_core.specs.declared.event.Event.TheVariants.{Take}
-use Rattle.gate_core.specs.Legal.{Run, take_reply, IsLegal}
+use Rattle.gate_core.specs.Legal.{take_reply, IsLegal}
 use Rattle.gate_core.specs.State.{WorldState, Extends}
 use Rattle.gate_applier.specs.Applier.{ApplierView}
 use Rattle.gate_reader.specs.Sink.{SinkState}

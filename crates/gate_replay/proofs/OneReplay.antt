@@ -1,5 +1,5 @@
 -- What follows from the meaning of a script.
-use Rattle.std.proofs.Common.{◌≡◌, ◌≢◌, ℕ, ◌+◌, ◌<◌, ◌≤◌, List, [], ◌∷◌, ◌++◌, length, Option, Some, None, Result, Ok, Err, Bool, true, false, cond, eqb, eq-eqb, ne_eqb, refl, sym, ap, ◌∙◌, subst, arith, append_assoc, length-append}
+use Rattle.std.proofs.Common.{◌≡◌, ◌≢◌, ℕ, ◌<◌, ◌≤◌, List, [], ◌∷◌, ◌++◌, length, Option, Some, None, Result, Ok, Err, Bool, true, false, cond, eqb, eq-eqb, ne_eqb, refl, sym, ap, ◌∙◌, subst, arith, append_assoc, length-append}
 use Rattle.std.specs.Prelude.{map}
 use Rattle.std.proofs.lemmas.List.{map-append}
 use Rattle.gate_model.specs.declared.record.Moment.{Moment}
@@ -11,21 +11,19 @@ use Rattle.gate_packet.specs.Decoding.{is_stale}
 use Rattle.gate_grammar.specs.declared.faults.LineFault.{LineFault}
 use Rattle.gate_grammar.specs.Parsing.{text_before}
 use Rattle.gate_core.specs.declared.event.Event.{Event}
-use Rattle.gate_core.specs.declared.event.Event.TheVariants.{Take, Close, Look, Push}
 use Rattle.gate_core.specs.declared.event.Reply.{Reply}
 use Rattle.gate_core.specs.declared.event.Reply.TheVariants as reply
 use Rattle.gate_core.specs.declared.submit.Refused.{Refused}
 use Rattle.gate_core.specs.declared.submit.Refused.TheVariants as refused
 use Rattle.gate_core.specs.Limits.{Limits, limits_of, default_quota}
 use Rattle.gate_core.specs.Legal.{Run, taken, reply_after, close_reply, IsLegal}
-use Rattle.gate_core.specs.LocalClient.{submitted}
 use Rattle.gate_reader.specs.declared.report.Answer.TheVariants as answer
 use Rattle.gate_reader.specs.Report.{answer_line}
 use Rattle.gate_replay.specs.declared.script.Step.{Step}
 use Rattle.gate_replay.specs.declared.script.Step.TheVariants as step
 use Rattle.gate_replay.specs.declared.script.Setup.{Setup}
 use Rattle.gate_replay.specs.declared.script.Script.{Script}
-use Rattle.gate_replay.specs.Gateway.{Gateway, Heard, prints, submits, shuts_down, body_of_line, is_shutdown, carries_out, records_item, drains, is_session, serves, plays, gateway_after, Finishes, IsWhole, IsWholeStep, steps_of, number_queued, IsPlayed}
+use Rattle.gate_replay.specs.Gateway.{Gateway, Heard, prints, submits, shuts_down, body_of_line, is_shutdown, carries_out, records_item, drains, is_session, serves, plays, gateway_after, Finishes, IsWhole, IsWholeStep, steps_of, IsPlayed}
 
 -- ---- the records' items are those that were taken
 

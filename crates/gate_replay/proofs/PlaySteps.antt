@@ -1,9 +1,8 @@
 -- The steps of a replay.
-use Rattle.std.proofs.Common.{◌≡◌, ℕ, ◌+◌, ◌^◌, ◌<◌, ◌≤◌, List, [], ◌∷◌, ◌++◌, length, take, drop, get_or, Option, Some, None, Result, Ok, Err, Bool, true, false, cond, refl, sym, ap, ◌∙◌, subst, arith, append_assoc}
-use Rattle.std.specs.Prelude.{IfOk, IfErr, reverse, map}
-use Rattle.std.proofs.lemmas.List.{append-nil, reverse-append, take-append-drop, take_more}
+use Rattle.std.proofs.Common.{◌≡◌, ℕ, ◌+◌, ◌^◌, ◌<◌, List, [], ◌∷◌, ◌++◌, length, take, drop, get_or, Option, None, Result, Ok, Err, Bool, true, false, cond, refl, sym, ap, ◌∙◌, subst, arith, append_assoc}
+use Rattle.std.specs.Prelude.{IfOk, IfErr, reverse}
+use Rattle.std.proofs.lemmas.List.{reverse-append, take-append-drop, take_more}
 use Rattle.gate_model.specs.declared.record.Moment.{Moment}
-use Rattle.gate_model.specs.declared.record.Record.{Record}
 use Rattle.gate_model.specs.declared.submission.Numbered.{Numbered}
 use Rattle.gate_model.specs.Record.{later}
 use Rattle.gate_model.specs.declared.submission.Body.{Body}
@@ -23,10 +22,10 @@ use Rattle.gate_replay.specs.declared.player.Stopped.TheVariants as stopped
 use Rattle.gate_replay.specs.declared.script.Step.{Step}
 use Rattle.gate_replay.specs.declared.script.Step.TheVariants as step
 use Rattle.gate_replay.specs.declared.script.Setup.{Setup}
-use Rattle.gate_replay.specs.Gateway.{Gateway, Heard, prints, asks, body_of_line, carries_out, is_session, serves, drains, plays, gateway_after, steps_of, number_queued, IsWhole, IsWholeStep}
+use Rattle.gate_replay.specs.Gateway.{Gateway, Heard, body_of_line, carries_out, is_session, serves, drains, plays, gateway_after, steps_of, IsWhole}
 use Rattle.gate_replay.specs.inner.Sessions.{queued_in, Answers, AnswersStep}
-use Rattle.gate_replay.specs.inner.Playing.{Setting, setting, Shows, ShowsRecords, HoldsRun, IsNew, IsUnended, IsReady, Serves, Drains, DrainsFull, Ends, Plays, PlaysFull, PlayedTo, PlayedFull, IsWriteEnd, StopsBy}
-use Rattle.gate_replay.proofs.Outputs.{fails_then, writes_none, writes_on, none_failed}
+use Rattle.gate_replay.specs.inner.Playing.{Setting, setting, Shows, IsNew, IsReady, Serves, Drains, DrainsFull, Ends, Plays, PlaysFull, PlayedTo, PlayedFull, IsWriteEnd, StopsBy}
+use Rattle.gate_replay.proofs.Outputs.{fails_then, writes_none, writes_on}
 use Rattle.gate_replay.proofs.WorldSteps.{queued_few}
 
 abbrev nothing_heard : List (Option Numbered) → Heard

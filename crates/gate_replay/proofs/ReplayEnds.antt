@@ -1,10 +1,10 @@
 -- The ends of a replay.
-use Rattle.std.proofs.Common.{◌≡◌, ℕ, ◌+◌, List, [], ◌∷◌, ◌++◌, Option, Some, None, Bool, true, false, refl, sym, ap, ◌∙◌, subst}
+use Rattle.std.proofs.Common.{◌≡◌, ℕ, List, Some, None, refl, subst}
 use Rattle.std.specs.Prelude.{Result, Ok, Err, OnOk, IfErr}
 use Rattle.gate_model.specs.declared.object.ObjectLine.{ObjectLine}
 use Rattle.gate_model.specs.declared.record.Record.{Record}
 use Rattle.gate_model.specs.Meaning.{outcomes_of}
-use Rattle.gate_core.specs.Limits.{Limits, limits_of, default_quota}
+use Rattle.gate_core.specs.Limits.{Limits}
 use Rattle.gate_core.specs.Legal.{IsLegal}
 use Rattle.gate_applier.specs.Applier.{ApplierView}
 use Rattle.gate_pages.specs.LogPage.{log_text}
@@ -14,8 +14,8 @@ use Rattle.gate_replay.specs.declared.fault.ReplayFault.TheVariants.{TooLong, Li
 use Rattle.gate_replay.specs.declared.player.Player.{Player}
 use Rattle.gate_replay.specs.declared.script.Script.{Script}
 use Rattle.gate_replay.specs.Gateway.{Gateway, gateway_after}
-use Rattle.gate_replay.specs.Replay.{printed_by, fault_in}
-use Rattle.gate_replay.specs.inner.Playing.{setting, PlayedTo, PlayedFull, IsWriteEnd, IsPrinted, EndsPlaying}
+use Rattle.gate_replay.specs.Replay.{fault_in}
+use Rattle.gate_replay.specs.inner.Playing.{setting, PlayedTo, PlayedFull, IsWriteEnd, EndsPlaying}
 use Rattle.gate_replay.proofs.Outputs.{fails_then, delivers_on}
 
 page_again : (table other : List ObjectLine) (records more : List Record) → records ≡ more → table ≡ other → log_text records (outcomes_of table records) ≡ log_text more (outcomes_of other more)

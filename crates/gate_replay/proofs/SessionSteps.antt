@@ -1,8 +1,7 @@
 -- What the session of one packet or of one line did, from the contract of a session.
-use Rattle.std.proofs.Common.{◌≡◌, ◌≢◌, ℕ, suc, ◌+◌, ◌<◌, ◌≤◌, ◌⊎◌, inl, inr, List, [], ◌∷◌, ◌++◌, length, Option, Some, None, Result, Ok, Err, Bool, true, false, cond, eqb, refl, sym, ap, ◌∙◌, subst, arith, length-append, append_assoc}
-use Rattle.std.specs.Prelude.{◌||◌, ◌==◌}
+use Rattle.std.proofs.Common.{◌≡◌, ◌≢◌, ℕ, ◌⊎◌, inl, inr, List, [], ◌∷◌, ◌++◌, length, Option, Some, None, Result, Ok, Err, Bool, true, false, cond, refl, sym, ap, ◌∙◌, subst, arith, length-append, append_assoc}
+use Rattle.std.specs.Prelude.{◌||◌}
 use Rattle.std.specs.Bool.{MatchBool}
-use Rattle.std.specs.List.{AllByRecursion, list_any}
 use Rattle.std.specs.Io.KnownBytes.{Consumes, Appends}
 use Rattle.std.proofs.lemmas.List.{append-nil}
 use Rattle.std.proofs.lemmas.Bool.{ne_eqb}
@@ -13,15 +12,14 @@ use Rattle.gate_packet.specs.declared.decoding.PacketFault.{PacketFault}
 use Rattle.gate_packet.specs.declared.decoding.PacketFault.TheVariants as packet_fault
 use Rattle.gate_packet.specs.Packet.{Content, reported_body}
 use Rattle.gate_packet.specs.Decoding.{IsPacket, is_stale, fault_of, IsAtMostOnePacket, IsFaultlessOrStale}
-use Rattle.gate_packet.specs.Stream.{Begins, Cuts, block_length}
+use Rattle.gate_packet.specs.Stream.{Begins, block_length}
 use Rattle.gate_grammar.specs.declared.commands.Command.{Command}
 use Rattle.gate_grammar.specs.declared.faults.LineFault.{LineFault}
 use Rattle.gate_grammar.specs.declared.parsing.ParsedLine.{ParsedLine}
 use Rattle.gate_grammar.specs.Commands.{command_body}
 use Rattle.gate_grammar.specs.Spelling.{Spells, holds}
 use Rattle.gate_grammar.specs.Faults.{HasFault}
-use Rattle.gate_grammar.specs.Parsing.{◌>>=◌, text_before, parsed_line, fault_in, first_fault}
-use Rattle.gate_grammar.specs.inner.Answers.{answer_of}
+use Rattle.gate_grammar.specs.Parsing.{◌>>=◌, text_before, parsed_line, fault_in}
 use Rattle.gate_grammar.proofs.Cuts.{before_again}
 use Rattle.gate_grammar.proofs.ReadLaws.{answer_again}
 use Rattle.gate_grammar.proofs.FaultIsFirst.{fault_is_first}
@@ -34,12 +32,12 @@ use Rattle.gate_reader.specs.declared.report.Stop.TheVariants as stop
 use Rattle.gate_reader.specs.Report.{answer_to, answer_line, answer_lines}
 use Rattle.gate_core.specs.declared.submit.Refused.{Refused}
 use Rattle.gate_core.specs.declared.submit.Refused.TheVariants as refused
-use Rattle.gate_reader.specs.Clock.{first_readings, Takes, Reads}
+use Rattle.gate_reader.specs.Clock.{Takes, Reads}
 use Rattle.gate_reader.specs.Source.{SourceState}
 use Rattle.gate_reader.specs.Sink.{SinkState}
-use Rattle.gate_reader.specs.Session.{ClientView, Parties, parties, Handled, SessionKind, LeadsTo, readings_of, bytes_of, answers_of, Serves, Stops, IsSession}
-use Rattle.gate_reader.specs.Packets.{packets, HandlesBlock, AnswersBlock, StopsAtBlock, IsGreeted, IsUngreeted, IsPacketSession}
-use Rattle.gate_reader.specs.Lines.{OperatorView, HasNoBreak, BeginsLine, CutsLines, HandlesLine, AnswersLine, StopsAtLine, lines, SubmitsCommand, Closes, WritesAnswers, Answered, IsLineSession}
+use Rattle.gate_reader.specs.Session.{ClientView, Parties, parties, Handled, SessionKind, answers_of, Serves, Stops}
+use Rattle.gate_reader.specs.Packets.{packets, AnswersBlock, StopsAtBlock, IsGreeted, IsUngreeted, IsPacketSession}
+use Rattle.gate_reader.specs.Lines.{OperatorView, HasNoBreak, BeginsLine, AnswersLine, StopsAtLine, lines, SubmitsCommand, Closes, WritesAnswers, Answered, IsLineSession}
 use Rattle.gate_reader.specs.Lines.{ShutsDown as ShutsDownLine}
 use Rattle.gate_replay.specs.Gateway.{body_of_line, is_shutdown}
 use Rattle.gate_replay.specs.inner.Sessions.{HasEnded, HasOnly, AnswersPacket, SubmitsBody, ShutsDown, CarriesOut, IsPacketAnswer}

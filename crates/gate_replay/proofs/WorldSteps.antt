@@ -1,6 +1,5 @@
 -- Sessions of a World's clients.
 use Rattle.std.proofs.Common.{◌≡◌, ℕ, ◌+◌, ◌^◌, ◌<◌, ◌≤◌, List, [], ◌∷◌, ◌++◌, length, Option, Some, None, Result, Ok, Err, Bool, true, false, cond, not, ◌&&◌, refl, sym, ap, ◌∙◌, subst, arith, length-append}
-use Rattle.std.specs.Prelude.{unwrap_or}
 use Rattle.std.specs.Bool.{MatchBool}
 use Rattle.gate_model.specs.declared.record.Moment.{Moment}
 use Rattle.gate_model.specs.declared.submission.Body.{Body}
@@ -17,11 +16,11 @@ use Rattle.gate_core.specs.declared.submit.Refused.{Refused}
 use Rattle.gate_core.specs.declared.submit.Refused.TheVariants as refused
 use Rattle.gate_core.specs.declared.submit.CloseFault.{CloseFault}
 use Rattle.gate_core.specs.declared.submit.CloseFault.TheVariants as fault
-use Rattle.gate_core.specs.Limits.{Limits, limits_of, default_quota}
+use Rattle.gate_core.specs.Limits.{Limits}
 use Rattle.gate_core.specs.Merge.{numbered, of_client}
 use Rattle.gate_core.specs.Legal.{Run, all_queued, queued, has_ended, is_open, close_reply, IsLegal}
 use Rattle.gate_core.specs.State.{WorldState, StandsAfter}
-use Rattle.gate_core.specs.LocalClient.{LocalState, local, StandsFor, IsSameClient, Adds, submitted, closed_by, AddsSubmission, AddsClose}
+use Rattle.gate_core.specs.LocalClient.{LocalState, local, StandsFor, submitted, closed_by, AddsSubmission, AddsClose}
 use Rattle.gate_core.proofs.Merges.{of_client-append}
 use Rattle.gate_core.proofs.Runs.{sound}
 use Rattle.gate_core.proofs.Standing.{among}
@@ -33,7 +32,7 @@ use Rattle.gate_reader.specs.Lines.{OperatorView, operator_view, first_close}
 use Rattle.gate_replay.specs.declared.script.Step.{Step}
 use Rattle.gate_replay.specs.declared.script.Step.TheVariants as step
 use Rattle.gate_replay.specs.declared.script.Setup.{Setup}
-use Rattle.gate_replay.specs.Gateway.{Gateway, Heard, prints, asks, submits, shuts_down, body_of_line, is_shutdown, carries_out, number_queued, serves}
+use Rattle.gate_replay.specs.Gateway.{Gateway, Heard, prints, submits, shuts_down, body_of_line, is_shutdown, carries_out, number_queued, serves}
 use Rattle.gate_replay.specs.inner.Playing.{HoldsRun, IsUnended}
 use Rattle.gate_replay.specs.inner.Sessions.{AnswersPacket, SubmitsBody, ShutsDown, CarriesOut, queued_in, Answers, AnswersStep}
 

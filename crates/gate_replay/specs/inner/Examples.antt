@@ -1,5 +1,5 @@
 -- Worked steps of a gateway. Each holds by computing the definitions.
-use Rattle.std.specs.Prelude.{◌≡◌, List, [], ◌∷◌, ◌++◌, Some, None, Ok, pos, true, false, codes, refl}
+use Rattle.std.specs.Prelude.{◌≡◌, [], ◌∷◌, Some, None, Ok, pos, true, false, codes, refl}
 use Rattle.std.specs.Fmt.{digits}
 use Rattle.gate_model.specs.declared.object.Kind.TheVariants.{Host}
 use Rattle.gate_model.specs.declared.record.Moment.{Moment}
@@ -13,7 +13,7 @@ use Rattle.gate_core.specs.declared.event.Event.TheVariants.{Close}
 use Rattle.gate_core.specs.declared.event.Reply.TheVariants.{Begun}
 use Rattle.gate_replay.specs.declared.script.Step.TheVariants as step
 use Rattle.gate_replay.specs.declared.script.Setup.{Setup}
-use Rattle.gate_replay.specs.Gateway.{Gateway, Heard, gateway_after}
+use Rattle.gate_replay.specs.Gateway.{Heard, gateway_after}
 
 abbrev at : Moment
 at = record { 0 = 1000 }

@@ -1,16 +1,15 @@
 -- Only proofs and private functions use this: how a player shows the gateway that it plays, and how it stops.
 use Rattle.std.specs.Prelude.{◌≡◌, ◌≢◌, ℕ, ◌<◌, ◌^◌, List, [], ◌∷◌, ◌++◌, length, Option, Some, None, Bool, true, false, reverse}
 use Rattle.std.specs.Bool.{MatchBool}
-use Rattle.gate_model.specs.declared.record.Record.{Record}
 use Rattle.gate_model.specs.declared.submission.Numbered.{Numbered}
 use Rattle.gate_model.specs.Record.{later}
-use Rattle.gate_core.specs.Limits.{Limits, limits_of, default_quota}
+use Rattle.gate_core.specs.Limits.{limits_of, default_quota}
 use Rattle.gate_core.specs.Legal.{Run, has_ended, IsLegal}
 use Rattle.gate_core.specs.State.{WorldState, StandsAfter, Extends}
 use Rattle.gate_core.specs.declared.event.Event.TheVariants.{Take}
 use Rattle.gate_core.specs.declared.event.Reply.TheVariants.{Taken, Empty}
 use Rattle.gate_applier.specs.Applier.{ApplierView, opened}
-use Rattle.gate_reader.specs.Sink.{SinkState, Fails, FailsOnce, Writes, Delivers}
+use Rattle.gate_reader.specs.Sink.{SinkState, FailsOnce, Writes, Delivers}
 use Rattle.gate_replay.specs.declared.fault.ReplayFault.{ReplayFault}
 use Rattle.gate_replay.specs.declared.fault.ReplayFault.TheVariants.{TooLong, Line, LogFull, OutOfMemory, ReadFault, WriteFault}
 use Rattle.gate_replay.specs.declared.player.Player.{Player}

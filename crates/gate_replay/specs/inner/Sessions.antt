@@ -1,5 +1,5 @@
 -- Only proofs and private functions use this: what the session of one packet or of one line did, for any client.
-use Rattle.std.specs.Prelude.{◌≡◌, ℕ, ◌+◌, List, [], ◌∷◌, ◌++◌, Option, Some, None, Result, Ok, Err, Bool, true, false, ⊤}
+use Rattle.std.specs.Prelude.{◌≡◌, ℕ, ◌+◌, List, [], ◌∷◌, ◌++◌, Option, Some, Result, Ok, Err, ⊤}
 use Rattle.std.specs.Bool.{MatchBool}
 use Rattle.gate_model.specs.declared.record.Moment.{Moment}
 use Rattle.gate_model.specs.declared.submission.Body.{Body}
@@ -12,7 +12,7 @@ use Rattle.gate_core.specs.declared.submit.CloseFault.{CloseFault}
 use Rattle.gate_core.specs.Legal.{Run}
 use Rattle.gate_core.specs.State.{WorldState}
 use Rattle.gate_reader.specs.declared.report.Answer.{Answer}
-use Rattle.gate_reader.specs.declared.report.Answer.TheVariants.{Queued, Full, Spent, Closing, Stale, EmptyHost, Bad, Down}
+use Rattle.gate_reader.specs.declared.report.Answer.TheVariants.{Queued, Stale, Bad, Down}
 use Rattle.gate_reader.specs.declared.report.Report.{Report}
 use Rattle.gate_reader.specs.declared.report.Stop.{Stop}
 use Rattle.gate_reader.specs.declared.report.Stop.TheVariants.{End, Shutdown}
@@ -21,7 +21,7 @@ use Rattle.gate_reader.specs.Session.{ClientView, Submits}
 use Rattle.gate_reader.specs.Lines.{OperatorView, Closes, first_close}
 use Rattle.gate_replay.specs.declared.script.Step.{Step}
 use Rattle.gate_replay.specs.declared.script.Setup.{Setup}
-use Rattle.gate_replay.specs.Gateway.{Gateway, Heard, prints, asks, body_of_line, is_shutdown, number_queued, serves}
+use Rattle.gate_replay.specs.Gateway.{Gateway, Heard, prints, asks, is_shutdown, number_queued, serves}
 use Rattle.gate_replay.specs.inner.Playing.{HoldsRun}
 
 -- the session stopped at the end of its input, or after the answer that reports a close

@@ -1,5 +1,5 @@
 use Rattle.gate_reader.specs.Sink.{sink_state}
-use Rattle.gate_replay.proofs.ReplayEnds.{log_ends, full_ends, memory_ends, unwritten}
+use Rattle.gate_replay.proofs.ReplayEnds.{log_ends, full_ends, memory_ends}
 use Rattle.gate_replay.proofs.replay.run.Goals as goal
 
 pub returns-in-Ok : goal.returns-in-Ok

@@ -1,4 +1,4 @@
-use Rattle.std.proofs.Common.{◌<◌, ◌≤◌, length, ap, arith}
+use Rattle.std.proofs.Common.{length, ap, arith}
 use Rattle.gate_replay.proofs.Drains.{drains_self, drains_missed, drains_more, drains_none, fewer_left, takes_true, takes_false, drain_stopped}
 use Rattle.gate_replay.proofs.player.Player.drain.Goals as goal
 

@@ -9,7 +9,7 @@ pub returns-clause-served : goal.returns-clause-served
 returns-clause-served g c =
     let state = sink_state g.W.Write.contents g.W.Sink.pending g.W.Sink.failures in
     let text : c.deref.result.now ≡ answer_line c.in-Some.answer.now =
-        written_line _ _ _ (answer_line c.in-Some.answer.now) c.deref.ensures.value (c.in-Ok.ensures.written c.in-Some.answer.now c.in-Some.ensures) c.new-written.ensures.items in
+    written_line _ _ _ (answer_line c.in-Some.answer.now) c.deref.ensures.value (c.in-Ok.ensures.written c.in-Some.answer.now c.in-Some.ensures) c.new-written.ensures.items in
     serves_session c.args.self _ (state c.args.output.now) (state c.print.new.output) (step.Line c.args.text.now) c.in-Some.answer.now
     (c.in-Ok.ensures.answered c.in-Some.answer.now c.in-Some.ensures c.args.self.age)
     (subst (λ bytes. Writes (state c.args.output.now) (state c.print.new.output) bytes) text c.in_default-print.ensures.ok)

@@ -1,7 +1,6 @@
-use Rattle.std.proofs.Common.{List, subst, arith, take_all, length, ◌≤◌, ◌<◌}
+use Rattle.std.proofs.Common.{List, subst, arith, take_all}
 use Rattle.gate_replay.specs.declared.script.Step.{Step}
 use Rattle.gate_reader.specs.Sink.{sink_state}
-use Rattle.gate_replay.specs.Gateway.{gateway_after}
 use Rattle.gate_replay.specs.inner.Playing.{setting, PlayedTo}
 use Rattle.gate_replay.proofs.PlaySteps.{ready, played_none, next_step, played_more, played_stops}
 use Rattle.gate_replay.proofs.player.Player.play.Goals as goal

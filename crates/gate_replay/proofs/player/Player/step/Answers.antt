@@ -1,6 +1,5 @@
 use Rattle.std.proofs.Common.{sym, ◌∙◌}
 use Rattle.gate_reader.specs.Sink.{sink_state}
-use Rattle.gate_replay.proofs.Outputs.{none_failed}
 use Rattle.gate_replay.proofs.PlaySteps.{plays_session, drain_stops, served_stops, plays_other}
 use Rattle.gate_replay.proofs.player.Player.step.Goals as goal
 
