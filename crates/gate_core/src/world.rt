@@ -179,15 +179,10 @@ impl World {
         Ok(number)
     }
 
-    /// Takes the oldest item of the queue, or nothing where the queue is empty. It takes no memory.
+    /// Takes the oldest item, which leaves the queue. It takes no memory.
     pub fn take(&mut self) -> Option<Numbered>
         ensures oldest { result ≡ slice_get self.old.queue 0 }
-        ensures after { self.new ≡ record {
-            limits = self.old.limits;
-            queue = drop 1 self.old.queue;
-            closed = self.old.closed;
-            seats = self.old.seats;
-        } }
+        ensures after { self.new ≡ record self.old { queue = drop 1 self.old.queue } }
         ensures stands { Extends self.old Event.Take (take_reply result) self.new }
         ensures limits { self.new.limits ≡ self.old.limits }
     {

@@ -1,5 +1,10 @@
 mod ScriptRows
 pub mod ScriptSteps
-pub mod ReplaySteps
-pub mod ReplayEnds
+pub mod Drains
+pub mod SessionSteps
+pub mod Outputs
+pub mod WorldSteps
+pub mod PlaySteps
 pub mod ReplayTexts
+pub mod ReplayEnds
+pub mod OneReplay

@@ -8,7 +8,7 @@ use Rattle.gate_replay.specs.declared.script.Script.{Script}
 use Rattle.gate_replay.specs.declared.script.ScriptFault.{ScriptFault}
 use Rattle.gate_replay.specs.declared.script.ScriptFault.TheVariants as script
 use Rattle.gate_replay.specs.Script.{parsed_lines, IsScript, IsFaultOf}
-use Rattle.gate_replay.specs.Sink.{SinkState}
+use Rattle.gate_reader.specs.Sink.{SinkState}
 use Rattle.gate_replay.specs.Fault.{replay_fault}
 use Rattle.gate_replay.specs.Replay.{IsWholeInput, EndsWith}
 use Rattle.gate_replay.specs.inner.Playing.{EndsPlaying, IsInputFault}
@@ -23,10 +23,10 @@ whole_text (Some bytes) front items most e h few =
 
 -- an input that was read and is a script
 pub played_input : (input : Option (List ℕ)) (text : List ℕ) (played : Script) (fault : Option ReplayFault) (b a : SinkState) → IsWholeInput input text → length text ≤ 1048576 → IsScript (parsed_lines text) played → EndsPlaying played b a fault → EndsWith input b a fault
-played_input input text played None b a whole short parsed h = record { text = text; whole = whole; short = short; script = played; parsed = parsed; room = h.0; printed = h.1 }
+played_input input text played None b a whole short parsed h = record { text = text; whole = whole; short = short; script = played; parsed = parsed; gateway = h.gateway; played = h.played; full_is = h.full_is; printed = h.printed }
 played_input input text played (Some TooLong) b a whole short parsed h = absurd h
 played_input input text played (Some (Line number)) b a whole short parsed h = absurd h
-played_input input text played (Some LogFull) b a whole short parsed h = record { text = text; whole = whole; short = short; script = played; parsed = parsed; over = h.0; printed = h.1 }
+played_input input text played (Some LogFull) b a whole short parsed h = record { text = text; whole = whole; short = short; script = played; parsed = parsed; gateway = h.gateway; played = h.played; full_is = h.full_is; printed = h.printed }
 played_input input text played (Some OutOfMemory) b a whole short parsed h = h
 played_input input text played (Some ReadFault) b a whole short parsed h = absurd h
 played_input input text played (Some WriteFault) b a whole short parsed h = h

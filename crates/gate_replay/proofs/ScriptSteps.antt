@@ -9,8 +9,8 @@ use Rattle.gate_model.specs.Table.{IsFaultless}
 use Rattle.gate_replay.specs.declared.script.Step.{Step}
 use Rattle.gate_replay.specs.declared.script.Setup.{Setup}
 use Rattle.gate_replay.specs.declared.script.ScriptFault.{ScriptFault}
-use Rattle.gate_replay.specs.declared.script.ScriptFault.TheVariants.{Line, OutOfMemory}
-use Rattle.gate_replay.specs.ScriptLine.{ParsedLine, Object, Open, Clock, Packet, parsed_line}
+use Rattle.gate_replay.specs.declared.script.ScriptFault.TheVariants as fault
+use Rattle.gate_replay.specs.ScriptLine.{ParsedLine, Object, Open, Clock, Packet, Line, Page, parsed_line}
 use Rattle.gate_replay.specs.Script.{open_of, object_of, step_of, IsHead, IsStep, IsGoodAt, line_of, IsFirstFaultyLine, IsFaultOf}
 use Rattle.gate_replay.specs.inner.Parsing.{parsed_from, IsHeadSoFar, IsOpenSoFar, IsLineFault}
 
@@ -91,6 +91,20 @@ open_more parsed index setup steps (Some (Packet timestamp code host service out
   objects = found_none object_of parsed index (Some (Packet timestamp code host service output)) setup.table inside is opened.objects refl;
   steps = found_some step_of parsed index (Some (Packet timestamp code host service output)) steps step inside is opened.steps gives;
 }
+open_more parsed index setup steps (Some (Line text)) step inside is opened good gives = record {
+  within = omega arith;
+  good = below_more _ _ opened.good (good_open parsed index setup steps (Some (Line text)) opened is good);
+  opens = found_none open_of parsed index (Some (Line text)) (line_of setup ∷ []) inside is opened.opens refl;
+  objects = found_none object_of parsed index (Some (Line text)) setup.table inside is opened.objects refl;
+  steps = found_some step_of parsed index (Some (Line text)) steps step inside is opened.steps gives;
+}
+open_more parsed index setup steps (Some Page) step inside is opened good gives = record {
+  within = omega arith;
+  good = below_more _ _ opened.good (good_open parsed index setup steps (Some Page) opened is good);
+  opens = found_none open_of parsed index (Some Page) (line_of setup ∷ []) inside is opened.opens refl;
+  objects = found_none object_of parsed index (Some Page) setup.table inside is opened.objects refl;
+  steps = found_some step_of parsed index (Some Page) steps step inside is opened.steps gives;
+}
 
 -- the line in hand is the first faulty one
 pub closed_fault : (parsed : List (Option ParsedLine)) (index : ℕ) (objects : List ObjectLine) (value : Option ParsedLine) → index < length parsed → get_or parsed index None ≡ value → IsHeadSoFar parsed index objects → (IsHead objects value → ⊥) → IsFirstFaultyLine parsed (index + 1)
@@ -102,14 +116,14 @@ closed_fault parsed index objects value inside is closed none = record {
 }
 
 pub closed_fault_is : (parsed : List (Option ParsedLine)) (index : ℕ) (objects : List ObjectLine) (value : Option ParsedLine) (P : Type 0) (fault : ScriptFault) → index < length parsed → get_or parsed index None ≡ value → IsHeadSoFar parsed index objects → IsLineFault (index + 1) P fault → (P → IsHead objects value → ⊥) → IsFaultOf parsed fault
-closed_fault_is parsed index objects value P (Line number) inside is closed gives none = rw gives.0 (closed_fault parsed index objects value inside is closed (none gives.1))
-closed_fault_is parsed index objects value P OutOfMemory inside is closed gives none = tt
+closed_fault_is parsed index objects value P (fault.Line number) inside is closed gives none = rw gives.0 (closed_fault parsed index objects value inside is closed (none gives.1))
+closed_fault_is parsed index objects value P fault.OutOfMemory inside is closed gives none = tt
 
 pub open_fault_is : (parsed : List (Option ParsedLine)) (index : ℕ) (setup : Setup) (steps : List Step) (value : Option ParsedLine) (fault : ScriptFault) → index < length parsed → get_or parsed index None ≡ value → IsOpenSoFar parsed index setup steps → IsLineFault (index + 1) (IsStep value → ⊥) fault → IsFaultOf parsed fault
-open_fault_is parsed index setup steps value (Line number) inside is opened gives = rw gives.0 (record {
+open_fault_is parsed index setup steps value (fault.Line number) inside is opened gives = rw gives.0 (record {
   index = index;
   counted = refl;
   before = opened.good;
   faulty = inl (inside, bad_open parsed index setup steps value opened is gives.1);
 })
-open_fault_is parsed index setup steps value OutOfMemory inside is opened gives = tt
+open_fault_is parsed index setup steps value fault.OutOfMemory inside is opened gives = tt

@@ -1,8 +1,8 @@
 pub mod Lines
 pub mod ScriptLine
 pub mod Script
-pub mod Sink
 pub mod Fault
+pub mod Gateway
 pub mod Replay
 pub mod Program
 pub mod inner

@@ -6,7 +6,7 @@ use Rattle.std.specs.declared.io.Error.{Error}
 use Rattle.std.specs.declared.io.ErrorKind.TheVariants as kind
 use Rattle.gate_replay.specs.declared.program.ProgramFault.{ProgramFault}
 use Rattle.gate_replay.specs.declared.program.ProgramFault.TheVariants.{BadArguments, OutOfMemory}
-use Rattle.gate_replay.specs.Sink.{SinkState}
+use Rattle.gate_reader.specs.Sink.{SinkState}
 use Rattle.gate_replay.specs.Replay.{IsReported}
 
 -- the words are the one word `replay`

@@ -13,9 +13,9 @@ use Rattle.gate_replay.specs.declared.script.Step.TheVariants as step
 use Rattle.gate_replay.specs.declared.script.Setup.{Setup}
 use Rattle.gate_replay.specs.declared.script.Script.{Script}
 use Rattle.gate_replay.specs.declared.script.ScriptFault.{ScriptFault}
-use Rattle.gate_replay.specs.declared.script.ScriptFault.TheVariants.{Line, OutOfMemory}
+use Rattle.gate_replay.specs.declared.script.ScriptFault.TheVariants as fault
 use Rattle.gate_replay.specs.Lines.{lines_of}
-use Rattle.gate_replay.specs.ScriptLine.{ParsedLine, Object, Open, Clock, Packet, parsed_line}
+use Rattle.gate_replay.specs.ScriptLine.{ParsedLine, Object, Open, Clock, Packet, Line, Page, parsed_line}
 
 -- what is parsed from each line of a text
 abbrev pub parsed_lines : List ℕ → List (Option ParsedLine)
@@ -28,6 +28,8 @@ open_of (Some (Object threshold host service)) = None
 open_of (Some (Open moment age capacity limit)) = Some (Open moment age capacity limit)
 open_of (Some (Clock moment)) = None
 open_of (Some (Packet timestamp code host service output)) = None
+open_of (Some (Line text)) = None
+open_of (Some Page) = None
 
 -- the object that a line names
 abbrev pub object_of : Option ParsedLine → Option ObjectLine
@@ -36,6 +38,8 @@ object_of (Some (Object threshold host service)) = Some (record { host = host; s
 object_of (Some (Open moment age capacity limit)) = None
 object_of (Some (Clock moment)) = None
 object_of (Some (Packet timestamp code host service output)) = None
+object_of (Some (Line text)) = None
+object_of (Some Page) = None
 
 -- the step that a line is after the one that opens
 abbrev pub step_of : Option ParsedLine → Option Step
@@ -44,6 +48,8 @@ step_of (Some (Object threshold host service)) = None
 step_of (Some (Open moment age capacity limit)) = None
 step_of (Some (Clock moment)) = Some (step.Clock (record { 0 = moment }))
 step_of (Some (Packet timestamp code host service output)) = Some (step.Packet (content timestamp code host service output))
+step_of (Some (Line text)) = Some (step.Line text)
+step_of (Some Page) = Some step.Page
 
 -- the lines that open, in order
 abbrev pub opens_in : List (Option ParsedLine) → List ParsedLine
@@ -68,14 +74,18 @@ IsHead objects (Some (Object threshold host service)) = Unit {0}
 IsHead objects (Some (Open moment age capacity limit)) = IsFaultless objects
 IsHead objects (Some (Clock moment)) = ⊥
 IsHead objects (Some (Packet timestamp code host service output)) = ⊥
+IsHead objects (Some (Line text)) = ⊥
+IsHead objects (Some Page) = ⊥
 
--- the line sets the clock, or has a packet that can be sent
+-- the line sets the clock, has a packet that can be sent or an operator's line, or asks for a page
 abbrev pub IsStep : Option ParsedLine → Type 0
 IsStep None = ⊥
 IsStep (Some (Object threshold host service)) = ⊥
 IsStep (Some (Open moment age capacity limit)) = ⊥
 IsStep (Some (Clock moment)) = Unit {0}
 IsStep (Some (Packet timestamp code host service output)) = IsContent (content timestamp code host service output)
+IsStep (Some (Line text)) = Unit {0}
+IsStep (Some Page) = Unit {0}
 
 -- the line at this index may stand where it stands
 abbrev pub IsGoodAt : List (Option ParsedLine) → ℕ → Type 0
@@ -113,5 +123,5 @@ pub record IsFirstFaultyLine (parsed : List (Option ParsedLine)) (number : ℕ) 
 
 -- the fault is the first one, or memory ran out
 abbrev pub IsFaultOf : List (Option ParsedLine) → ScriptFault → Type 0
-IsFaultOf parsed (Line number) = IsFirstFaultyLine parsed number
-IsFaultOf parsed OutOfMemory = Unit {0}
+IsFaultOf parsed (fault.Line number) = IsFirstFaultyLine parsed number
+IsFaultOf parsed fault.OutOfMemory = Unit {0}

@@ -11,12 +11,14 @@ use Rattle.gate_replay.specs.declared.script_line.ScriptLine.TheVariants as line
 
 -- what is parsed from a line: an object with its threshold, host and service; the moment, greatest
 -- age, capacity and limit with which the script opens; a moment of the clock; a packet with its
--- timestamp, code, host, service and output
+-- timestamp, code, host, service and output; an operator's line; that a page is asked for
 pub data ParsedLine : Type 0 where
   Object : ℕ → List ℕ → Option (List ℕ) → ParsedLine
   Open : ℕ → ℕ → ℕ → ℕ → ParsedLine
   Clock : ℕ → ParsedLine
   Packet : ℕ → ℤ → List ℕ → List ℕ → List ℕ → ParsedLine
+  Line : List ℕ → ParsedLine
+  Page : ParsedLine
 
 -- the parsed line, with its texts as lists
 abbrev pub value_of : ScriptLine → ParsedLine
@@ -24,6 +26,8 @@ value_of (line.Object threshold host service) = Object threshold host.now (optio
 value_of (line.Open moment age capacity limit) = Open moment.0 age capacity limit
 value_of (line.Clock moment) = Clock moment.0
 value_of (line.Packet timestamp code host service output) = Packet timestamp.0 code host.now service.now output.now
+value_of (line.Line text) = Line text.now
+value_of line.Page = Page
 
 infixl 10 ◌>>=◌
 abbrev pub ◌>>=◌ : {A B : Type 0} → Option A → (A → Option B) → Option B
@@ -93,10 +97,15 @@ parsed_form word text =
     else (if bytes_eq word (codes "open") then parsed_open text
     else (if bytes_eq word (codes "clock") then parsed_clock text
     else (if bytes_eq word (codes "packet") then parsed_packet text
-    else None)))
+    else (if bytes_eq word (codes "line") then Some (Line text)
+    else None))))
 
--- what is parsed from a line, without the LF that ends it
-unfoldable pub parsed_line : List ℕ → Option ParsedLine
-parsed_line line = do
+-- what is parsed from a line that has a first word and a semicolon after it
+unfoldable pub parsed_with_word : List ℕ → Option ParsedLine
+parsed_with_word line = do
   word ← cut line
   parsed_form word.0 word.1
+
+-- what is parsed from a line, without the LF that ends it; `page` stands alone
+unfoldable pub parsed_line : List ℕ → Option ParsedLine
+parsed_line line = if bytes_eq line (codes "page") then Some Page else parsed_with_word line

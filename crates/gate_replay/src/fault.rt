@@ -1,10 +1,10 @@
 ghost use Rattle.std.specs.Prelude.{◌≡◌, ◌≢◌, OnOk, OnErr};
 ghost use Rattle.std.specs.IoError.{error_kind};
 ghost use Rattle.gate_replay.specs.Fault.{status_of, message_of};
-ghost use Rattle.gate_replay.specs.Sink.{sink_state, Delivers, FailsOnce};
+ghost use Rattle.gate_reader.specs.Sink.{sink_state, Delivers, FailsOnce};
 
 use crate::script::ScriptFault;
-use crate::sink::{Sink, put_numbered};
+use gate_reader::{Sink, put_numbered};
 use std::alloc::AllocError;
 use std::io;
 use std::io::ErrorKind;

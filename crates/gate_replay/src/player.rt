@@ -1,31 +1,34 @@
-ghost use Rattle.std.specs.Prelude.{◌≡◌, ◌≤◌, [], ◌∷◌, false, length, if◌then◌else◌, None, Some, List, codes, IfOk, IfErr, IfSome, IsTrue, OnOk};
-ghost use Rattle.std.specs.Bool.{MatchBool};
-ghost use Rattle.gate_packet.specs.Packet.{reported_body};
-ghost use Rattle.gate_packet.specs.Decoding.{is_stale};
-ghost use Rattle.gate_applier.specs.Applier.{opened};
-ghost use Rattle.gate_replay.specs.declared.script.Step.{Step};
-ghost use Rattle.gate_replay.specs.Replay.{queued_line};
-ghost use Rattle.gate_replay.specs.Sink.{sink_state, Fails, Writes};
-ghost use Rattle.gate_replay.specs.inner.Playing.{next_of, TakesItem, PlayedSteps, StoppedEarly, IsWriteEnd, StopsBy};
+ghost use Rattle.std.specs.Prelude.{◌≡◌, ◌≢◌, ◌+◌, ◌<◌, ◌^◌, length, IfOk, IfErr, OnOk};
+ghost use Rattle.gate_reader.specs.Sink.{SinkState, sink_state, Fails};
+ghost use Rattle.gate_pages.specs.StatusPage.{status_text_at};
+ghost use Rattle.gate_replay.specs.declared.script.Step.TheVariants as step;
+ghost use Rattle.gate_replay.specs.declared.script.Setup.{Setup};
+ghost use Rattle.gate_replay.specs.Gateway.{Gateway, is_session};
+ghost use Rattle.gate_replay.specs.inner.Sessions.{queued_in};
+ghost use Rattle.gate_replay.specs.inner.Playing.{Setting, setting, Shows, IsNew, IsReady, Takes, Serves, Drains, DrainsFull, Plays, PlaysFull, PlayedTo, PlayedFull, IsWriteEnd, StopsBy};
 
-use crate::fault::{ReplayFault, write_fault};
+use crate::fault::ReplayFault;
+use crate::printing::{print, print_answer};
 use crate::script::{Setup, Step};
-use crate::sink::{Sink, put_numbered};
-use gate_applier::{Applier, PrepareCause, PrepareFault};
-use gate_model::{Body, Moment, Numbered};
-use gate_packet::{Packet, PacketFault, round_trip};
+use crate::serving::{serve_line, serve_packet};
+use crate::sessions::only_answer;
+use gate_applier::{Applier, PrepareCause, PrepareFault, Ready};
+use gate_core::World;
+use gate_model::{Moment, Text};
+use gate_packet::Packet;
+use gate_pages::{Board, status_page};
+use gate_reader::{Answer, Sink};
 use std::alloc::{AllocError, Global};
 
-/// The client of every packet.
-const PACKET_CLIENT: u32 = 1;
-
-/// A replay under way. Every record is of one client, and each item is applied before the next one
-/// is queued, so there are as many records as items were queued.
+/// A replay under way.
 #[derive(Drop)]
 pub(crate) struct Player {
+    pub(crate) world: World,
     pub(crate) applier: Applier,
     pub(crate) clock: Moment,
     pub(crate) age: u32,
+    /// How many items the clients were answered are queued.
+    pub(crate) queued: u64,
 }
 
 /// Why a replay stopped before its last step, and whether its log is still to be printed.
@@ -33,61 +36,66 @@ pub(crate) struct Player {
 pub(crate) enum Stopped {
     /// An item finds the log full. The log is still to be printed.
     Full(Applier),
-    /// Memory ran out for an item. The log is still to be printed.
+    /// Memory ran out for a step. The log is still to be printed.
     OutOfMemory(Applier),
     /// A write failed. Nothing more is written.
     Unwritten(ReplayFault),
 }
 
-// The body that a packet has when it arrives at this moment: none where it is stale.
-fn received(
-    alloc: Global,
-    packet: &Packet,
-    now: Moment,
-    greatest_age: u32,
-) -> Result<Option<Body>, AllocError>
-    ensures body { IfOk result (λ body. body ≡ (if is_stale packet.now.timestamp now.0 greatest_age
-        then None else Some (reported_body packet.now))) }
+// How many items are queued after an answer.
+fn queued_after(queued: u64, answer: &Answer) -> u64
+    requires { queued < 2 ^ 34 }
+    ensures { result ≡ queued + queued_in answer.now }
 {
-    match round_trip(alloc, packet, now, greatest_age) {
-        Ok(packet) => Ok(Some(packet.into_body())),
-        Err(PacketFault::Stale) => Ok(None),
-        Err(_) => Err(AllocError),
+    match answer {
+        Answer::Queued(_) => queued + 1,
+        _ => queued,
     }
 }
 
-/// Writes all of a text.
-pub(crate) fn print<W: Sink>(output: &mut W, text: &[u8]) -> Result<(), ReplayFault>
-    ensures ok { let state = sink_state W.contents W.pending W.failures in
-        OnOk result (Writes (state output.old) (state output.new) text.now) }
-    ensures err { let state = sink_state W.contents W.pending W.failures in
-        IfErr result (IsWriteEnd (state output.old) (state output.new)) }
+// Makes room for a record, or stops.
+fn prepare(applier: Applier) -> Result<Ready, Stopped>
+    ensures ready { IfOk result (λ ready. ready ≡ record applier { room = ready.room }) }
+    ensures stopped { IfErr result (StopsBy
+        (λ kept. (kept ≡ applier) × (length applier.records ≡ applier.limit)) (Unit {0}) (λ _. ⊥)) }
+    ensures room { OnOk result (length applier.records ≢ applier.limit) }
 {
-    match output.put(text) {
-        Ok(()) => Ok(()),
-        Err(error) => Err(write_fault(&error)),
+    match applier.prepare() {
+        Ok(ready) => Ok(ready),
+        Err(
+            PrepareFault {
+                cause: PrepareCause::LogFull,
+                applier,
+            },
+        ) => Err(Stopped::Full(applier)),
+        Err(
+            PrepareFault {
+                cause: PrepareCause::OutOfMemory,
+                applier,
+            },
+        ) => Err(Stopped::OutOfMemory(applier)),
     }
 }
 
-fn print_queued<W: Sink>(output: &mut W, number: u64) -> Result<(), ReplayFault>
-    ensures ok { let state = sink_state W.contents W.pending W.failures in
-        OnOk result (Writes (state output.old) (state output.new) (queued_line number)) }
-    ensures err { let state = sink_state W.contents W.pending W.failures in
-        IfErr result (IsWriteEnd (state output.old) (state output.new)) }
+// The status page of an applier.
+fn page_of(alloc: Global, applier: &Applier) -> Result<Vec<u8>, AllocError>
+    ensures { let shown = applier.now in IfOk result (λ page.
+        page.items ≡ status_text_at shown.table shown.opening shown.records shown.moment) }
 {
-    match put_numbered(output, b"queued ", number) {
-        Ok(()) => Ok(()),
-        Err(error) => Err(write_fault(&error)),
-    }
+    let board = Board::of(alloc, applier)?;
+    status_page(alloc, &board)
+}
+
+fn opens_session(step: &Step) -> bool
+    ensures { result ≡ is_session step.now }
+{
+    matches!(step, Step::Packet(_) | Step::Line(_))
 }
 
 impl Player {
     /// The replay that begins with this setup.
     pub(crate) fn open(alloc: Global, setup: Setup) -> Result<Player, ReplayFault>
-        ensures applier { IfOk result (λ player.
-            player.applier ≡ opened setup.table setup.moment setup.limit) }
-        ensures clock { IfOk result (λ player. player.clock ≡ setup.moment) }
-        ensures age { IfOk result (λ player. player.age ≡ setup.age) }
+        ensures begun { IfOk result (IsNew setup) }
         ensures err { IfErr result (λ fault. fault ≡ ReplayFault.OutOfMemory) }
     {
         let Setup {
@@ -95,154 +103,251 @@ impl Player {
             moment,
             age,
             limit,
-            capacity: _,
+            capacity,
         } = setup;
+        let Ok(world) = World::open(alloc, 2, capacity as usize) else {
+            return Err(ReplayFault::OutOfMemory);
+        };
         match Applier::open(alloc, table, moment, limit) {
             Ok(applier) => Ok(Player {
+                world,
                 applier,
                 clock: moment,
                 age,
+                queued: 0,
             }),
             Err(_) => Err(ReplayFault::OutOfMemory),
         }
     }
 
-    fn apply(self, body: Body, number: u64) -> Result<Player, Stopped>
-        requires number { number ≡ next_of self }
-        requires few { length self.applier.records ≤ self.applier.limit }
-        ensures item { IfOk result (λ now. TakesItem self now body) }
+    // Takes an item and records it. Without one there is nothing more to take.
+    fn take_one(self) -> Result<(Player, bool), Stopped>
+        ensures taken { IfOk result (λ turn. Takes self turn.0 turn.1) }
         ensures stopped { IfErr result (StopsBy
-            (λ applier. (length self.applier.records ≡ self.applier.limit)
-            × (applier ≡ self.applier))
+            (λ kept. (kept ≡ self.applier) × (length self.applier.records ≡ self.applier.limit))
             (Unit {0}) (λ _. ⊥)) }
     {
         let Player {
+            mut world,
             applier,
             clock,
             age,
+            queued,
         } = self;
-        let item = Numbered {
-            client: PACKET_CLIENT,
-            number,
-            body,
+        let ready = match prepare(applier) {
+            Ok(ready) => ready,
+            Err(stop) => return Err(stop),
         };
-        match applier.prepare() {
-            Ok(ready) => {
+        match world.take() {
+            Some(item) => {
                 let (applier, _) = ready.apply(item, clock);
-                Ok(Player {
+                let player = Player {
+                    world,
                     applier,
                     clock,
                     age,
-                })
+                    queued,
+                };
+                Ok((player, true))
             }
-            Err(
-                PrepareFault {
-                    cause: PrepareCause::LogFull,
+            None => {
+                let applier = ready.give_back();
+                let player = Player {
+                    world,
                     applier,
-                },
-            ) => Err(Stopped::Full(applier)),
-            Err(
-                PrepareFault {
-                    cause: PrepareCause::OutOfMemory,
-                    applier,
-                },
-            ) => Err(Stopped::OutOfMemory(applier)),
+                    clock,
+                    age,
+                    queued,
+                };
+                Ok((player, false))
+            }
         }
     }
 
-    fn queue<W: Sink>(self, body: Body, output: &mut W) -> Result<Player, Stopped>
-        ensures item { IfOk result (λ now. TakesItem self now body) }
-        ensures printed { let state = sink_state W.contents W.pending W.failures in
-            OnOk result (Writes (state output.old) (state output.new)
-            (queued_line (next_of self))) }
-        ensures stopped { let state = sink_state W.contents W.pending W.failures in
-            IfErr result (StopsBy
-            (λ applier. (length self.applier.records ≡ self.applier.limit)
-            × (applier ≡ self.applier)
-            × Writes (state output.old) (state output.new) (queued_line (next_of self)))
-            (Fails (W.failures output.old) (W.failures output.new) 0)
-            (IsWriteEnd (state output.old) (state output.new))) }
+    // Records what is queued.
+    fn drain(self) -> Result<Player, Stopped>
+        ensures drained { IfOk result (λ now. (s : Setting) (output : SinkState) (g : Gateway)
+            → Shows s self output g → Drains s now output g) }
+        ensures stopped { IfErr result (StopsBy (λ kept. (s : Setting) (output : SinkState)
+            (g : Gateway) → Shows s self output g → DrainsFull s kept output g)
+            (Unit {0}) (λ _. ⊥)) }
     {
-        let number = self.applier.records().len() as u64 + 1;
-        match print_queued(output, number) {
-            Ok(()) => self.apply(body, number),
-            Err(fault) => Err(Stopped::Unwritten(fault)),
+        let mut player = self;
+        while (player.applier.records().len() as u64) < player.queued {
+            match player.take_one() {
+                Ok(turn) => {
+                    if !turn.1 {
+                        return Ok(turn.0);
+                    }
+                    player = turn.0;
+                }
+                Err(stop) => return Err(stop),
+            }
         }
+        Ok(player)
     }
 
-    fn skip<W: Sink>(self, output: &mut W) -> Result<Player, Stopped>
-        ensures same { IfOk result (λ now. now ≡ self) }
-        ensures printed { let state = sink_state W.contents W.pending W.failures in
-            OnOk result (Writes (state output.old) (state output.new) (codes "Stale\n")) }
-        ensures stopped { let state = sink_state W.contents W.pending W.failures in
-            IfErr result (StopsBy (λ _. ⊥) ⊥ (IsWriteEnd (state output.old) (state output.new))) }
-    {
-        match print(output, b"Stale\n") {
-            Ok(()) => Ok(self),
-            Err(fault) => Err(Stopped::Unwritten(fault)),
-        }
-    }
-
+    // The session of a packet.
     fn packet<W: Sink>(
         self,
         alloc: Global,
         packet: &Packet,
         output: &mut W,
     ) -> Result<Player, Stopped>
-        ensures ok { let state = sink_state W.contents W.pending W.failures in
-            IfOk result (λ now. MatchBool (is_stale packet.now.timestamp self.clock.0 self.age)
-            ((now ≡ self) × Writes (state output.old) (state output.new) (codes "Stale\n"))
-            (TakesItem self now (reported_body packet.now)
-            × Writes (state output.old) (state output.new) (queued_line (next_of self)))) }
+        requires { IsReady self }
+        ensures served { let state = sink_state W.contents W.pending W.failures in
+            IfOk result (λ now. (s : Setting) (g : Gateway) → Shows s self (state output.old) g
+            → Serves s now (state output.new) (step.Packet packet.now) g) }
+        ensures none_failed { OnOk result (Fails (W.failures output.old) (W.failures output.new) 0) }
         ensures stopped { let state = sink_state W.contents W.pending W.failures in
-            IfErr result (StopsBy
-            (λ applier. (is_stale packet.now.timestamp self.clock.0 self.age ≡ false)
-            × (length self.applier.records ≡ self.applier.limit) × (applier ≡ self.applier)
-            × Writes (state output.old) (state output.new) (queued_line (next_of self)))
-            (Fails (W.failures output.old) (W.failures output.new) 0)
+            IfErr result (StopsBy (λ _. ⊥) (Fails (W.failures output.old) (W.failures output.new) 0)
             (IsWriteEnd (state output.old) (state output.new))) }
     {
-        match received(alloc, packet, self.clock, self.age) {
-            Ok(Some(body)) => self.queue(body, output),
-            Ok(None) => self.skip(output),
-            Err(_) => Err(Stopped::OutOfMemory(self.applier)),
+        let Player {
+            world,
+            applier,
+            clock,
+            age,
+            queued,
+        } = self;
+        let (world, report) = serve_packet(alloc, world, packet, age, clock);
+        let Some(answer) = only_answer(&report) else {
+            return Err(Stopped::OutOfMemory(applier));
+        };
+        if let Err(fault) = print_answer(output, answer) {
+            return Err(Stopped::Unwritten(fault));
+        }
+        let queued = queued_after(queued, answer);
+        Ok(Player {
+            world,
+            applier,
+            clock,
+            age,
+            queued,
+        })
+    }
+
+    // The session of an operator's line.
+    fn line<W: Sink>(self, alloc: Global, text: &Text, output: &mut W) -> Result<Player, Stopped>
+        requires { IsReady self }
+        ensures served { let state = sink_state W.contents W.pending W.failures in
+            IfOk result (λ now. (s : Setting) (g : Gateway) → Shows s self (state output.old) g
+            → Serves s now (state output.new) (step.Line text.now) g) }
+        ensures none_failed { OnOk result (Fails (W.failures output.old) (W.failures output.new) 0) }
+        ensures stopped { let state = sink_state W.contents W.pending W.failures in
+            IfErr result (StopsBy (λ _. ⊥) (Fails (W.failures output.old) (W.failures output.new) 0)
+            (IsWriteEnd (state output.old) (state output.new))) }
+    {
+        let Player {
+            world,
+            applier,
+            clock,
+            age,
+            queued,
+        } = self;
+        let mut written = Vec::new(alloc);
+        let (world, report) = match serve_line(alloc, world, text, clock, &mut written) {
+            Ok(served) => served,
+            Err(_) => return Err(Stopped::OutOfMemory(applier)),
+        };
+        let Some(answer) = only_answer(&report) else {
+            return Err(Stopped::OutOfMemory(applier));
+        };
+        if let Err(fault) = print(output, &written) {
+            return Err(Stopped::Unwritten(fault));
+        }
+        let queued = queued_after(queued, answer);
+        Ok(Player {
+            world,
+            applier,
+            clock,
+            age,
+            queued,
+        })
+    }
+
+    // The status page, at the clock's moment or the applier's, whichever is later.
+    fn page<W: Sink>(self, alloc: Global, output: &mut W) -> Result<Player, Stopped>
+        ensures served { let state = sink_state W.contents W.pending W.failures in
+            IfOk result (λ now. (s : Setting) (g : Gateway) → Shows s self (state output.old) g
+            → Serves s now (state output.new) step.Page g) }
+        ensures none_failed { OnOk result (Fails (W.failures output.old) (W.failures output.new) 0) }
+        ensures stopped { let state = sink_state W.contents W.pending W.failures in
+            IfErr result (StopsBy (λ _. ⊥) (Fails (W.failures output.old) (W.failures output.new) 0)
+            (IsWriteEnd (state output.old) (state output.new))) }
+    {
+        let mut player = self;
+        player.applier.advance(player.clock);
+        let Ok(page) = page_of(alloc, &player.applier) else {
+            return Err(Stopped::OutOfMemory(player.applier));
+        };
+        match print(output, &page) {
+            Ok(()) => Ok(player),
+            Err(fault) => Err(Stopped::Unwritten(fault)),
+        }
+    }
+
+    // The step without its drain.
+    fn serve<W: Sink>(self, alloc: Global, step: &Step, output: &mut W) -> Result<Player, Stopped>
+        requires { IsReady self }
+        ensures served { let state = sink_state W.contents W.pending W.failures in
+            IfOk result (λ now. (s : Setting) (g : Gateway) → Shows s self (state output.old) g
+            → Serves s now (state output.new) step.now g) }
+        ensures none_failed { OnOk result (Fails (W.failures output.old) (W.failures output.new) 0) }
+        ensures stopped { let state = sink_state W.contents W.pending W.failures in
+            IfErr result (StopsBy (λ _. ⊥) (Fails (W.failures output.old) (W.failures output.new) 0)
+            (IsWriteEnd (state output.old) (state output.new))) }
+    {
+        match step {
+            Step::Clock(moment) => {
+                let mut player = self;
+                player.clock = *moment;
+                Ok(player)
+            }
+            Step::Packet(packet) => self.packet(alloc, packet, output),
+            Step::Line(text) => self.line(alloc, text, output),
+            Step::Page => self.page(alloc, output),
         }
     }
 
     fn step<W: Sink>(self, alloc: Global, step: &Step, output: &mut W) -> Result<Player, Stopped>
+        requires { IsReady self }
         ensures played { let state = sink_state W.contents W.pending W.failures in
-            IfOk result (λ now. (left : List Step) →
-            PlayedSteps self now (step.now ∷ left) left (state output.old) (state output.new)) }
+            IfOk result (λ now. (s : Setting) (g : Gateway) → Shows s self (state output.old) g
+            → Plays s now (state output.new) step.now g) }
         ensures stopped { let state = sink_state W.contents W.pending W.failures in
-            IfErr result (StopsBy
-            (λ applier. (left : List Step) →
-            StoppedEarly self applier (step.now ∷ left) (state output.old) (state output.new))
+            IfErr result (StopsBy (λ kept. (s : Setting) (g : Gateway)
+            → Shows s self (state output.old) g → PlaysFull s kept (state output.new) step.now g)
             (Fails (W.failures output.old) (W.failures output.new) 0)
             (IsWriteEnd (state output.old) (state output.new))) }
     {
-        match step {
-            Step::Clock(moment) => Ok(Player {
-                applier: self.applier,
-                clock: *moment,
-                age: self.age,
-            }),
-            Step::Packet(packet) => self.packet(alloc, packet, output),
+        match self.serve(alloc, step, output) {
+            Ok(player) => {
+                if opens_session(step) {
+                    player.drain()
+                } else {
+                    Ok(player)
+                }
+            }
+            Err(stop) => Err(stop),
         }
     }
 
-    /// Plays the steps, printing the answers. It stops at an item that finds the log full.
+    /// Plays the steps, printing the answers and the status pages. It stops at an item that finds
+    /// the log full.
     pub(crate) fn play<W: Sink>(
         self,
         alloc: Global,
         steps: &[Step],
         output: &mut W,
     ) -> Result<Player, Stopped>
+        requires { (setup : Setup) × IsNew setup self }
         ensures played { let state = sink_state W.contents W.pending W.failures in
-            IfOk result (λ now.
-            PlayedSteps self now steps.now [] (state output.old) (state output.new)) }
+            IfOk result (λ now. (setup : Setup) → IsNew setup self
+            → PlayedTo (setting setup (state output.old)) steps.now now (state output.new)) }
         ensures stopped { let state = sink_state W.contents W.pending W.failures in
-            IfErr result (StopsBy
-            (λ applier. StoppedEarly self applier steps.now (state output.old) (state output.new))
+            IfErr result (StopsBy (λ kept. (setup : Setup) → IsNew setup self
+            → PlayedFull (setting setup (state output.old)) steps.now kept (state output.new))
             (Fails (W.failures output.old) (W.failures output.new) 0)
             (IsWriteEnd (state output.old) (state output.new))) }
     {

@@ -1,11 +1,11 @@
 ghost use Rattle.std.specs.Prelude.{◌≡◌, ◌↔◌, IsTrue, OnOk, OnErr, map, codes, string_bytes};
-ghost use Rattle.gate_replay.specs.Sink.{sink_state, Delivers, FailsOnce};
+ghost use Rattle.gate_reader.specs.Sink.{sink_state, Delivers, FailsOnce};
 ghost use Rattle.gate_replay.specs.Replay.{IsReplayRun};
 ghost use Rattle.gate_replay.specs.Program.{IsReplayAsked, status_without, line_on, IsRefusal};
 
 use crate::fault::report_line;
 use crate::replay::run_replay;
-use crate::sink::Sink;
+use gate_reader::Sink;
 use std::alloc::{AllocError, Global};
 use std::io;
 use std::io::{ErrorKind, Read};

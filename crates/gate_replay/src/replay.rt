@@ -1,17 +1,17 @@
 ghost use Rattle.std.specs.Prelude.{◌≡◌, ◌≤◌, length, IfOk, IfErr, OnOk};
 ghost use Rattle.gate_model.specs.Meaning.{outcomes_of};
 ghost use Rattle.gate_pages.specs.LogPage.{log_text};
-ghost use Rattle.gate_replay.specs.Sink.{sink_state, Delivers, IsDelivered, Fails};
-ghost use Rattle.std.specs.Io.KnownBytes.{Keeps};
+ghost use Rattle.gate_reader.specs.Sink.{sink_state, Delivers};
 ghost use Rattle.gate_replay.specs.Replay.{IsWholeInput, fault_in, EndsWith, IsReplayRun};
 ghost use Rattle.gate_replay.specs.inner.Playing.{IsWriteEnd, EndsPlaying, IsInputFault};
 
-use crate::fault::{ReplayFault, read_fault, write_fault};
-use crate::player::{Player, Stopped, print};
+use crate::fault::{ReplayFault, read_fault};
+use crate::player::{Player, Stopped};
+use crate::printing::{deliver, print};
 use crate::script::{Script, read_script};
-use crate::sink::Sink;
 use gate_applier::Applier;
 use gate_pages::log_page;
+use gate_reader::Sink;
 use std::alloc::Global;
 use std::io::Read;
 
@@ -33,19 +33,6 @@ fn read_input<R: Read>(alloc: Global, input: &mut R) -> Result<Vec<u8>, ReplayFa
         return Err(ReplayFault::TooLong);
     }
     Ok(text)
-}
-
-fn deliver<W: Sink>(output: &mut W) -> Result<(), ReplayFault>
-    ensures kept { Keeps (W.contents output.old) (W.contents output.new) }
-    ensures ok { OnOk result (IsDelivered (W.pending output.new)
-        × Fails (W.failures output.old) (W.failures output.new) 0) }
-    ensures err { let state = sink_state W.contents W.pending W.failures in
-        IfErr result (IsWriteEnd (state output.old) (state output.new)) }
-{
-    match output.deliver() {
-        Ok(()) => Ok(()),
-        Err(error) => Err(write_fault(&error)),
-    }
 }
 
 // Prints the log page, and flushes, also where there is no memory for the page.
@@ -99,8 +86,9 @@ fn run<W: Sink>(alloc: Global, script: Script, output: &mut W) -> Result<(), Rep
     }
 }
 
-/// Reads a script, checks it whole and plays it: it prints a line for each packet that arrives, and
-/// in the end the log page, also where the log was full with an item left.
+/// Reads a script, checks it whole and plays it over a queue of two clients: it prints an answer for
+/// each packet and each line that arrives, the status page where it is asked for, and in the end the
+/// log page, also where the log was full with an item left.
 ///
 /// TooLong and Line are faults of the input, before anything is printed: it has more than 1,048,576
 /// bytes, or a first faulty line. LogFull is an item that finds the log full. ReadFault is a failed

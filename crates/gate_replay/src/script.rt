@@ -20,6 +20,10 @@ pub enum Step {
     Clock(Moment),
     /// The packet arrives.
     Packet(Packet),
+    /// The operator's line with this text arrives.
+    Line(Text),
+    /// The status page is asked for.
+    Page,
 }
 
 /// What a script opens with: a table of objects, a moment, the greatest age of a packet in seconds,
@@ -147,6 +151,8 @@ fn read_setup(alloc: Global, lines: &[&[u8]]) -> Result<(Setup, usize), ScriptFa
             }
             Some(ScriptLine::Clock { .. }) => return Err(ScriptFault::Line(index + 1)),
             Some(ScriptLine::Packet { .. }) => return Err(ScriptFault::Line(index + 1)),
+            Some(ScriptLine::Line { .. }) => return Err(ScriptFault::Line(index + 1)),
+            Some(ScriptLine::Page) => return Err(ScriptFault::Line(index + 1)),
             None => return Err(ScriptFault::Line(index + 1)),
         }
     }
@@ -198,6 +204,8 @@ fn read_step(alloc: Global, number: usize, line: &[u8]) -> Result<Step, ScriptFa
             let packet = packet(alloc, number, timestamp, code, host, service, output)?;
             Ok(Step::Packet(packet))
         }
+        Some(ScriptLine::Line { text }) => Ok(Step::Line(Text::copied(alloc, text)?)),
+        Some(ScriptLine::Page) => Ok(Step::Page),
         _ => Err(ScriptFault::Line(number)),
     }
 }

@@ -1,6 +1,6 @@
 ghost use Rattle.std.specs.Prelude.{◌≡◌, ◌<◌, ◌==◌, length, position, IfSome};
 ghost use Rattle.std.specs.Option.{option_map};
-ghost use Rattle.gate_replay.specs.ScriptLine.{cut, number_field, code_field, value_of, parsed_object, parsed_open, parsed_clock, parsed_packet, parsed_form, parsed_line};
+ghost use Rattle.gate_replay.specs.ScriptLine.{cut, number_field, code_field, value_of, parsed_object, parsed_open, parsed_clock, parsed_packet, parsed_form, parsed_with_word, parsed_line};
 
 use gate_applier::MOST_RECORDS;
 use gate_grammar::{read_code, read_number};
@@ -40,6 +40,12 @@ pub enum ScriptLine<'a> {
         service: &'a [u8],
         output: &'a [u8],
     },
+    /// An operator's line arrives.
+    Line {
+        text: &'a [u8],
+    },
+    /// The status page is asked for.
+    Page,
 }
 
 fn semicolon(text: &[u8]) -> Option<usize>
@@ -155,9 +161,19 @@ fn read_form<'a>(word: &[u8], text: &'a [u8]) -> Option<ScriptLine<'a>>
         read_clock(text)
     } else if word == b"packet".as_slice() {
         read_packet(text)
+    } else if word == b"line".as_slice() {
+        Some(ScriptLine::Line { text })
     } else {
         None
     }
+}
+
+#[tactic(auto, unfolding(crate::specs::ScriptLine::parsed_with_word))]
+fn read_with_word(line: &[u8]) -> Option<ScriptLine<'_>>
+    ensures { option_map value_of result ≡ parsed_with_word line.now }
+{
+    let (word, text) = cut(line)?;
+    read_form(word, text)
 }
 
 /// Parses a line of a script, without the LF that ends it.
@@ -168,6 +184,9 @@ fn read_form<'a>(word: &[u8], text: &'a [u8]) -> Option<ScriptLine<'a>>
 pub fn read_script_line(line: &[u8]) -> Option<ScriptLine<'_>>
     ensures { option_map value_of result ≡ parsed_line line.now }
 {
-    let (word, text) = cut(line)?;
-    read_form(word, text)
+    if line == b"page".as_slice() {
+        Some(ScriptLine::Page)
+    } else {
+        read_with_word(line)
+    }
 }

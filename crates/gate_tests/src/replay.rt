@@ -1,4 +1,5 @@
-use gate_replay::{Sink, run_program, run_replay};
+use gate_reader::Sink;
+use gate_replay::{run_program, run_replay};
 use std::alloc::Global;
 use std::io;
 use std::io::{Error, ErrorKind, Read, Write};

@@ -1,4 +1,4 @@
-use Rattle.gate_replay.specs.Sink.{sink_state}
+use Rattle.gate_reader.specs.Sink.{sink_state}
 use Rattle.gate_replay.specs.Replay.{fault_in}
 use Rattle.gate_replay.proofs.ReplayTexts.{played_input}
 use Rattle.gate_replay.proofs.replay.replay_script.Goals as goal

@@ -37,6 +37,18 @@ returns-in-Some-Packet-clause-first_faulty c =
     let is = value_at c.args.lines.now c.loop-index.index _ _ c.loop-index-test.true (sym c.in-Some-Packet.ensures ∙ ap (λ l. Some (value_of l)) c.in-Some-Packet.field-0-is) in
     closed_fault (parsed_from c.args.lines.now) c.loop-index.index c.loop-index.objects.items _ inside is c.loop-index.invariant (λ none. none)
 
+pub returns-in-Some-Line-clause-first_faulty : goal.returns-in-Some-Line-clause-first_faulty
+returns-in-Some-Line-clause-first_faulty c =
+    let inside : c.loop-index.index < length (parsed_from c.args.lines.now) = rw (parsed_length c.args.lines.now) c.loop-index-test.true in
+    let is = value_at c.args.lines.now c.loop-index.index _ _ c.loop-index-test.true (sym c.in-Some-Line.ensures ∙ ap (λ l. Some (value_of l)) c.in-Some-Line.field-0-is) in
+    closed_fault (parsed_from c.args.lines.now) c.loop-index.index c.loop-index.objects.items _ inside is c.loop-index.invariant (λ none. none)
+
+pub returns-in-Some-Page-clause-first_faulty : goal.returns-in-Some-Page-clause-first_faulty
+returns-in-Some-Page-clause-first_faulty c =
+    let inside : c.loop-index.index < length (parsed_from c.args.lines.now) = rw (parsed_length c.args.lines.now) c.loop-index-test.true in
+    let is = value_at c.args.lines.now c.loop-index.index _ _ c.loop-index-test.true (sym c.in-Some-Page.ensures ∙ ap (λ l. Some (value_of l)) c.in-Some-Page.field-0-is) in
+    closed_fault (parsed_from c.args.lines.now) c.loop-index.index c.loop-index.objects.items _ inside is c.loop-index.invariant (λ none. none)
+
 pub returns-in-None-clause-first_faulty : goal.returns-in-None-clause-first_faulty
 returns-in-None-clause-first_faulty c =
     let inside : c.loop-index.index < length (parsed_from c.args.lines.now) = rw (parsed_length c.args.lines.now) c.loop-index-test.true in

@@ -1,13 +1,24 @@
-use Rattle.gate_replay.specs.Sink.{sink_state}
-use Rattle.gate_replay.proofs.ReplaySteps.{step_played, step_stopped}
+use Rattle.std.proofs.Common.{sym, ◌∙◌}
+use Rattle.gate_reader.specs.Sink.{sink_state}
+use Rattle.gate_replay.proofs.PlaySteps.{plays_session, drain_stops, served_stops, plays_other}
 use Rattle.gate_replay.proofs.player.Player.step.Goals as goal
 
-pub returns-in-Packet-clause-played : goal.returns-in-Packet-clause-played
-returns-in-Packet-clause-played g c =
+pub returns-then-opens_session-clause-played : goal.returns-then-opens_session-clause-played
+returns-then-opens_session-clause-played g c =
     let state = sink_state g.W.Write.contents g.W.Sink.pending g.W.Sink.failures in
-    step_played c.packet.result c.args.self c.args.step.now c.in-Packet.packet (state c.args.output.now) (state c.packet.new.output) c.in-Packet.is c.packet.ensures.ok
+    plays_session c.drain.result c.args.self c.in-Ok.player c.args.step.now (state c.args.output.now) (state c.serve.new.output) c.in-Ok.ensures.served (sym c.opens_session.ensures ∙ c.if-opens_session.true) c.drain.ensures.drained
 
-pub returns-in-Packet-clause-stopped : goal.returns-in-Packet-clause-stopped
-returns-in-Packet-clause-stopped g c =
+pub returns-else-opens_session-clause-played : goal.returns-else-opens_session-clause-played
+returns-else-opens_session-clause-played g c =
     let state = sink_state g.W.Write.contents g.W.Sink.pending g.W.Sink.failures in
-    step_stopped c.packet.result c.args.self c.args.step.now c.in-Packet.packet (state c.args.output.now) (state c.packet.new.output) c.in-Packet.is c.packet.ensures.stopped
+    plays_other c.args.self c.in-Ok.player c.args.step.now (state c.args.output.now) (state c.serve.new.output) c.in-Ok.ensures.served (sym c.opens_session.ensures ∙ c.if-opens_session.false)
+
+pub returns-in-Err-clause-stopped : goal.returns-in-Err-clause-stopped
+returns-in-Err-clause-stopped g c =
+    let state = sink_state g.W.Write.contents g.W.Sink.pending g.W.Sink.failures in
+    served_stops c.in-Err.stop c.args.self c.args.step.now (state c.args.output.now) (state c.serve.new.output) c.in-Err.ensures.stopped
+
+pub returns-then-opens_session-clause-stopped : goal.returns-then-opens_session-clause-stopped
+returns-then-opens_session-clause-stopped g c =
+    let state = sink_state g.W.Write.contents g.W.Sink.pending g.W.Sink.failures in
+    drain_stops c.drain.result c.args.self c.in-Ok.player c.args.step.now (state c.args.output.now) (state c.serve.new.output) c.in-Ok.ensures.served (sym c.opens_session.ensures ∙ c.if-opens_session.true) c.in-Ok.ensures.none_failed c.drain.ensures.stopped

@@ -1,0 +1,307 @@
+-- The steps of a replay.
+use Rattle.std.proofs.Common.{◌≡◌, ℕ, ◌+◌, ◌^◌, ◌<◌, List, [], ◌∷◌, ◌++◌, length, take, drop, get_or, Option, None, Result, Ok, Err, Bool, true, false, cond, refl, sym, ap, ◌∙◌, subst, arith, append_assoc}
+use Rattle.std.specs.Prelude.{IfOk, IfErr, reverse}
+use Rattle.std.proofs.lemmas.List.{reverse-append, take-append-drop, take_more}
+use Rattle.gate_model.specs.declared.record.Moment.{Moment}
+use Rattle.gate_model.specs.declared.submission.Numbered.{Numbered}
+use Rattle.gate_model.specs.Record.{later}
+use Rattle.gate_model.specs.declared.submission.Body.{Body}
+use Rattle.gate_grammar.specs.declared.faults.LineFault.{LineFault}
+use Rattle.gate_grammar.specs.Parsing.{text_before}
+use Rattle.gate_core.specs.Limits.{Limits, limits_of, default_quota}
+use Rattle.gate_applier.specs.Applier.{ApplierView}
+use Rattle.gate_pages.specs.StatusPage.{status_text_at}
+use Rattle.gate_reader.specs.declared.report.Answer.{Answer}
+use Rattle.gate_reader.specs.Report.{answer_line}
+use Rattle.gate_reader.specs.Sink.{SinkState, Fails, Writes}
+use Rattle.gate_replay.specs.declared.fault.ReplayFault.{ReplayFault}
+use Rattle.gate_replay.specs.declared.fault.ReplayFault.TheVariants as replay_fault
+use Rattle.gate_replay.specs.declared.player.Player.{Player}
+use Rattle.gate_replay.specs.declared.player.Stopped.{Stopped}
+use Rattle.gate_replay.specs.declared.player.Stopped.TheVariants as stopped
+use Rattle.gate_replay.specs.declared.script.Step.{Step}
+use Rattle.gate_replay.specs.declared.script.Step.TheVariants as step
+use Rattle.gate_replay.specs.declared.script.Setup.{Setup}
+use Rattle.gate_replay.specs.Gateway.{Gateway, Heard, body_of_line, carries_out, is_session, serves, drains, plays, gateway_after, steps_of, IsWhole}
+use Rattle.gate_replay.specs.inner.Sessions.{queued_in, Answers, AnswersStep}
+use Rattle.gate_replay.specs.inner.Playing.{Setting, setting, Shows, IsNew, IsReady, Serves, Drains, DrainsFull, Ends, Plays, PlaysFull, PlayedTo, PlayedFull, IsWriteEnd, StopsBy}
+use Rattle.gate_replay.proofs.Outputs.{fails_then, writes_none, writes_on}
+use Rattle.gate_replay.proofs.WorldSteps.{queued_few}
+
+abbrev nothing_heard : List (Option Numbered) → Heard
+nothing_heard takes = record { reply = Ok 0; closed = None; takes = takes }
+
+-- ---- one step without its drain
+
+pub serves_clock : (was now : Player) (clock : Moment) (output : SinkState) → now.world ≡ was.world → now.applier ≡ was.applier → now.clock ≡ clock → now.age ≡ was.age → now.queued ≡ was.queued
+    → (s : Setting) (g : Gateway) → Shows s was output g → Serves s now output (step.Clock clock) g
+serves_clock was now clock output world applier clock_is age queued s g h = record {
+  heard = nothing_heard [];
+  shows = λ takes. record {
+    holds = rw world h.holds;
+    applier = rw applier (record { table = h.applier.table; opening = h.applier.opening; limit = h.applier.limit; records = h.applier.records });
+    moment = rw applier h.moment;
+    clock = clock_is;
+    age = age ∙ h.age;
+    queued = queued ∙ h.queued;
+    printed = h.printed;
+    running = h.running;
+  };
+}
+
+pub serves_session : (was now : Player) (before after : SinkState) (step : Step) (a : Answer) → AnswersStep was.world was.age was.clock now.world step a → Writes before after (answer_line a)
+    → now.applier ≡ was.applier → now.clock ≡ was.clock → now.age ≡ was.age → now.queued ≡ was.queued + queued_in a
+    → (s : Setting) (g : Gateway) → Shows s was before g → Serves s now after step g
+serves_session was now before after step a answers printed applier clock age queued s g h =
+    let x : Answers s.setup now.world step a g = answers s.setup g h.holds h.clock h.age in
+    record {
+      heard = x.heard;
+      shows = λ takes. subst (λ (v : Gateway). Shows s now after v) (sym (x.does takes)) (record {
+        holds = x.holds;
+        applier = record {
+          table = ap (λ (v : ApplierView). v.table) applier ∙ h.applier.table;
+          opening = ap (λ (v : ApplierView). v.opening) applier ∙ h.applier.opening;
+          limit = ap (λ (v : ApplierView). v.limit) applier ∙ h.applier.limit;
+          records = ap (λ (v : ApplierView). v.records) applier ∙ h.applier.records;
+        };
+        moment = ap (λ (v : ApplierView). v.moment) applier ∙ h.moment;
+        clock = clock ∙ h.clock;
+        age = age ∙ h.age;
+        queued = queued ∙ ap (λ n. n + queued_in a) h.queued ∙ sym x.counted;
+        printed = writes_on s.base before after g.printed (answer_line a) h.printed printed;
+        running = h.running;
+      });
+    }
+
+pub serves_page : (was now : Player) (before after : SinkState) → now.world ≡ was.world → now.applier.table ≡ was.applier.table → now.applier.opening ≡ was.applier.opening → now.applier.limit ≡ was.applier.limit
+    → now.applier.records ≡ was.applier.records → now.applier.moment ≡ later was.applier.moment was.clock → now.clock ≡ was.clock → now.age ≡ was.age → now.queued ≡ was.queued
+    → Writes before after (status_text_at now.applier.table now.applier.opening now.applier.records now.applier.moment)
+    → (s : Setting) (g : Gateway) → Shows s was before g → Serves s now after step.Page g
+serves_page was now before after world table opening limit records moment clock age queued printed s g h =
+    let table_is : now.applier.table ≡ s.setup.table = table ∙ h.applier.table in
+    let opening_is : now.applier.opening ≡ s.setup.moment = opening ∙ h.applier.opening in
+    let records_are : now.applier.records ≡ g.records = records ∙ h.applier.records in
+    let moment_is : now.applier.moment ≡ later g.moment g.clock = moment ∙ cc (h.moment, h.clock) in
+    let text : status_text_at now.applier.table now.applier.opening now.applier.records now.applier.moment ≡ status_text_at s.setup.table s.setup.moment g.records (later g.moment g.clock) =
+    rw (table_is, opening_is, records_are, moment_is) refl in
+    record {
+      heard = nothing_heard [];
+      shows = λ takes. record {
+        holds = rw world h.holds;
+        applier = record { table = table_is; opening = opening_is; limit = limit ∙ h.applier.limit; records = records_are };
+        moment = moment_is;
+        clock = clock ∙ h.clock;
+        age = age ∙ h.age;
+        queued = queued ∙ h.queued;
+        printed = writes_on s.base before after g.printed _ h.printed (subst (λ (t : List ℕ). Writes before after t) text printed);
+        running = h.running;
+      };
+    }
+
+-- what a session wrote into an empty buffer
+pub written_line : (text written before line : List ℕ) → text ≡ written → written ≡ before ++ line → before ≡ [] → text ≡ line
+written_line text written before line same grown empty = same ∙ grown ∙ ap (λ (l : List ℕ). l ++ line) empty
+
+-- ---- one step
+
+plays_if : (full session : Bool) (g v d : Gateway) → full ≡ false → cond full g (cond session d v) ≡ cond session d v
+plays_if full session g v d running = ap (λ b. cond b g (cond session d v)) running
+
+session_is : (setup : Setup) (step : Step) (heard : Heard) (g : Gateway) → g.full ≡ false → is_session step ≡ true → plays setup step heard g ≡ drains heard.takes (serves setup step heard g)
+session_is setup step heard g running session =
+    plays_if g.full (is_session step) g (serves setup step heard g) (drains heard.takes (serves setup step heard g)) running
+    ∙ ap (λ b. cond b (drains heard.takes (serves setup step heard g)) (serves setup step heard g)) session
+
+other_is : (setup : Setup) (step : Step) (heard : Heard) (g : Gateway) → g.full ≡ false → is_session step ≡ false → plays setup step heard g ≡ serves setup step heard g
+other_is setup step heard g running session =
+    plays_if g.full (is_session step) g (serves setup step heard g) (drains heard.takes (serves setup step heard g)) running
+    ∙ ap (λ b. cond b (drains heard.takes (serves setup step heard g)) (serves setup step heard g)) session
+
+-- a step's service doesn't read its takes
+carries_with : (read : Result Body LineFault) (heard : Heard) (takes : List (Option Numbered)) (g : Gateway) → carries_out read (record heard { takes = takes }) g ≡ carries_out read heard g
+carries_with (Ok body) heard takes g = refl
+carries_with (Err cause) heard takes g = refl
+
+serves_with : (setup : Setup) (step : Step) (heard : Heard) (takes : List (Option Numbered)) (g : Gateway) → serves setup step (record heard { takes = takes }) g ≡ serves setup step heard g
+serves_with setup (step.Clock moment) heard takes g = refl
+serves_with setup (step.Packet packet) heard takes g = refl
+serves_with setup (step.Line text) heard takes g = carries_with (body_of_line (text_before 10 (text ++ 10 ∷ []))) heard takes g
+serves_with setup step.Page heard takes g = refl
+
+drains_plays : (s : Setting) (now : Player) (step : Step) (after : SinkState) (g : Gateway) (heard : Heard) → g.full ≡ false → is_session step ≡ true → Drains s now after (serves s.setup step heard g) → Plays s now after step g
+drains_plays s now step after g heard running session d =
+    let with_takes : Heard = record heard { takes = d.takes } in
+    let same : serves s.setup step with_takes g ≡ serves s.setup step heard g = serves_with s.setup step heard d.takes g in
+    let is : plays s.setup step with_takes g ≡ drains d.takes (serves s.setup step heard g) = session_is s.setup step with_takes g running session ∙ ap (λ (v : Gateway). drains d.takes v) same in
+    record {
+      heard = with_takes;
+      whole = λ _ _. rw same d.finishes;
+      shows = subst (λ (x : Gateway). Shows s now after x) (sym is) d.shows;
+    }
+
+drains_plays_full : (s : Setting) (kept : ApplierView) (step : Step) (after : SinkState) (g : Gateway) (heard : Heard) → g.full ≡ false → is_session step ≡ true → DrainsFull s kept after (serves s.setup step heard g) → PlaysFull s kept after step g
+drains_plays_full s kept step after g heard running session d =
+    let with_takes : Heard = record heard { takes = d.takes } in
+    let same : serves s.setup step with_takes g ≡ serves s.setup step heard g = serves_with s.setup step heard d.takes g in
+    let is : plays s.setup step with_takes g ≡ drains d.takes (serves s.setup step heard g) = session_is s.setup step with_takes g running session ∙ ap (λ (v : Gateway). drains d.takes v) same in
+    record {
+      heard = with_takes;
+      whole = λ _ _. rw same d.finishes;
+      ends = subst (λ (x : Gateway). Ends s kept after x) (sym is) d.ends;
+    }
+
+-- the step's service, whatever its takes
+served_shows : (s : Setting) (mid : Player) (after : SinkState) (step : Step) (g : Gateway) (v : Serves s mid after step g) → Shows s mid after (serves s.setup step v.heard g)
+served_shows s mid after step g v = subst (λ (x : Gateway). Shows s mid after x) (serves_with s.setup step v.heard [] g) (v.shows [])
+
+pub plays_session : (r : Result Player Stopped) (was mid : Player) (step : Step) (before after : SinkState) → ((s : Setting) (g : Gateway) → Shows s was before g → Serves s mid after step g) → is_session step ≡ true
+    → IfOk r (λ now. (s : Setting) (output : SinkState) (g : Gateway) → Shows s mid output g → Drains s now output g)
+    → IfOk r (λ now. (s : Setting) (g : Gateway) → Shows s was before g → Plays s now after step g)
+plays_session (Ok now) was mid step before after served session drained = λ s g h.
+    let v = served s g h in drains_plays s now step after g v.heard h.running session (drained s after (serves s.setup step v.heard g) (served_shows s mid after step g v))
+plays_session (Err stop) was mid step before after served session drained = tt
+
+stops : (stop : Stopped) (P Q : ApplierView → Type 0) (M N : Type 0) (F G : ReplayFault → Type 0) → ((kept : ApplierView) → P kept → Q kept) → (M → N) → ((fault : ReplayFault) → F fault → G fault) → StopsBy P M F stop → StopsBy Q N G stop
+stops (stopped.Full kept) P Q M N F G f m n h = f kept h
+stops (stopped.OutOfMemory kept) P Q M N F G f m n h = m h
+stops (stopped.Unwritten fault) P Q M N F G f m n h = n fault h
+
+write_end_on : (a b c : SinkState) (fault : ReplayFault) → Fails a.failures b.failures 0 → IsWriteEnd b c fault → IsWriteEnd a c fault
+write_end_on a b c replay_fault.TooLong h k = k
+write_end_on a b c (replay_fault.Line number) h k = k
+write_end_on a b c replay_fault.LogFull h k = k
+write_end_on a b c replay_fault.OutOfMemory h k = k
+write_end_on a b c replay_fault.ReadFault h k = k
+write_end_on a b c replay_fault.WriteFault h k = fails_then a.failures b.failures c.failures 1 h k
+
+-- the service of a session stopped
+pub served_stops : (stop : Stopped) (was : Player) (step : Step) (before after : SinkState) → StopsBy (λ _. ⊥) (Fails before.failures after.failures 0) (IsWriteEnd before after) stop
+    → StopsBy (λ kept. (s : Setting) (g : Gateway) → Shows s was before g → PlaysFull s kept after step g) (Fails before.failures after.failures 0) (IsWriteEnd before after) stop
+served_stops stop was step before after h =
+    stops stop (λ _. ⊥) (λ kept. (s : Setting) (g : Gateway) → Shows s was before g → PlaysFull s kept after step g) (Fails before.failures after.failures 0) (Fails before.failures after.failures 0) (IsWriteEnd before after) (IsWriteEnd before after)
+    (λ kept no. absurd no) (λ m. m) (λ fault f. f) h
+
+-- the drain of a session stopped
+pub drain_stops : (r : Result Player Stopped) (was mid : Player) (step : Step) (before after : SinkState) → ((s : Setting) (g : Gateway) → Shows s was before g → Serves s mid after step g) → is_session step ≡ true → Fails before.failures after.failures 0
+    → IfErr r (StopsBy (λ kept. (s : Setting) (output : SinkState) (g : Gateway) → Shows s mid output g → DrainsFull s kept output g) (Unit {0}) (λ _. ⊥))
+    → IfErr r (StopsBy (λ kept. (s : Setting) (g : Gateway) → Shows s was before g → PlaysFull s kept after step g) (Fails before.failures after.failures 0) (IsWriteEnd before after))
+drain_stops (Ok now) was mid step before after served session none h = tt
+drain_stops (Err stop) was mid step before after served session none h =
+    stops stop (λ kept. (s : Setting) (output : SinkState) (g : Gateway) → Shows s mid output g → DrainsFull s kept output g) (λ kept. (s : Setting) (g : Gateway) → Shows s was before g → PlaysFull s kept after step g)
+    (Unit {0}) (Fails before.failures after.failures 0) (λ _. ⊥) (IsWriteEnd before after)
+    (λ kept full s g shows. let v = served s g shows in drains_plays_full s kept step after g v.heard shows.running session (full s after (serves s.setup step v.heard g) (served_shows s mid after step g v)))
+    (λ m. none) (λ fault no. absurd no) h
+
+pub plays_other : (was now : Player) (step : Step) (before after : SinkState) → ((s : Setting) (g : Gateway) → Shows s was before g → Serves s now after step g) → is_session step ≡ false
+    → (s : Setting) (g : Gateway) → Shows s was before g → Plays s now after step g
+plays_other was now step before after served other s g h =
+    let v = served s g h in
+    record {
+      heard = v.heard;
+      whole = λ _ session. let no : true ≡ false = sym session ∙ other in absurd (cc);
+      shows = subst (λ (x : Gateway). Shows s now after x) (sym (other_is s.setup step v.heard g h.running other)) (served_shows s now after step g v);
+    }
+
+-- ---- all steps
+
+limits_two : (setup : Setup) (limits : Limits) → limits ≡ limits_of 2 default_quota setup.capacity → limits.clients ≡ 2
+limits_two setup limits is = ap (λ (l : Limits). l.clients) is
+
+pub ready : (s : Setting) (player : Player) (output : SinkState) (g : Gateway) → Shows s player output g → IsReady player
+ready s player output g h =
+    let two : player.world.limits.clients ≡ 2 = limits_two s.setup player.world.limits h.holds.limits in
+    let quota_is : player.world.limits.quota ≡ 4294967295 = ap (λ (l : Limits). l.quota) h.holds.limits in
+    record {
+      unended = record { run = g.run; stands = h.holds.stands; unended = h.holds.unended; clients = two };
+      few = subst (λ n. n < 2 ^ 34) (sym h.queued) (queued_few player.world.limits g.run h.holds.stands.legal two (omega (arith, quota_is)));
+    }
+
+pub played_none : (setup : Setup) (player : Player) (output : SinkState) → IsNew setup player → PlayedTo (setting setup output) [] player output
+played_none setup player output h = record {
+  done = [];
+  steps_are = refl;
+  whole = tt;
+  shows = record {
+    holds = record { stands = h.stands; limits = h.limits; unended = λ c. refl };
+    applier = record {
+      table = ap (λ (v : ApplierView). v.table) h.applier;
+      opening = ap (λ (v : ApplierView). v.opening) h.applier;
+      limit = ap (λ (v : ApplierView). v.limit) h.applier;
+      records = ap (λ (v : ApplierView). v.records) h.applier;
+    };
+    moment = ap (λ (v : ApplierView). v.moment) h.applier;
+    clock = h.clock;
+    age = h.age;
+    queued = h.queued;
+    printed = writes_none output;
+    running = refl;
+  };
+}
+
+pub next_step : (steps : List Step) (i : ℕ) (item : Step) → i < length steps → item ≡ get_or steps i item → take (i + 1) steps ≡ take i steps ++ item ∷ []
+next_step steps i item inside is = take_more steps i item inside ∙ ap (λ x. take i steps ++ x ∷ []) (sym is)
+
+-- one step more: the newest comes first
+more_steps : (steps : List Step) (step : Step) (before : List Step) → before ≡ reverse steps → step ∷ before ≡ reverse (steps ++ step ∷ [])
+more_steps steps step before e = ap (λ l. step ∷ l) e ∙ sym (reverse-append steps (step ∷ []))
+
+pub played_more : (s : Setting) (steps next : List Step) (was now : Player) (before after : SinkState) (step : Step) → next ≡ steps ++ step ∷ [] → PlayedTo s steps was before
+    → ((t : Setting) (g : Gateway) → Shows t was before g → Plays t now after step g) → PlayedTo s next now after
+played_more s steps next was now before after step is h played =
+    let p = played s (gateway_after s.setup h.done) h.shows in
+    record {
+      done = (step, p.heard) ∷ h.done;
+      steps_are = more_steps steps step (steps_of h.done) h.steps_are ∙ ap reverse (sym is);
+      whole = (p.whole, h.whole);
+      shows = p.shows;
+    }
+
+-- nothing happens once the log is full
+abbrev idle : List Step → List (Step × Heard) → List (Step × Heard)
+idle [] done = done
+idle (step ∷ more) done = idle more ((step, nothing_heard []) ∷ done)
+
+idle_steps : (more : List Step) (done : List (Step × Heard)) → steps_of (idle more done) ≡ reverse more ++ steps_of done
+idle_steps [] done = refl
+idle_steps (step ∷ more) done =
+    idle_steps more ((step, nothing_heard []) ∷ done)
+    ∙ sym (append_assoc (reverse more) (step ∷ []) (steps_of done)) ∙ ap (λ l. l ++ steps_of done) (sym (reverse-append (step ∷ []) more))
+
+stays_full : (setup : Setup) (step : Step) (heard : Heard) (g : Gateway) → g.full ≡ true → plays setup step heard g ≡ g
+stays_full setup step heard g full = ap (λ b. cond b g (cond (is_session step) (drains heard.takes (serves setup step heard g)) (serves setup step heard g))) full
+
+idle_gateway : (setup : Setup) (more : List Step) (done : List (Step × Heard)) → (gateway_after setup done).full ≡ true → gateway_after setup (idle more done) ≡ gateway_after setup done
+idle_gateway setup [] done full = refl
+idle_gateway setup (step ∷ more) done full =
+    let same : gateway_after setup ((step, nothing_heard []) ∷ done) ≡ gateway_after setup done = stays_full setup step (nothing_heard []) (gateway_after setup done) full in
+    idle_gateway setup more ((step, nothing_heard []) ∷ done) (ap (λ (g : Gateway). g.full) same ∙ full) ∙ same
+
+idle_whole : (setup : Setup) (more : List Step) (done : List (Step × Heard)) → (gateway_after setup done).full ≡ true → IsWhole setup done → IsWhole setup (idle more done)
+idle_whole setup [] done full whole = whole
+idle_whole setup (step ∷ more) done full whole =
+    let same : gateway_after setup ((step, nothing_heard []) ∷ done) ≡ gateway_after setup done = stays_full setup step (nothing_heard []) (gateway_after setup done) full in
+    idle_whole setup more ((step, nothing_heard []) ∷ done) (ap (λ (g : Gateway). g.full) same ∙ full) ((λ running _. let no : true ≡ false = sym full ∙ running in absurd (cc)), whole)
+
+full_after : (s : Setting) (steps first rest : List Step) (step : Step) (was : Player) (kept : ApplierView) (before after : SinkState) → first ++ step ∷ [] ++ rest ≡ steps → PlayedTo s first was before
+    → ((t : Setting) (g : Gateway) → Shows t was before g → PlaysFull t kept after step g) → PlayedFull s steps kept after
+full_after s steps first rest step was kept before after parts h played =
+    let p = played s (gateway_after s.setup h.done) h.shows in
+    let done : List (Step × Heard) = (step, p.heard) ∷ h.done in
+    let all : steps_of done ≡ reverse (first ++ step ∷ []) = more_steps first step (steps_of h.done) h.steps_are in
+    record {
+      done = idle rest done;
+      steps_are = idle_steps rest done ∙ ap (λ l. reverse rest ++ l) all ∙ sym (reverse-append (first ++ step ∷ []) rest) ∙ ap reverse parts;
+      whole = idle_whole s.setup rest done p.ends.full (p.whole, h.whole);
+      ends = subst (λ (x : Gateway). Ends s kept after x) (sym (idle_gateway s.setup rest done p.ends.full)) p.ends;
+    }
+
+-- the replay stopped at a step, after steps of which none failed a call
+pub played_stops : (stop : Stopped) (player : Player) (base : SinkState) (steps : List Step) (i : ℕ) (step : Step) (was : Player) (before after : SinkState) → take (i + 1) steps ≡ take i steps ++ step ∷ []
+    → Fails base.failures before.failures 0 → ((setup : Setup) → IsNew setup player → PlayedTo (setting setup base) (take i steps) was before)
+    → StopsBy (λ kept. (s : Setting) (g : Gateway) → Shows s was before g → PlaysFull s kept after step g) (Fails before.failures after.failures 0) (IsWriteEnd before after) stop
+    → StopsBy (λ kept. (setup : Setup) → IsNew setup player → PlayedFull (setting setup base) steps kept after) (Fails base.failures after.failures 0) (IsWriteEnd base after) stop
+played_stops stop player base steps i step was before after is none so_far h =
+    stops stop (λ kept. (s : Setting) (g : Gateway) → Shows s was before g → PlaysFull s kept after step g) (λ kept. (setup : Setup) → IsNew setup player → PlayedFull (setting setup base) steps kept after)
+    (Fails before.failures after.failures 0) (Fails base.failures after.failures 0) (IsWriteEnd before after) (IsWriteEnd base after)
+    (λ kept full setup new. full_after (setting setup base) steps (take i steps) (drop (i + 1) steps) step was kept before after (ap (λ l. l ++ drop (i + 1) steps) (sym is) ∙ take-append-drop (i + 1) steps) (so_far setup new) full)
+    (λ m. fails_then base.failures before.failures after.failures 0 none m) (λ fault f. write_end_on base before after fault none f) h

@@ -1,0 +1,11 @@
+use Rattle.gate_replay.proofs.OneReplay.{items_are_taken, one_run, one_played}
+use Rattle.gate_replay.proofs.laws.replay_laws.Goals as goal
+
+pub returns-clause-items : goal.returns-clause-items
+returns-clause-items c = items_are_taken
+
+pub returns-clause-function : goal.returns-clause-function
+returns-clause-function c = one_run
+
+pub returns-clause-one : goal.returns-clause-one
+returns-clause-one c = one_played

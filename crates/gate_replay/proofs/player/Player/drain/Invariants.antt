@@ -1,0 +1,9 @@
+use Rattle.std.proofs.Common.{◌-◌, length}
+use Rattle.gate_replay.proofs.Drains.{DrainsOn}
+use Rattle.gate_replay.proofs.player.Player.drain.Given as goal
+
+abbrev pub invariant-loop-player : goal.invariant-loop-player
+invariant-loop-player l = DrainsOn l.fn.self l.player
+
+abbrev pub decreases-loop-player : goal.decreases-loop-player
+decreases-loop-player l = l.player.queued - length l.player.applier.records

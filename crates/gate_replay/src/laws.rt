@@ -1,0 +1,23 @@
+ghost use Rattle.std.specs.Prelude.{◌≡◌, List, map};
+ghost use Rattle.gate_model.specs.declared.record.Record.{Record};
+ghost use Rattle.gate_core.specs.Legal.{taken};
+ghost use Rattle.gate_replay.specs.declared.script.Step.{Step};
+ghost use Rattle.gate_replay.specs.declared.script.Setup.{Setup};
+ghost use Rattle.gate_replay.specs.declared.script.Script.{Script};
+ghost use Rattle.gate_replay.specs.Gateway.{Gateway, Heard, gateway_after, steps_of, IsWhole, IsPlayed};
+
+/// States what follows from the meaning of a script, for all scripts; it does nothing.
+pub fn replay_laws()
+    // The records' items are those that were taken, whatever was answered.
+    ensures items { (setup : Setup) (done : List (Step × Heard))
+        → map (λ (one : Record). one.item) (gateway_after setup done).records
+        ≡ taken (gateway_after setup done).run }
+    // Its steps and what the queue answered make one gateway, whatever the queue is.
+    ensures function { (setup : Setup) (done other : List (Step × Heard))
+        → steps_of done ≡ steps_of other → IsWhole setup done → IsWhole setup other
+        → (gateway_after setup done).run ≡ (gateway_after setup other).run
+        → gateway_after setup done ≡ gateway_after setup other }
+    // A script leads to one gateway at most.
+    ensures one { (script : Script) (one other : Gateway)
+        → IsPlayed script one → IsPlayed script other → one ≡ other }
+{}

@@ -1,0 +1,94 @@
+//! Sessions of one packet or of one line, over any client.
+
+ghost use Rattle.std.specs.Prelude.{◌≡◌, ◌∷◌, ◌++◌, [], IfOk, IfSome};
+ghost use Rattle.gate_grammar.specs.Parsing.{text_before};
+ghost use Rattle.gate_reader.specs.declared.report.Answer.{Answer};
+ghost use Rattle.gate_reader.specs.Report.{answer_line};
+ghost use Rattle.gate_reader.specs.Session.{client_view};
+ghost use Rattle.gate_reader.specs.Lines.{operator_view};
+ghost use Rattle.gate_replay.specs.Gateway.{body_of_line};
+ghost use Rattle.gate_replay.specs.inner.Sessions.{HasOnly, AnswersPacket, CarriesOut};
+
+use gate_core::{Operator, Submit};
+use gate_grammar::round_trip;
+use gate_model::Moment;
+use gate_packet::{Packet, encode, one_reading};
+use gate_reader::{Answer, FixedClock, Report, SessionLimits, Stop, serve_lines, serve_packets};
+use std::alloc::{AllocError, Global};
+
+/// More packets, lines and reads than a session of one packet or one line needs.
+const LIMITS: SessionLimits = SessionLimits {
+    items: 10_000,
+    reads: 1_000_000,
+};
+
+/// The one answer of a session that was not cut short.
+pub(crate) fn only_answer(report: &Report) -> Option<&Answer>
+    ensures { IfSome result (λ answer. HasOnly report.now answer.now) }
+{
+    match report.stop {
+        Stop::End | Stop::Shutdown => {}
+        _ => return None,
+    }
+    match report.answers.as_slice() {
+        [answer] => Some(answer),
+        _ => None,
+    }
+}
+
+/// Serves a packet at this moment, as one session of a client. Nobody reads the greeting.
+pub(crate) fn packet_session<S: Submit>(
+    alloc: Global,
+    packet: &Packet,
+    greatest_age: u32,
+    now: Moment,
+    client: &mut S,
+) -> Report
+    ensures answered { let view = client_view S.stands S.knows S.answers (S.named client.old) in
+        (answer : Answer) → HasOnly result answer
+        → AnswersPacket view greatest_age packet.now now client.old answer client.new }
+    ensures named { S.named client.new ≡ S.named client.old }
+    ensures keeps { S.keeps client.old client.new }
+{
+    one_reading();
+    let block = encode(packet);
+    let mut reader = block.as_slice();
+    let mut greeting = Vec::new(alloc);
+    let mut clock = FixedClock(now);
+    serve_packets(
+        alloc,
+        &mut reader,
+        &mut greeting,
+        &mut clock,
+        client,
+        LIMITS,
+        greatest_age,
+    )
+}
+
+/// Serves an operator's line at this moment, as one session, which writes its answer's line.
+pub(crate) fn line_session<O: Operator>(
+    alloc: Global,
+    text: &[u8],
+    now: Moment,
+    operator: &mut O,
+    written: &mut Vec<u8>,
+) -> Result<Report, AllocError>
+    ensures answered { let view = operator_view O.stands O.knows O.answers O.closes
+        (O.named operator.old) in
+        IfOk result (λ report. (answer : Answer) → HasOnly report answer
+        → CarriesOut view now operator.old
+        (body_of_line (text_before 10 (text.now ++ 10 ∷ []))) answer operator.new) }
+    ensures written { IfOk result (λ report. (answer : Answer) → HasOnly report answer
+        → written.new.items ≡ written.old.items ++ answer_line answer) }
+    ensures named { O.named operator.new ≡ O.named operator.old }
+    ensures keeps { O.keeps operator.old operator.new }
+{
+    round_trip();
+    let mut input = Vec::with_capacity(alloc, text.len() + 1)?;
+    input.extend_from_slice(text)?;
+    input.push(b'\n')?;
+    let mut reader = input.as_slice();
+    let mut clock = FixedClock(now);
+    Ok(serve_lines(alloc, &mut reader, written, &mut clock, operator, LIMITS))
+}
