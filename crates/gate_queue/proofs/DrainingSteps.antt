@@ -1,7 +1,7 @@
 -- What was queued for all clients taken in, and that nothing is left where as much was taken.
 use Rattle.std.specs.List.{list_any}
-use Rattle.std.proofs.Common.{Bool, true, false, true≢false, cond, eqb, ◌||◌, IsTrue, ◌≡◌, ℕ, zero, suc, ◌+◌, ◌<◌, ◌≤◌, List, [], ◌∷◌, ◌++◌, length, map, get_or, add-one, Option, Some, None, refl, sym, ap, ◌∙◌, subst, arith, append_assoc, length-append}
-use Rattle.std.specs.Prelude.{slice_get, is_some, option_map, IsSome, IfSome, IfNone, unwrap_or, max, All}
+use Rattle.std.proofs.Common.{Bool, true, false, true≢false, cond, eqb, ◌||◌, IsTrue, ◌≡◌, ℕ, zero, suc, ◌+◌, ◌<◌, ◌≤◌, List, [], ◌∷◌, ◌++◌, length, get_or, add-one, Option, Some, None, refl, sym, ap, ◌∙◌, subst, arith, append_assoc, length-append}
+use Rattle.std.specs.Prelude.{is_some, option_map, IsSome, IfSome, unwrap_or, max, All}
 use Rattle.std.proofs.lemmas.List.{append-nil, map-append}
 use Rattle.std.proofs.lemmas.List.Elements.{All-push}
 use Rattle.std.proofs.lemmas.Option.{slice_get-get_or}
@@ -9,7 +9,7 @@ use Rattle.gate_model.specs.declared.record.Moment.{Moment}
 use Rattle.gate_model.specs.declared.record.Record.{Record}
 use Rattle.gate_model.specs.declared.submission.Numbered.{Numbered}
 use Rattle.gate_model.specs.Record.{later}
-use Rattle.gate_core.specs.Merge.{IsClient, of_client, IsMerge}
+use Rattle.gate_core.specs.Merge.{of_client, IsMerge}
 use Rattle.gate_core.proofs.Counts.{length_by_client, total, total_same}
 use Rattle.gate_applier.specs.declared.applier.PrepareCause.{PrepareCause}
 use Rattle.gate_applier.specs.declared.applier.PrepareCause.TheVariants as prepare

@@ -1,4 +1,4 @@
-use Rattle.std.proofs.Common.{◌≡◌, ℕ, List, [], ◌∷◌, ◌++◌, sym, ap, ◌∙◌, subst}
+use Rattle.std.proofs.Common.{ℕ, List, [], ◌∷◌, ◌++◌, sym, ap, ◌∙◌, subst}
 use Rattle.gate_model.specs.declared.submission.Numbered.{Numbered}
 use Rattle.gate_model.specs.Record.{later}
 use Rattle.gate_core.specs.Merge.{IsMerge}
