@@ -1,5 +1,5 @@
--- Runs that a queue may show to one thread that does all its work: what a gate promises of each reply, whatever other threads do. Own rules.
--- A legal run is one of them. More is allowed where a gate can't exclude it: a push is answered Full and a take Empty unasked, a close of somebody else is found, and items of two clients come in any order.
+-- Runs that a queue may show to one thread that does all its work: what a gate's contracts give of each reply, whatever other threads do. Own rules.
+-- Each legal run is one of them. A gate allows more: Full although there is room, Empty although items wait, a close that isn't in the run, and items of two clients in any order.
 use Rattle.std.specs.Prelude.{◌≡◌, ℕ, ◌+◌, ◌-◌, ◌*◌, ◌<◌, ◌≤◌, ◌&&◌, Bool, true, false, [], ◌∷◌, length, Option, Some, None, IfSome}
 use mathlib.Core.List.{IsPrefix}
 use Rattle.gate_model.specs.declared.record.Moment.{Moment}
@@ -22,13 +22,13 @@ shown_close ((Close moment, Begun) ∷ run) = Some moment
 shown_close ((Close moment, AlreadyClosing first) ∷ run) = Some first
 shown_close (_ ∷ run) = shown_close run
 
--- a look, by whether its client is open and by the close that was shown: one that was shown is found again, and one that wasn't may be found
+-- a look, by whether its client is open and by the close that was shown: a close that was shown is found again, and one that wasn't may be found
 abbrev pub AllowsLook : Bool → Option Moment → Reply → Type 0
 AllowsLook active shown Open = (active ≡ true) × (shown ≡ None)
 AllowsLook active shown (Closing first) = (active ≡ true) × IfSome shown (λ known. known ≡ first)
 AllowsLook active shown reply = (active ≡ false) × (reply ≡ Ignored None)
 
--- a close, by the close that was shown: none is the first after it, and any other may have been before
+-- a close, by the close that was shown: after it none is the first, and without it another may have been
 abbrev pub AllowsClose : Option Moment → Reply → Type 0
 AllowsClose shown Begun = shown ≡ None
 AllowsClose shown (AlreadyClosing first) = IfSome shown (λ known. known ≡ first)

@@ -1,8 +1,11 @@
-ghost use Rattle.std.specs.Prelude.{◌≡◌, ◌≤◌, ℕ, length};
+ghost use Rattle.std.specs.Prelude.{◌≡◌, ◌≤◌, ◌++◌, ◌∷◌, ℕ, length};
+ghost use Rattle.gate_model.specs.declared.submission.Body.{Body};
+ghost use Rattle.gate_core.specs.declared.event.Event.TheVariants.{Push};
+ghost use Rattle.gate_core.specs.declared.event.Reply.TheVariants.{Queued};
 ghost use Rattle.gate_core.specs.Limits.{Limits};
 ghost use Rattle.gate_core.specs.Merge.{IsNumbered, IsMerge};
 ghost use Rattle.gate_core.specs.Legal.{Run, IsLegal, queued, taken, first_close};
-ghost use Rattle.gate_core.specs.Law.{IsDrained};
+ghost use Rattle.gate_core.specs.Law.{FollowsOpenLook, IsDrained};
 ghost use Rattle.gate_desk.specs.Allowed.{IsAllowed, shown_close};
 
 /// What holds of the runs that a desk shows. Own rules.
@@ -15,6 +18,11 @@ pub fn allowed_runs()
     // What a client was answered is queued is well numbered, and within the quota.
     ensures numbers { (limits : Limits) (run : Run) (client : ℕ) → IsAllowed limits run →
         IsNumbered client (queued client run) × (length (queued client run) ≤ limits.quota) }
+
+    // A client whose push is queued had looked before every close, and did nothing else since.
+    ensures looked { (limits : Limits) (later run : Run) (client number : ℕ) (body : Body) →
+        IsAllowed limits (later ++ (Push client body, Queued number) ∷ run) →
+        FollowsOpenLook client run }
 
     // Once all clients were taken in and the queue was found empty, nothing is left to take.
     ensures drained { (limits : Limits) (run : Run) → IsAllowed limits run →

@@ -1,5 +1,6 @@
 use Rattle.gate_desk.specs.inner.Allowing.{shown_is_first, legal_allowed}
 use Rattle.gate_desk.proofs.Numbers.{allowed_numbers}
+use Rattle.gate_desk.proofs.Looks.{queued_after_look}
 use Rattle.gate_desk.specs.inner.Drained.{drained_allowed}
 use Rattle.gate_desk.proofs.allowed.allowed_runs.Goals as goal
 
@@ -14,3 +15,6 @@ returns-clause-numbers c = allowed_numbers
 
 pub returns-clause-drained : goal.returns-clause-drained
 returns-clause-drained c = drained_allowed
+
+pub returns-clause-looked : goal.returns-clause-looked
+returns-clause-looked c = queued_after_look
