@@ -14,6 +14,6 @@ returns c =
     record {
       asked = tt;
       refused = λ _. refused_words (map string_bytes c.args.words.now) (kind_of c.in-Err.error) OutOfMemory
-      (λ same. c.in_default-kind.not-OutOfMemory (c.kind.ensures ∙ same))
-      (subst Has c.in-Ok.ensures (c.in-Err.ensures.kinds simple));
+          (λ same. c.in_default-kind.not-OutOfMemory (c.kind.ensures ∙ same))
+          (subst Has c.in-Ok.ensures (c.in-Err.ensures.kinds simple));
     }
