@@ -50,11 +50,19 @@ pub trait Desk: Operator {
         ensures limits { Self.Ended.limits result ≡ limits self };
 
     // A submission, a look or a close adds its events and replies to the run.
-    ghost after_submit: { (old : Self) (new : Self) (body : Body) (result : Result ℕ Refused) (run : Run) → Self.answers old body result new → after old run → after new (submitted (Self.named old) body result ++ run) };
+    ghost after_submit: { (old : Self) (new : Self) (body : Body)
+        (result : Result ℕ Refused) (run : Run) →
+        Self.answers old body result new → after old run →
+        after new (submitted (Self.named old) body result ++ run) };
 
-    ghost after_look: { (old : Self) (new : Self) (result : Option Moment) (run : Run) → Self.looks old result new → IfSome (Self.knows old) (λ first. result ≡ Some first) → after old run → after new ((Look (Self.named old), look_reply result) ∷ run) };
+    ghost after_look: { (old : Self) (new : Self) (result : Option Moment) (run : Run) →
+        Self.looks old result new → IfSome (Self.knows old) (λ first. result ≡ Some first) →
+        after old run → after new ((Look (Self.named old), look_reply result) ∷ run) };
 
-    ghost after_close: { (old : Self) (new : Self) (moment : Moment) (result : Result Moment CloseFault) (run : Run) → Self.closes old moment result new → after old run → after new (closed_by moment result ++ run) };
+    ghost after_close: { (old : Self) (new : Self) (moment : Moment)
+        (result : Result Moment CloseFault) (run : Run) →
+        Self.closes old moment result new → after old run →
+        after new (closed_by moment result ++ run) };
 
     ghost same_limits: { (old : Self) (new : Self) → Self.keeps old new → limits new ≡ limits old };
 

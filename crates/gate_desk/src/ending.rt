@@ -34,7 +34,8 @@ pub trait EndedDesk {
     ghost allowed: { (desk : Self) (run : Run) → after desk run → IsAllowed (limits desk) run };
 
     // Once a take was answered Empty, what was taken is a merge of what was queued for the clients.
-    ghost drained: { (desk : Self) (run : Run) → after desk ((Take, Empty) ∷ run) → IsMerge ((limits desk).clients) (λ client. queued client run) (taken run) };
+    ghost drained: { (desk : Self) (run : Run) → after desk ((Take, Empty) ∷ run) →
+        IsMerge ((limits desk).clients) (λ client. queued client run) (taken run) };
 }
 
 impl EndedDesk for World {

@@ -126,7 +126,8 @@ impl<'a, R: Wait> Submit for GateDesk<'a, R> {
 
     ghost keeps_itself = { λ x. record { gate = refl; number = refl } };
 
-    ghost keeps_on = { λ x y z p q. record { gate = q.gate ∙ p.gate; number = q.number ∙ p.number } };
+    ghost keeps_on = { λ x y z p q.
+        record { gate = q.gate ∙ p.gate; number = q.number ∙ p.number } };
 }
 
 impl<'a, R: Wait> Operator for GateDesk<'a, R> {

@@ -6,6 +6,8 @@ mod applier;
 #[cfg(test)]
 mod comments;
 #[cfg(test)]
+mod desk;
+#[cfg(test)]
 mod downtime;
 #[cfg(test)]
 mod grammar;
