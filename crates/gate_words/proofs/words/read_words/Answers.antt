@@ -2,7 +2,6 @@ use Rattle.std.proofs.Common.{◌≡◌, ◌⊎◌, true, map, string_bytes, ap,
 use Rattle.clap.specs.Words.{App, IsAmong, app_of, fault_of, is_simple_and_free}
 use Rattle.clap.specs.Values.{kind_of}
 use Rattle.clap.specs.declared.error.kind.ErrorKind.TheVariants.{OutOfMemory}
-use Rattle.gate_words.specs.Words.{program}
 use Rattle.gate_words.proofs.WordSteps.{refused_words}
 use Rattle.gate_words.proofs.words.read_words.Goals as goal
 
@@ -14,6 +13,6 @@ returns c =
     record {
       asked = tt;
       refused = λ _. refused_words (map string_bytes c.args.words.now) (kind_of c.in-Err.error) OutOfMemory
-      (λ same. c.in_default-kind.not-OutOfMemory (c.kind.ensures ∙ same))
-      (subst Has c.in-Ok.ensures (c.in-Err.ensures.kinds simple));
+          (λ same. c.in_default-kind.not-OutOfMemory (c.kind.ensures ∙ same))
+          (subst Has c.in-Ok.ensures (c.in-Err.ensures.kinds simple));
     }
