@@ -1,1 +1,2 @@
 pub mod WordSteps
+mod Examples

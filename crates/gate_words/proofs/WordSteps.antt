@@ -1,8 +1,8 @@
 -- What a subcommand asks for, and what faulty words do not.
-use Rattle.std.proofs.Common.{◌≡◌, ◌≢◌, ◌⊎◌, ℕ, false, List, [], ◌∷◌, Option, Some, None, option_map, unwrap_or, codes, refl, ap, ◌∙◌, sym, inl, inr, is_some}
+use Rattle.std.proofs.Common.{◌≡◌, ◌⊎◌, ℕ, false, List, [], ◌∷◌, Option, Some, None, option_map, unwrap_or, codes, refl, ap, ◌∙◌, sym, inl, inr, is_some}
 use Rattle.std.proofs.lemmas.Bool.{false≢true}
 use Rattle.std.specs.Str.{bytes_eq}
-use Rattle.clap.specs.Words.{App, Row, Text, Kinds, IsAmong, fault_of, first_of, subcommand_of}
+use Rattle.clap.specs.Words.{Row, Text, Kinds, IsAmong, fault_of, first_of, subcommand_of}
 use Rattle.clap.specs.declared.error.kind.ErrorKind.{ErrorKind}
 use Rattle.gate_words.specs.Words.{Asked, serve, asked_with, asked_of, program, unless_faulty}
 

@@ -2,7 +2,6 @@ use Rattle.std.proofs.Common.{◌≡◌, ◌⊎◌, true, map, string_bytes, ap,
 use Rattle.clap.specs.Words.{App, IsAmong, app_of, fault_of, is_simple_and_free}
 use Rattle.clap.specs.Values.{kind_of}
 use Rattle.clap.specs.declared.error.kind.ErrorKind.TheVariants.{OutOfMemory}
-use Rattle.gate_words.specs.Words.{program}
 use Rattle.gate_words.proofs.WordSteps.{refused_words}
 use Rattle.gate_words.proofs.words.read_words.Goals as goal
 
