@@ -1,6 +1,6 @@
 -- What one more event changes in the books.
-use Rattle.std.proofs.Common.{◌≡◌, ℕ, ◌+◌, ◌≤◌, ◌<◌, Bool, true, false, cond, not, ◌&&◌, ◌||◌, ◌⊎◌, ◌≢◌, List, [], ◌∷◌, ◌++◌, length, map, max, set, Option, Some, None, refl, sym, ap, ◌∙◌, arith, inl, inr, eqb}
-use Rattle.std.specs.Prelude.{filter, slice_get, count_by, sum_by}
+use Rattle.std.proofs.Common.{◌≡◌, ℕ, ◌+◌, ◌≤◌, ◌<◌, Bool, true, false, cond, not, ◌&&◌, ◌||◌, ◌⊎◌, List, [], ◌∷◌, ◌++◌, length, map, max, set, Option, Some, None, refl, sym, ap, ◌∙◌, arith, inl, inr, eqb}
+use Rattle.std.specs.Prelude.{filter, slice_get, count_by, sum_by, is_some}
 use Rattle.std.specs.List.{list_all}
 use Rattle.std.proofs.lemmas.Bool.Decides.{eqb_tells}
 use Rattle.std.proofs.lemmas.Bool.{cases_lt, eqb-true, eq-eqb}
@@ -18,9 +18,9 @@ use Rattle.gate_model.specs.declared.comments.Source.{Source}
 use Rattle.gate_model.specs.declared.comments.Source.TheVariants.{User, Ack, Downtime}
 use Rattle.gate_model.specs.declared.comments.Comment.{Comment}
 use Rattle.gate_model.specs.declared.comments.CommentEvent.{CommentEvent}
-use Rattle.gate_model.specs.declared.comments.CommentEvent.TheVariants.{Add, Gone}
+use Rattle.gate_model.specs.declared.comments.CommentEvent.TheVariants.{Add}
 use Rattle.gate_model.specs.Record.{later}
-use Rattle.gate_model.specs.Comments.{comments_of, number_made, removes, comment_made, is_of_entry, is_addition}
+use Rattle.gate_model.specs.Comments.{comments_of, number_made, removes, comment_made, is_addition}
 use Rattle.gate_model.specs.Downtime.{is_live_in, entries_of}
 use Rattle.gate_model.specs.Meaning.{outlives}
 use Rattle.gate_model.proofs.CommentSteps.{comments_of-add}
@@ -30,13 +30,13 @@ use Rattle.gate_objects.specs.declared.row.ObjectRow.{ObjectRow}
 use Rattle.gate_objects.specs.Book.{ObjectsView, shown_threshold, threshold_of_row, with_row, with_row_at}
 use Rattle.gate_objects.proofs.RowSteps.{written_here, written_elsewhere}
 use Rattle.gate_objects.specs.Standing.{IsStanding as ObjectsStand}
-use Rattle.gate_downtime.specs.Book.{DowntimeView, fresh, after_transition, was_returned, next_gone_of}
+use Rattle.gate_downtime.specs.Book.{DowntimeView, fresh, after_transition, was_returned, next_gone_of, ReturnsToo}
 use Rattle.gate_downtime.specs.Standing.{IsStanding as DowntimeStands}
-use Rattle.gate_comments.specs.Book.{CommentsView, comment_by}
+use Rattle.gate_comments.specs.Book.{CommentsView, comment_by, with_live}
 use Rattle.gate_comments.specs.Book.{without as without_comments}
 use Rattle.gate_applier.specs.declared.books.Books.{Books}
 use Rattle.gate_model.specs.declared.object.ObjectLine.{ObjectLine}
-use Rattle.gate_applier.specs.inner.Books.{SharesRoom, SameTable, KeepsRoom, GoesOn, IsOfTable, Events, BooksFollow, BooksStand, IsGone, IsStandingSource, is_scheduled, is_of_scheduled, is_unreturned, has_scheduled, stands_unreturned}
+use Rattle.gate_applier.specs.inner.Books.{SharesRoom, SameTable, KeepsRoom, ReturnsGone, IsOfTable, Events, BooksFollow, BooksStand, IsGone, IsStandingSource, is_scheduled, is_of_scheduled, is_unreturned, has_scheduled, stands_unreturned}
 use Rattle.gate_applier.proofs.ListSteps.{filter-filter, filter-both, filter-agree, filter-all, all-weaker, all-append}
 use Rattle.gate_applier.proofs.GoneSteps.{dead-later, scheduled-map, unreturned-live, returned-next}
 
@@ -138,71 +138,6 @@ follow-remove events event moment old new left made removed next follow = record
   scheduled = rw removed (filter-all (has_scheduled old.downtime) (λ (comment : Comment). not (removes event comment)) old.comments.comments follow.scheduled);
   returned_gone = follow.returned_gone;
 }
-
--- ---- an entry is returned as gone
-
-not-or : (a b : Bool) → not (a || b) ≡ (not a && not b)
-not-or true b = refl
-not-or false b = refl
-
-and-true : (b : Bool) → b ≡ (b && true)
-and-true true = refl
-and-true false = refl
-
-eqb-sym-at : (a b : ℕ) (left right : Bool) → ((left ≡ true) × (a ≡ b)) ⊎ ((left ≡ false) × (a ≢ b)) → ((right ≡ true) × (b ≡ a)) ⊎ ((right ≡ false) × (b ≢ a)) → left ≡ right
-eqb-sym-at a b left right (inl here) (inl there) = here.0 ∙ sym there.0
-eqb-sym-at a b left right (inl here) (inr there) = absurd (there.1 (sym here.1))
-eqb-sym-at a b left right (inr here) (inl there) = absurd (here.1 (sym there.1))
-eqb-sym-at a b left right (inr here) (inr there) = here.0 ∙ sym there.0
-
-eqb-sym : (a b : ℕ) → eqb a b ≡ eqb b a
-eqb-sym a b = eqb-sym-at a b (eqb a b) (eqb b a) (eqb_tells a b) (eqb_tells b a)
-
-unreturned-more : (old new : List ℕ) (gone : ℕ) → ((id : ℕ) → was_returned new id ≡ (was_returned old id || eqb gone id))
-    → (source : Source) → outlives (λ id. not (was_returned new id)) source ≡ (outlives (λ id. not (was_returned old id)) source && not (is_of_entry gone source))
-unreturned-more old new gone returns User = refl
-unreturned-more old new gone returns Ack = refl
-unreturned-more old new gone returns (Downtime id) = ap not (returns id) ∙ not-or (was_returned old id) (eqb gone id) ∙ ap (λ b. not (was_returned old id) && not b) (eqb-sym gone id)
-
--- an entry is returned as gone, and its comment is dropped
-pub follow-gone : (events : Events) (moment : Moment) (gone : ℕ) (old : Books) (returned : List ℕ) (new : CommentsView)
-    → next_gone_of old.downtime.entries old.downtime.moment old.downtime.returned ≡ Some gone
-    → ((id : ℕ) → was_returned returned id ≡ (was_returned old.downtime.returned id || eqb gone id))
-    → new.comments ≡ without_comments (Gone gone) old.comments.comments
-    → new.next_id ≡ old.comments.next_id
-    → BooksFollow events moment old
-    → BooksFollow events moment (record { objects = old.objects; downtime = record old.downtime { returned = returned }; comments = new })
-follow-gone events moment gone old returned new is returns dropped next follow = record {
-  objects_stand = follow.objects_stand;
-  downtime_stands = record {
-    entries_are = follow.downtime_stands.entries_are;
-    moment_is = follow.downtime_stands.moment_is;
-    first_id_is = follow.downtime_stands.first_id_is;
-  };
-  comments_are =
-      dropped
-      ∙ ap (filter (λ (comment : Comment). not (removes (Gone gone) comment))) follow.comments_are
-      ∙ filter-both (stands_unreturned old.downtime) (λ (comment : Comment). not (removes (Gone gone) comment)) (λ (comment : Comment). outlives (λ id. not (was_returned returned id)) comment.source)
-      (λ (comment : Comment). unreturned-more old.downtime.returned returned gone returns comment.source) (comments_of 1 events.comments);
-  next_comment_is = next ∙ follow.next_comment_is;
-  scheduled = rw dropped (filter-all (has_scheduled old.downtime) (λ (comment : Comment). not (removes (Gone gone) comment)) old.comments.comments follow.scheduled);
-  returned_gone = λ id e.
-      let known = returned-next old.downtime.entries old.downtime.moment old.downtime.returned gone is in
-      elim (either (was_returned old.downtime.returned id) (eqb gone id) (sym (returns id) ∙ e)) [
-        | inl before ↦ let was = follow.returned_gone id before in record { scheduled = was.scheduled; dead = was.dead }
-        | inr now ↦ elim (eqb_tells gone id) [
-          | inl same ↦ record { scheduled = ap (is_scheduled old.downtime.entries) (sym same.1) ∙ known.0; dead = ap (is_live_in old.downtime.entries old.downtime.moment.0) (sym same.1) ∙ known.1 }
-          | inr apart ↦ absurd (differ (sym now ∙ apart.0))
-        ]
-      ];
-}
-  where
-    either : (a b : Bool) → (a || b) ≡ true → (a ≡ true) ⊎ (b ≡ true)
-    either true b e = inl refl
-    either false b e = inr e
-
-    differ : ◌≡◌ {A = Bool} true false → ⊥
-    differ e = cc
 
 -- ---- settled books
 
@@ -409,26 +344,87 @@ fewer-one old new gone returns fresh (entry ∷ older) scheduled =
     either false b e = inr e
 
 -- each entry that is returned leaves fewer to return
-pub fewer-unreturned : (entries : List Entry) (moment : Moment) (old new : List ℕ) (gone : ℕ) → next_gone_of entries moment old ≡ Some gone
+fewer-unreturned : (entries : List Entry) (moment : Moment) (old new : List ℕ) (gone : ℕ) → next_gone_of entries moment old ≡ Some gone
     → ((id : ℕ) → was_returned new id ≡ (was_returned old id || eqb gone id))
     → count_by (λ (entry : Entry). not (was_returned new entry.scheduled.id)) entries < count_by (λ (entry : Entry). not (was_returned old entry.scheduled.id)) entries
 fewer-unreturned entries moment old new gone is returns =
     let known = returned-next entries moment old gone is in
     fewer-one old new gone returns known.2 entries known.0
 
--- one more entry is returned, and its comment dropped
-pub goes-gone : (gone : ℕ) (first old : Books) (downtime : DowntimeView) (comments : CommentsView) → GoesOn first old
-    → next_gone_of old.downtime.entries old.downtime.moment old.downtime.returned ≡ Some gone
-    → ((id : ℕ) → was_returned downtime.returned id ≡ (was_returned old.downtime.returned id || eqb gone id))
-    → downtime ≡ record old.downtime { returned = downtime.returned }
-    → comments.comments ≡ without_comments (Gone gone) old.comments.comments
-    → comments.next_id ≡ old.comments.next_id
-    → old.comments.room ≤ comments.room
-    → GoesOn first (record { objects = old.objects; downtime = downtime; comments = comments })
-goes-gone gone first old downtime comments goes is returns same dropped next room = record {
-  objects = goes.objects;
-  downtime = same ∙ ap (λ (view : DowntimeView). let changed : DowntimeView = record view { returned = downtime.returned } in changed) goes.downtime;
-  comment_room = omega (arith, goes.comment_room, room);
-  next_comment = next ∙ goes.next_comment;
-  follow = λ events moment follow. rw same (follow-gone events moment gone old downtime.returned comments is returns dropped next (goes.follow events moment follow));
+-- one more entry is returned
+returns-one : (gone : ℕ) (first old new : DowntimeView) → ReturnsGone first old
+    → next_gone_of old.entries old.moment old.returned ≡ Some gone
+    → ((id : ℕ) → was_returned new.returned id ≡ (was_returned old.returned id || eqb gone id))
+    → new ≡ record old { returned = new.returned }
+    → ReturnsGone first new
+returns-one gone first old new returned is returns same = record {
+  same = same ∙ ap (λ (view : DowntimeView). let changed : DowntimeView = record view { returned = new.returned } in changed) returned.same;
+  kept = λ id e. returns id ∙ ap (λ b. b || eqb gone id) (returned.kept id e);
+  gone = λ before id e.
+      rw same
+      (let known = returned-next old.entries old.moment old.returned gone is in
+      elim (either (was_returned old.returned id) (eqb gone id) (sym (returns id) ∙ e)) [
+        | inl earlier ↦ let was = returned.gone before id earlier in record { scheduled = was.scheduled; dead = was.dead }
+        | inr now ↦
+            let here : gone ≡ id = eqb-true gone id now in
+            record { scheduled = ap (is_scheduled old.entries) (sym here) ∙ known.0; dead = ap (is_live_in old.entries old.moment.0) (sym here) ∙ known.1 }
+      ]);
 }
+  where
+    either : (a b : Bool) → (a || b) ≡ true → (a ≡ true) ⊎ (b ≡ true)
+    either true b e = inl refl
+    either false b e = inr e
+
+pub returns-next : (answer : Option ℕ) (first old new : DowntimeView) → is_some answer ≡ true → ReturnsGone first old
+    → next_gone_of old.entries old.moment old.returned ≡ answer → ReturnsToo answer old new → new ≡ record old { returned = new.returned }
+    → ReturnsGone first new
+returns-next None first old new some returned is returns same = cc
+returns-next (Some gone) first old new some returned is returns same = returns-one gone first old new returned is returns same
+
+pub fewer-next : (answer : Option ℕ) (old new : DowntimeView) → is_some answer ≡ true
+    → next_gone_of old.entries old.moment old.returned ≡ answer → ReturnsToo answer old new
+    → count_by (λ (entry : Entry). not (was_returned new.returned entry.scheduled.id)) old.entries
+    < count_by (λ (entry : Entry). not (was_returned old.returned entry.scheduled.id)) old.entries
+fewer-next None old new some is returns = cc
+fewer-next (Some gone) old new some is returns = fewer-unreturned old.entries old.moment old.returned new.returned gone is returns
+
+-- ---- all that are gone were returned, and their comments dropped
+
+returned-both : (before after : Bool) → (before ≡ true → after ≡ true) → not after ≡ (not before && not after)
+returned-both true after kept = ap not (kept refl)
+returned-both false after kept = refl
+
+unreturned-both : (before after : List ℕ) → ((id : ℕ) → was_returned before id ≡ true → was_returned after id ≡ true)
+    → (source : Source) → outlives (λ id. not (was_returned after id)) source ≡ (outlives (λ id. not (was_returned before id)) source && outlives (λ id. not (was_returned after id)) source)
+unreturned-both before after kept User = refl
+unreturned-both before after kept Ack = refl
+unreturned-both before after kept (Downtime id) = returned-both (was_returned before id) (was_returned after id) (kept id)
+
+pub follow-settled : (events : Events) (moment : Moment) (old : Books) (downtime : DowntimeView) (new : CommentsView) → ReturnsGone old.downtime downtime
+    → next_gone_of downtime.entries downtime.moment downtime.returned ≡ None
+    → new.comments ≡ with_live (is_live_in downtime.entries downtime.moment.0) old.comments.comments
+    → new.next_id ≡ old.comments.next_id
+    → BooksFollow events moment old
+    → BooksFollow events moment (record { objects = old.objects; downtime = downtime; comments = new })
+follow-settled events moment old downtime new returned settled dropped next follow =
+    let scheduled : list_all (has_scheduled downtime) old.comments.comments ≡ true = rw returned.same follow.scheduled in
+    record {
+      objects_stand = follow.objects_stand;
+      downtime_stands = rw returned.same (record {
+        entries_are = follow.downtime_stands.entries_are;
+        moment_is = follow.downtime_stands.moment_is;
+        first_id_is = follow.downtime_stands.first_id_is;
+      });
+      comments_are =
+          dropped
+          ∙ sym (filter-agree (stands_unreturned downtime) (λ (comment : Comment). outlives (is_live_in downtime.entries downtime.moment.0) comment.source) (has_scheduled downtime) old.comments.comments
+          (filter-all (has_scheduled downtime) (stands_unreturned downtime) old.comments.comments scheduled)
+          (λ (comment : Comment) scheduled unreturned. source-live downtime settled comment.source scheduled unreturned)
+          (λ (comment : Comment) gone. source-dead downtime (returned.gone follow.returned_gone) comment.source gone))
+          ∙ ap (filter (stands_unreturned downtime)) follow.comments_are
+          ∙ filter-both (stands_unreturned old.downtime) (stands_unreturned downtime) (stands_unreturned downtime)
+          (λ (comment : Comment). unreturned-both old.downtime.returned downtime.returned returned.kept comment.source) (comments_of 1 events.comments);
+      next_comment_is = next ∙ follow.next_comment_is;
+      scheduled = rw dropped (filter-all (has_scheduled downtime) (λ (comment : Comment). outlives (is_live_in downtime.entries downtime.moment.0) comment.source) old.comments.comments scheduled);
+      returned_gone = returned.gone follow.returned_gone;
+    }

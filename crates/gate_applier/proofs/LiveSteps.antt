@@ -5,7 +5,7 @@ use Rattle.gate_model.specs.declared.record.Moment.{Moment}
 use Rattle.gate_model.specs.declared.downtime.Scheduled.{Scheduled}
 use Rattle.gate_model.specs.declared.downtime.Entry.{Entry}
 use Rattle.gate_model.specs.declared.downtime.DowntimeEvent.{DowntimeEvent}
-use Rattle.gate_model.specs.Downtime.{entries_of, begin_in, begin_of, is_live, is_live_in}
+use Rattle.gate_model.specs.Downtime.{entries_of, begin_in, is_live_in}
 use Rattle.gate_model.specs.declared.object.ObjectLine.{ObjectLine}
 use Rattle.gate_model.specs.declared.record.Record.{Record}
 use Rattle.gate_model.specs.Meaning.{LiveEntry, history_of, downtime_events, downtimes_at}

@@ -1,8 +1,8 @@
-ghost use Rattle.std.specs.Prelude.{◌≡◌, ◌<◌, ◌≤◌, ℕ, Bool, false, [], length, IsOk, IfOk, OnOk, OnErr};
+ghost use Rattle.std.specs.Prelude.{◌≡◌, ◌<◌, ◌≤◌, ℕ, Bool, false, None, [], length, IsOk, IfOk, OnOk, OnErr};
 ghost use Rattle.gate_model.specs.declared.record.Moment.{Moment};
 ghost use Rattle.gate_model.specs.Record.{later};
-ghost use Rattle.gate_downtime.specs.Book.{next_id};
-ghost use Rattle.gate_applier.specs.inner.Books.{Events, events_of, BooksFollow, BooksStand, Follows, TakesOne, SameTable, KeepsRoom, HasRoom, room_of_books, SharesRoom, IsOfTable, result_added, comment_added, transition_added, clearing_added, IsStandingSource};
+ghost use Rattle.gate_downtime.specs.Book.{next_id, next_gone_now};
+ghost use Rattle.gate_applier.specs.inner.Books.{Events, events_of, BooksFollow, BooksStand, ReturnsGone, Follows, TakesOne, SameTable, KeepsRoom, HasRoom, room_of_books, SharesRoom, IsOfTable, result_added, comment_added, transition_added, clearing_added, IsStandingSource};
 
 use gate_comments::CommentBook;
 use gate_downtime::DowntimeBook;
@@ -67,8 +67,9 @@ impl Books {
         ensures table { SameTable self.old self.new }
         ensures room { KeepsRoom self.old self.new }
     {
-        'gone: while let Some(id) = self.downtime.next_gone() {
-            self.comments.drop_downtime(id);
+        if drain_gone(&mut self.downtime) {
+            let downtime = &self.downtime;
+            self.comments.drop_downtimes(|id| downtime.is_live(id));
         }
     }
 
@@ -131,4 +132,17 @@ impl Books {
             Err(_) => unreachable!(),
         }
     }
+}
+
+/// Has all downtime entries that are gone returned, and answers whether there was one.
+fn drain_gone(downtime: &mut DowntimeBook) -> bool
+    ensures returned { ReturnsGone downtime.old downtime.new }
+    ensures settled { next_gone_now downtime.new ≡ None }
+    ensures none { result ≡ false → downtime.new ≡ downtime.old }
+{
+    let mut any = false;
+    'gone: while downtime.next_gone().is_some() {
+        any = true;
+    }
+    any
 }

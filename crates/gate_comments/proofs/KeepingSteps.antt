@@ -7,7 +7,8 @@ use Rattle.gate_model.specs.declared.comments.Comment.{Comment}
 use Rattle.gate_model.specs.declared.comments.CommentEvent.{CommentEvent}
 use Rattle.gate_model.specs.declared.comments.CommentEvent.TheVariants.{Delete}
 use Rattle.gate_model.specs.Comments.{removes}
-use Rattle.gate_comments.specs.Book.{without}
+use Rattle.gate_model.specs.Meaning.{outlives}
+use Rattle.gate_comments.specs.Book.{without, with_live}
 use Rattle.gate_comments.specs.Search.{IsAscending}
 use Rattle.gate_comments.specs.inner.Counts.{IsCounted}
 use Rattle.gate_comments.specs.inner.Keeping.{AreBetween, IsKept}
@@ -126,20 +127,30 @@ kept-add comments new places counts downtimes down next_id capacity room comment
   sized = λ some. sized;
 }
 
-pub kept-without : (event : CommentEvent) (comments new : List Comment) (places counts : List ℕ) (downtimes down next_id capacity : ℕ)
-    → IsKept comments places downtimes next_id capacity → new ≡ without event comments → length counts ≡ length places
-    → IsCounted counts down (without event comments) → IsKept new counts down next_id capacity
-kept-without event comments new places counts downtimes down next_id capacity kept is same counted = record {
+kept-filter : (p : Comment → Bool) (comments new : List Comment) (places counts : List ℕ) (downtimes down next_id capacity : ℕ)
+    → IsKept comments places downtimes next_id capacity → new ≡ filter p comments → length counts ≡ length places
+    → IsCounted counts down (filter p comments) → IsKept new counts down next_id capacity
+kept-filter p comments new places counts downtimes down next_id capacity kept is same counted = record {
   ids =
       let P : List Comment → Type 0 = λ all. AreBetween 1 next_id all in
-      subst P (sym is) (between-filter (λ (one : Comment). not (removes event one)) 1 next_id comments kept.ids);
+      subst P (sym is) (between-filter p 1 next_id comments kept.ids);
   last = kept.last;
   counted = let P : List Comment → Type 0 = λ all. IsCounted counts down all in subst P (sym is) counted;
   sized = λ some.
-      let fewer : length (without event comments) ≤ length comments = length-without (λ (one : Comment). not (removes event one)) comments in
+      let fewer : length (filter p comments) ≤ length comments = length-without p comments in
       let large : 16384 ≤ length places = kept.sized (omega (arith, some, fewer, ap length is)) in
       omega (arith, large, same);
 }
+
+pub kept-without : (event : CommentEvent) (comments new : List Comment) (places counts : List ℕ) (downtimes down next_id capacity : ℕ)
+    → IsKept comments places downtimes next_id capacity → new ≡ without event comments → length counts ≡ length places
+    → IsCounted counts down (without event comments) → IsKept new counts down next_id capacity
+kept-without event = kept-filter (λ (one : Comment). not (removes event one))
+
+pub kept-live : (live : ℕ → Bool) (comments new : List Comment) (places counts : List ℕ) (downtimes down next_id capacity : ℕ)
+    → IsKept comments places downtimes next_id capacity → new ≡ with_live live comments → length counts ≡ length places
+    → IsCounted counts down (with_live live comments) → IsKept new counts down next_id capacity
+kept-live live = kept-filter (λ (one : Comment). outlives live one.source)
 
 split_at : (comments : List Comment) (index : ℕ) (comment : Comment) → index < length comments → comment ≡ get_or comments index comment
     → comments ≡ take index comments ++ comment ∷ drop (index + 1) comments

@@ -1,13 +1,13 @@
-ghost use Rattle.std.specs.Prelude.{◌≡◌, ◌≢◌, ◌<◌, ◌≤◌, ◌+◌, ◌↔◌, [], ◌∷◌, ◌++◌, length, IfOk, OnOk, OnErr, IsErr, vec_len, vec_capacity};
+ghost use Rattle.std.specs.Prelude.{ℕ, Bool, List, ◌≡◌, ◌≢◌, ◌<◌, ◌≤◌, ◌+◌, ◌↔◌, [], ◌∷◌, ◌++◌, length, IfOk, OnOk, OnErr, IsErr, vec_len, vec_capacity};
 ghost use Rattle.gate_model.specs.declared.comments.CommentEvent.TheVariants.{Add, Delete, DeleteAll, Clear, Gone};
 ghost use Rattle.gate_model.specs.Comments.{number_made};
 ghost use Rattle.gate_model.specs.Meaning.{is_same_kind};
 ghost use Rattle.gate_comments.specs.Search.{index_of_id, IsWithinBinaryDigits, IsAscending};
 ghost use Rattle.gate_comments.specs.Faults.{deletion_by_id};
-ghost use Rattle.gate_comments.specs.Book.{without, comment_by};
-ghost use Rattle.gate_comments.specs.Standing.{IsStanding, AddsEvent, HoldsAfter};
+ghost use Rattle.gate_comments.specs.Book.{without, with_live, Tells, comment_by};
+ghost use Rattle.gate_comments.specs.Standing.{IsStanding, AddsEvent, AreEnded, AddsEnds, HoldsAfter};
 
-use crate::counts::{Counts, removes};
+use crate::counts::{Counts, outlives, removes};
 use crate::faults::{DeleteFault, IdsSpent};
 use crate::search;
 use gate_model::{Comment, CommentEvent, Kind, ObjectId, Source, Steps};
@@ -183,6 +183,24 @@ impl CommentBook {
         self.remove(CommentEvent::Gone { id });
     }
 
+    /// Deletes the comments of all downtime entries that aren't live, in one pass. Where no entry
+    /// has a comment, nothing is searched. Own rule.
+    pub fn drop_downtimes<L: Fn(u32) -> bool>(&mut self, is_live: L)
+        requires callable { L.IsAlwaysCallable is_live }
+        requires told { (live : ℕ → Bool) × Tells (L.post is_live) live }
+        ensures stands { (live : ℕ → Bool) → Tells (L.post is_live) live → (ids : List ℕ)
+            → AreEnded live self.old.comments ids → AddsEnds ids self.old self.new }
+        ensures comments { (live : ℕ → Bool) → Tells (L.post is_live) live
+            → self.new.comments ≡ with_live live self.old.comments }
+        ensures next_id { self.new.next_id ≡ self.old.next_id }
+        ensures room { self.old.room ≤ self.new.room }
+    {
+        if self.counts.downtimes > 0 {
+            self.counts.remove_ended(&self.comments, &is_live);
+            retain_live(&mut self.comments, &is_live);
+        }
+    }
+
     /// The comments that stand, ids ascending.
     pub fn list(&self) -> &[Comment]
         ensures list { result.now ≡ self.now.comments }
@@ -225,4 +243,15 @@ fn retain_others(comments: &mut Vec<Comment>, event: CommentEvent)
     ensures capacity { vec_capacity comments.new ≡ vec_capacity comments.old }
 {
     comments.retain(|comment| !removes(event, *comment));
+}
+
+/// Leaves the comments of no downtime entry, and those of live ones.
+fn retain_live<L: Fn(u32) -> bool>(comments: &mut Vec<Comment>, is_live: &L)
+    requires { L.IsAlwaysCallable is_live.now }
+    ensures comments { (live : ℕ → Bool) → Tells (L.post is_live.now) live
+        → comments.new.items ≡ with_live live comments.old.items }
+    ensures len { vec_len comments.new ≤ vec_len comments.old }
+    ensures capacity { vec_capacity comments.new ≡ vec_capacity comments.old }
+{
+    comments.retain(|comment| outlives(*comment, is_live));
 }

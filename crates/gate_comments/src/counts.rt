@@ -1,7 +1,8 @@
-ghost use Rattle.std.specs.Prelude.{◌≡◌, ◌+◌, ◌^◌, ◌<◌, ◌≤◌, List, [], ◌∷◌, ◌++◌, length, OnOk, nat_lt, count_by};
+ghost use Rattle.std.specs.Prelude.{◌≡◌, ◌+◌, ◌^◌, ◌<◌, ◌≤◌, ℕ, Bool, List, [], ◌∷◌, ◌++◌, length, OnOk, nat_lt, count_by};
 ghost use Rattle.gate_model.specs.declared.comments.Comment.{Comment};
 ghost use Rattle.gate_model.specs.Comments.{removes};
-ghost use Rattle.gate_comments.specs.Book.{without};
+ghost use Rattle.gate_model.specs.Meaning.{outlives};
+ghost use Rattle.gate_comments.specs.Book.{without, with_live, Tells};
 ghost use Rattle.gate_comments.specs.inner.Counts.{bucket_of, is_in_bucket, is_of_downtime, may_remove, IsCounted};
 
 use gate_model::{Comment, CommentEvent, Source};
@@ -89,6 +90,22 @@ impl Counts {
         }
     }
 
+    /// Counts the comments of the list no more that are of downtime entries which aren't live.
+    pub fn remove_ended<L: Fn(u32) -> bool>(&mut self, comments: &[Comment], is_live: &L)
+        requires callable { L.IsAlwaysCallable is_live.now }
+        requires sized { 0 < length comments.now → 16384 ≤ length self.old.places.items }
+        requires counted { IsCounted self.old.places.items self.old.downtimes comments.now }
+        ensures len { length self.new.places.items ≡ length self.old.places.items }
+        ensures counted { (live : ℕ → Bool) → Tells (L.post is_live.now) live
+            → IsCounted self.new.places.items self.new.downtimes (with_live live comments.now) }
+    {
+        for comment in comments {
+            if !outlives(*comment, is_live) {
+                self.remove(*comment);
+            }
+        }
+    }
+
     /// Whether the event may remove a comment: whether one is on its object, or of a downtime entry.
     pub fn may_remove(&self, event: CommentEvent) -> bool
         ensures { (comments : List Comment)
@@ -127,6 +144,18 @@ fn is_of_downtime(comment: Comment) -> bool
     ensures { result ≡ is_of_downtime comment }
 {
     matches!(comment.source, Source::Downtime(_))
+}
+
+/// Whether the comment is of no downtime entry, or of a live one.
+pub fn outlives<L: Fn(u32) -> bool>(comment: Comment, is_live: &L) -> bool
+    requires { L.IsAlwaysCallable is_live.now }
+    ensures { (live : ℕ → Bool) → Tells (L.post is_live.now) live
+        → result ≡ outlives live comment.source }
+{
+    match comment.source {
+        Source::Downtime(entry) => is_live(entry),
+        Source::User | Source::Ack => true,
+    }
 }
 
 /// Whether the event removes the comment.

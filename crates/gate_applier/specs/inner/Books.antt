@@ -201,10 +201,8 @@ pub record TakesOne (old new : Books) : Type 0 where
   pub comments : old.comments.room ≤ new.comments.room + 1
   pub entries : old.downtime.room ≤ new.downtime.room + 1
 
--- entries were returned as gone and their comments dropped, and nothing else changed
-pub record GoesOn (old new : Books) : Type 0 where
-  pub objects : new.objects ≡ old.objects
-  pub downtime : new.downtime ≡ record old.downtime { returned = new.downtime.returned }
-  pub comment_room : old.comments.room ≤ new.comments.room
-  pub next_comment : new.comments.next_id ≡ old.comments.next_id
-  pub follow : (events : Events) (moment : Moment) → BooksFollow events moment old → BooksFollow events moment new
+-- entries were returned as gone, and nothing else changed
+pub record ReturnsGone (old new : DowntimeView) : Type 0 where
+  pub same : new ≡ record old { returned = new.returned }
+  pub kept : (id : ℕ) → was_returned old.returned id ≡ true → was_returned new.returned id ≡ true
+  pub gone : ((id : ℕ) → was_returned old.returned id ≡ true → IsGone old id) → (id : ℕ) → was_returned new.returned id ≡ true → IsGone new id

@@ -1,24 +1,19 @@
-use Rattle.std.proofs.Common.{sym, ◌∙◌}
-use Rattle.gate_applier.proofs.BookSteps.{goes-gone, fewer-unreturned}
+use Rattle.std.proofs.Common.{rules}
+use Rattle.gate_model.specs.Downtime.{is_live_in}
+use Rattle.gate_applier.proofs.BookSteps.{follow-settled}
 use Rattle.gate_applier.proofs.books.Books.settle.Goals as goal
 
-pub gone-smaller : goal.gone-smaller
-gone-smaller c =
-    rw c.next_gone.ensures.same
-    (fewer-unreturned c.gone.self.downtime.entries c.gone.self.downtime.moment c.gone.self.downtime.returned c.next_gone.new.self.returned c.in-Some.id
-    (sym c.next_gone.ensures.answer ∙ c.in-Some.is) (rw c.in-Some.is at c.next_gone.ensures.returned))
+pub drop_downtimes-requires-clause-told : goal.drop_downtimes-requires-clause-told
+drop_downtimes-requires-clause-told c =
+    let now = c.drain_gone.new.downtime in
+    (is_live_in now.entries now.moment.0, λ id answer within met. search rules)
 
-pub gone-preserved : goal.gone-preserved
-gone-preserved c =
-    goes-gone c.in-Some.id c.args.self.now c.gone.self c.next_gone.new.self c.drop_downtime.new.self c.gone.invariant
-    (sym c.next_gone.ensures.answer ∙ c.in-Some.is) (rw c.in-Some.is at c.next_gone.ensures.returned) c.next_gone.ensures.same
-    c.drop_downtime.ensures.comments c.drop_downtime.ensures.next_id c.drop_downtime.ensures.room
-
-pub returns-clause-stand : goal.returns-clause-stand
-returns-clause-stand c = λ events moment follow.
-    let same = (rw c.in_default.is at c.next_gone.ensures.none) in
-    rw same
-    (record {
-      follow = c.gone.invariant.follow events moment follow;
-      settled = sym c.next_gone.ensures.answer ∙ c.in_default.is;
-    })
+pub returns-then-drain_gone-clause-stand : goal.returns-then-drain_gone-clause-stand
+returns-then-drain_gone-clause-stand c = λ events moment follow.
+    let now = c.drain_gone.new.downtime in
+    record {
+      follow =
+          follow-settled events moment c.args.self.now now c.drop_downtimes.new.self c.drain_gone.ensures.returned c.drain_gone.ensures.settled
+          (c.drop_downtimes.ensures.comments (is_live_in now.entries now.moment.0) (λ id answer within met. search rules)) c.drop_downtimes.ensures.next_id follow;
+      settled = c.drain_gone.ensures.settled;
+    }
