@@ -3,7 +3,7 @@ pub mod ScriptSteps
 pub mod Drains
 pub mod SessionSteps
 pub mod Outputs
-pub mod WorldSteps
+pub mod DeskSteps
 pub mod PlaySteps
 pub mod ReplayTexts
 pub mod ReplayEnds

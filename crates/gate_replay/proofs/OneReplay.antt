@@ -17,6 +17,8 @@ use Rattle.gate_core.specs.declared.submit.Refused.{Refused}
 use Rattle.gate_core.specs.declared.submit.Refused.TheVariants as refused
 use Rattle.gate_core.specs.Limits.{Limits, limits_of, default_quota}
 use Rattle.gate_core.specs.Legal.{Run, taken, reply_after, close_reply, IsLegal}
+use Rattle.gate_desk.specs.Allowed.{IsAllowed}
+use Rattle.gate_desk.specs.inner.Allowing.{legal_allowed}
 use Rattle.gate_reader.specs.declared.report.Answer.TheVariants as answer
 use Rattle.gate_reader.specs.Report.{answer_line}
 use Rattle.gate_replay.specs.declared.script.Step.{Step}
@@ -230,8 +232,12 @@ one_run setup done other e v w same =
     one_gateway (told_by run) setup done other e v w (obeys_itself [] run) (subst (λ (r : Run). Obeys (told_by run) r) same (obeys_itself [] run))
 
 -- a script leads to one gateway
-pub one_played : (script : Script) (one other : Gateway) → IsPlayed script one → IsPlayed script other → one ≡ other
+pub one_played : (script : Script) (one other : Gateway) → IsPlayed IsLegal script one → IsPlayed IsLegal script other → one ≡ other
 one_played script one other p q =
     let limits : Limits = limits_of 2 default_quota script.setup.capacity in
     p.is ∙ one_gateway (reply_after limits) script.setup p.done q.done (p.steps_are ∙ sym q.steps_are) p.whole q.whole
-    (legal_obeys limits (gateway_after script.setup p.done).run (subst (λ (u : Gateway). IsLegal limits u.run) p.is p.legal)) (legal_obeys limits (gateway_after script.setup q.done).run (subst (λ (u : Gateway). IsLegal limits u.run) q.is q.legal)) ∙ sym q.is
+    (legal_obeys limits (gateway_after script.setup p.done).run (subst (λ (u : Gateway). IsLegal limits u.run) p.is p.kept)) (legal_obeys limits (gateway_after script.setup q.done).run (subst (λ (u : Gateway). IsLegal limits u.run) q.is q.kept)) ∙ sym q.is
+
+-- a World's replay is one that a gate may answer
+pub played_allowed : (script : Script) (g : Gateway) → IsPlayed IsLegal script g → IsPlayed IsAllowed script g
+played_allowed script g h = record { done = h.done; steps_are = h.steps_are; whole = h.whole; is = h.is; kept = legal_allowed (limits_of 2 default_quota script.setup.capacity) g.run h.kept }

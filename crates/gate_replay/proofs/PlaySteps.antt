@@ -8,7 +8,9 @@ use Rattle.gate_model.specs.Record.{later}
 use Rattle.gate_model.specs.declared.submission.Body.{Body}
 use Rattle.gate_grammar.specs.declared.faults.LineFault.{LineFault}
 use Rattle.gate_grammar.specs.Parsing.{text_before}
-use Rattle.gate_core.specs.Limits.{Limits, limits_of, default_quota}
+use Rattle.gate_core.specs.Limits.{Limits}
+use Rattle.gate_core.specs.Legal.{Run}
+use Rattle.gate_desk.specs.Allowed.{IsAllowed}
 use Rattle.gate_applier.specs.Applier.{ApplierView}
 use Rattle.gate_pages.specs.StatusPage.{status_text_at}
 use Rattle.gate_reader.specs.declared.report.Answer.{Answer}
@@ -24,21 +26,21 @@ use Rattle.gate_replay.specs.declared.script.Step.TheVariants as step
 use Rattle.gate_replay.specs.declared.script.Setup.{Setup}
 use Rattle.gate_replay.specs.Gateway.{Gateway, Heard, body_of_line, carries_out, is_session, serves, drains, plays, gateway_after, steps_of, IsWhole}
 use Rattle.gate_replay.specs.inner.Sessions.{queued_in, Answers, AnswersStep}
-use Rattle.gate_replay.specs.inner.Playing.{Setting, setting, Shows, IsNew, IsReady, Serves, Drains, DrainsFull, Ends, Plays, PlaysFull, PlayedTo, PlayedFull, IsWriteEnd, StopsBy}
+use Rattle.gate_replay.specs.inner.Playing.{DeskView, Setting, setting, Shows, IsNew, IsUnderWay, IsReady, Serves, Drains, DrainsFull, Ends, Plays, PlaysFull, PlayedTo, PlayedFull, IsWriteEnd, StopsBy}
 use Rattle.gate_replay.proofs.Outputs.{fails_then, writes_none, writes_on}
-use Rattle.gate_replay.proofs.WorldSteps.{queued_few}
+use Rattle.gate_replay.proofs.DeskSteps.{queued_few, holds_same}
 
 abbrev nothing_heard : List (Option Numbered) → Heard
 nothing_heard takes = record { reply = Ok 0; closed = None; takes = takes }
 
 -- ---- one step without its drain
 
-pub serves_clock : (was now : Player) (clock : Moment) (output : SinkState) → now.world ≡ was.world → now.applier ≡ was.applier → now.clock ≡ clock → now.age ≡ was.age → now.queued ≡ was.queued
-    → (s : Setting) (g : Gateway) → Shows s was output g → Serves s now output (step.Clock clock) g
-serves_clock was now clock output world applier clock_is age queued s g h = record {
+pub serves_clock : {D : Type 0} (view : DeskView D) (was now : Player D) (clock : Moment) (output : SinkState) → now.desk ≡ was.desk → now.applier ≡ was.applier → now.clock ≡ clock → now.age ≡ was.age → now.queued ≡ was.queued
+    → (s : Setting) (g : Gateway) → Shows view s was output g → Serves view s now output (step.Clock clock) g
+serves_clock {D} view was now clock output desk applier clock_is age queued s g h = record {
   heard = nothing_heard [];
   shows = λ takes. record {
-    holds = rw world h.holds;
+    holds = holds_same view s.setup was.desk now.desk g.run desk h.holds;
     applier = rw applier (record { table = h.applier.table; opening = h.applier.opening; limit = h.applier.limit; records = h.applier.records });
     moment = rw applier h.moment;
     clock = clock_is;
@@ -49,14 +51,14 @@ serves_clock was now clock output world applier clock_is age queued s g h = reco
   };
 }
 
-pub serves_session : (was now : Player) (before after : SinkState) (step : Step) (a : Answer) → AnswersStep was.world was.age was.clock now.world step a → Writes before after (answer_line a)
+pub serves_session : {D : Type 0} (view : DeskView D) (was now : Player D) (before after : SinkState) (step : Step) (a : Answer) → AnswersStep view was.desk was.age was.clock now.desk step a → Writes before after (answer_line a)
     → now.applier ≡ was.applier → now.clock ≡ was.clock → now.age ≡ was.age → now.queued ≡ was.queued + queued_in a
-    → (s : Setting) (g : Gateway) → Shows s was before g → Serves s now after step g
-serves_session was now before after step a answers printed applier clock age queued s g h =
-    let x : Answers s.setup now.world step a g = answers s.setup g h.holds h.clock h.age in
+    → (s : Setting) (g : Gateway) → Shows view s was before g → Serves view s now after step g
+serves_session {D} view was now before after step a answers printed applier clock age queued s g h =
+    let x : Answers view s.setup now.desk step a g = answers s.setup g h.holds h.clock h.age in
     record {
       heard = x.heard;
-      shows = λ takes. subst (λ (v : Gateway). Shows s now after v) (sym (x.does takes)) (record {
+      shows = λ takes. subst (λ (v : Gateway). Shows view s now after v) (sym (x.does takes)) (record {
         holds = x.holds;
         applier = record {
           table = ap (λ (v : ApplierView). v.table) applier ∙ h.applier.table;
@@ -73,11 +75,11 @@ serves_session was now before after step a answers printed applier clock age que
       });
     }
 
-pub serves_page : (was now : Player) (before after : SinkState) → now.world ≡ was.world → now.applier.table ≡ was.applier.table → now.applier.opening ≡ was.applier.opening → now.applier.limit ≡ was.applier.limit
+pub serves_page : {D : Type 0} (view : DeskView D) (was now : Player D) (before after : SinkState) → now.desk ≡ was.desk → now.applier.table ≡ was.applier.table → now.applier.opening ≡ was.applier.opening → now.applier.limit ≡ was.applier.limit
     → now.applier.records ≡ was.applier.records → now.applier.moment ≡ later was.applier.moment was.clock → now.clock ≡ was.clock → now.age ≡ was.age → now.queued ≡ was.queued
     → Writes before after (status_text_at now.applier.table now.applier.opening now.applier.records now.applier.moment)
-    → (s : Setting) (g : Gateway) → Shows s was before g → Serves s now after step.Page g
-serves_page was now before after world table opening limit records moment clock age queued printed s g h =
+    → (s : Setting) (g : Gateway) → Shows view s was before g → Serves view s now after step.Page g
+serves_page {D} view was now before after desk table opening limit records moment clock age queued printed s g h =
     let table_is : now.applier.table ≡ s.setup.table = table ∙ h.applier.table in
     let opening_is : now.applier.opening ≡ s.setup.moment = opening ∙ h.applier.opening in
     let records_are : now.applier.records ≡ g.records = records ∙ h.applier.records in
@@ -87,7 +89,7 @@ serves_page was now before after world table opening limit records moment clock 
     record {
       heard = nothing_heard [];
       shows = λ takes. record {
-        holds = rw world h.holds;
+        holds = holds_same view s.setup was.desk now.desk g.run desk h.holds;
         applier = record { table = table_is; opening = opening_is; limit = limit ∙ h.applier.limit; records = records_are };
         moment = moment_is;
         clock = clock ∙ h.clock;
@@ -128,38 +130,38 @@ serves_with setup (step.Packet packet) heard takes g = refl
 serves_with setup (step.Line text) heard takes g = carries_with (body_of_line (text_before 10 (text ++ 10 ∷ []))) heard takes g
 serves_with setup step.Page heard takes g = refl
 
-drains_plays : (s : Setting) (now : Player) (step : Step) (after : SinkState) (g : Gateway) (heard : Heard) → g.full ≡ false → is_session step ≡ true → Drains s now after (serves s.setup step heard g) → Plays s now after step g
-drains_plays s now step after g heard running session d =
+drains_plays : {D : Type 0} (view : DeskView D) (s : Setting) (now : Player D) (step : Step) (after : SinkState) (g : Gateway) (heard : Heard) → g.full ≡ false → is_session step ≡ true → Drains view s now after (serves s.setup step heard g) → Plays view s now after step g
+drains_plays {D} view s now step after g heard running session d =
     let with_takes : Heard = record heard { takes = d.takes } in
     let same : serves s.setup step with_takes g ≡ serves s.setup step heard g = serves_with s.setup step heard d.takes g in
     let is : plays s.setup step with_takes g ≡ drains d.takes (serves s.setup step heard g) = session_is s.setup step with_takes g running session ∙ ap (λ (v : Gateway). drains d.takes v) same in
     record {
       heard = with_takes;
       whole = λ _ _. rw same d.finishes;
-      shows = subst (λ (x : Gateway). Shows s now after x) (sym is) d.shows;
+      shows = subst (λ (x : Gateway). Shows view s now after x) (sym is) d.shows;
     }
 
-drains_plays_full : (s : Setting) (kept : ApplierView) (step : Step) (after : SinkState) (g : Gateway) (heard : Heard) → g.full ≡ false → is_session step ≡ true → DrainsFull s kept after (serves s.setup step heard g) → PlaysFull s kept after step g
-drains_plays_full s kept step after g heard running session d =
+drains_plays_full : {D : Type 0} (view : DeskView D) (s : Setting) (kept : ApplierView) (step : Step) (after : SinkState) (g : Gateway) (heard : Heard) → g.full ≡ false → is_session step ≡ true → DrainsFull view s kept after (serves s.setup step heard g) → PlaysFull view s kept after step g
+drains_plays_full {D} view s kept step after g heard running session d =
     let with_takes : Heard = record heard { takes = d.takes } in
     let same : serves s.setup step with_takes g ≡ serves s.setup step heard g = serves_with s.setup step heard d.takes g in
     let is : plays s.setup step with_takes g ≡ drains d.takes (serves s.setup step heard g) = session_is s.setup step with_takes g running session ∙ ap (λ (v : Gateway). drains d.takes v) same in
     record {
       heard = with_takes;
       whole = λ _ _. rw same d.finishes;
-      ends = subst (λ (x : Gateway). Ends s kept after x) (sym is) d.ends;
+      ends = subst (λ (x : Gateway). Ends view s kept after x) (sym is) d.ends;
     }
 
 -- the step's service, whatever its takes
-served_shows : (s : Setting) (mid : Player) (after : SinkState) (step : Step) (g : Gateway) (v : Serves s mid after step g) → Shows s mid after (serves s.setup step v.heard g)
-served_shows s mid after step g v = subst (λ (x : Gateway). Shows s mid after x) (serves_with s.setup step v.heard [] g) (v.shows [])
+pub served_shows : {D : Type 0} (view : DeskView D) (s : Setting) (mid : Player D) (after : SinkState) (step : Step) (g : Gateway) (v : Serves view s mid after step g) → Shows view s mid after (serves s.setup step v.heard g)
+served_shows {D} view s mid after step g v = subst (λ (x : Gateway). Shows view s mid after x) (serves_with s.setup step v.heard [] g) (v.shows [])
 
-pub plays_session : (r : Result Player Stopped) (was mid : Player) (step : Step) (before after : SinkState) → ((s : Setting) (g : Gateway) → Shows s was before g → Serves s mid after step g) → is_session step ≡ true
-    → IfOk r (λ now. (s : Setting) (output : SinkState) (g : Gateway) → Shows s mid output g → Drains s now output g)
-    → IfOk r (λ now. (s : Setting) (g : Gateway) → Shows s was before g → Plays s now after step g)
-plays_session (Ok now) was mid step before after served session drained = λ s g h.
-    let v = served s g h in drains_plays s now step after g v.heard h.running session (drained s after (serves s.setup step v.heard g) (served_shows s mid after step g v))
-plays_session (Err stop) was mid step before after served session drained = tt
+pub plays_session : {D : Type 0} (view : DeskView D) (r : Result (Player D) Stopped) (was mid : Player D) (step : Step) (before after : SinkState) → ((s : Setting) (g : Gateway) → Shows view s was before g → Serves view s mid after step g) → is_session step ≡ true
+    → IfOk r (λ now. (s : Setting) (output : SinkState) (g : Gateway) → Shows view s mid output g → Drains view s now output g)
+    → IfOk r (λ now. (s : Setting) (g : Gateway) → Shows view s was before g → Plays view s now after step g)
+plays_session view (Ok now) was mid step before after served session drained = λ s g h.
+    let v = served s g h in drains_plays view s now step after g v.heard h.running session (drained s after (serves s.setup step v.heard g) (served_shows view s mid after step g v))
+plays_session view (Err stop) was mid step before after served session drained = tt
 
 stops : (stop : Stopped) (P Q : ApplierView → Type 0) (M N : Type 0) (F G : ReplayFault → Type 0) → ((kept : ApplierView) → P kept → Q kept) → (M → N) → ((fault : ReplayFault) → F fault → G fault) → StopsBy P M F stop → StopsBy Q N G stop
 stops (stopped.Full kept) P Q M N F G f m n h = f kept h
@@ -175,54 +177,53 @@ write_end_on a b c replay_fault.ReadFault h k = k
 write_end_on a b c replay_fault.WriteFault h k = fails_then a.failures b.failures c.failures 1 h k
 
 -- the service of a session stopped
-pub served_stops : (stop : Stopped) (was : Player) (step : Step) (before after : SinkState) → StopsBy (λ _. ⊥) (Fails before.failures after.failures 0) (IsWriteEnd before after) stop
-    → StopsBy (λ kept. (s : Setting) (g : Gateway) → Shows s was before g → PlaysFull s kept after step g) (Fails before.failures after.failures 0) (IsWriteEnd before after) stop
-served_stops stop was step before after h =
-    stops stop (λ _. ⊥) (λ kept. (s : Setting) (g : Gateway) → Shows s was before g → PlaysFull s kept after step g) (Fails before.failures after.failures 0) (Fails before.failures after.failures 0) (IsWriteEnd before after) (IsWriteEnd before after)
+pub served_stops : {D : Type 0} (view : DeskView D) (stop : Stopped) (was : Player D) (step : Step) (before after : SinkState) → StopsBy (λ _. ⊥) (Fails before.failures after.failures 0) (IsWriteEnd before after) stop
+    → StopsBy (λ kept. (s : Setting) (g : Gateway) → Shows view s was before g → PlaysFull view s kept after step g) (Fails before.failures after.failures 0) (IsWriteEnd before after) stop
+served_stops {D} view stop was step before after h =
+    stops stop (λ _. ⊥) (λ kept. (s : Setting) (g : Gateway) → Shows view s was before g → PlaysFull view s kept after step g) (Fails before.failures after.failures 0) (Fails before.failures after.failures 0) (IsWriteEnd before after) (IsWriteEnd before after)
     (λ kept no. absurd no) (λ m. m) (λ fault f. f) h
 
 -- the drain of a session stopped
-pub drain_stops : (r : Result Player Stopped) (was mid : Player) (step : Step) (before after : SinkState) → ((s : Setting) (g : Gateway) → Shows s was before g → Serves s mid after step g) → is_session step ≡ true → Fails before.failures after.failures 0
-    → IfErr r (StopsBy (λ kept. (s : Setting) (output : SinkState) (g : Gateway) → Shows s mid output g → DrainsFull s kept output g) (Unit {0}) (λ _. ⊥))
-    → IfErr r (StopsBy (λ kept. (s : Setting) (g : Gateway) → Shows s was before g → PlaysFull s kept after step g) (Fails before.failures after.failures 0) (IsWriteEnd before after))
-drain_stops (Ok now) was mid step before after served session none h = tt
-drain_stops (Err stop) was mid step before after served session none h =
-    stops stop (λ kept. (s : Setting) (output : SinkState) (g : Gateway) → Shows s mid output g → DrainsFull s kept output g) (λ kept. (s : Setting) (g : Gateway) → Shows s was before g → PlaysFull s kept after step g)
+pub drain_stops : {D : Type 0} (view : DeskView D) (r : Result (Player D) Stopped) (was mid : Player D) (step : Step) (before after : SinkState) → ((s : Setting) (g : Gateway) → Shows view s was before g → Serves view s mid after step g) → is_session step ≡ true → Fails before.failures after.failures 0
+    → IfErr r (StopsBy (λ kept. (s : Setting) (output : SinkState) (g : Gateway) → Shows view s mid output g → DrainsFull view s kept output g) (Unit {0}) (λ _. ⊥))
+    → IfErr r (StopsBy (λ kept. (s : Setting) (g : Gateway) → Shows view s was before g → PlaysFull view s kept after step g) (Fails before.failures after.failures 0) (IsWriteEnd before after))
+drain_stops view (Ok now) was mid step before after served session none h = tt
+drain_stops {D} view (Err stop) was mid step before after served session none h =
+    stops stop (λ kept. (s : Setting) (output : SinkState) (g : Gateway) → Shows view s mid output g → DrainsFull view s kept output g) (λ kept. (s : Setting) (g : Gateway) → Shows view s was before g → PlaysFull view s kept after step g)
     (Unit {0}) (Fails before.failures after.failures 0) (λ _. ⊥) (IsWriteEnd before after)
-    (λ kept full s g shows. let v = served s g shows in drains_plays_full s kept step after g v.heard shows.running session (full s after (serves s.setup step v.heard g) (served_shows s mid after step g v)))
+    (λ kept full s g shows. let v = served s g shows in drains_plays_full view s kept step after g v.heard shows.running session (full s after (serves s.setup step v.heard g) (served_shows view s mid after step g v)))
     (λ m. none) (λ fault no. absurd no) h
 
-pub plays_other : (was now : Player) (step : Step) (before after : SinkState) → ((s : Setting) (g : Gateway) → Shows s was before g → Serves s now after step g) → is_session step ≡ false
-    → (s : Setting) (g : Gateway) → Shows s was before g → Plays s now after step g
-plays_other was now step before after served other s g h =
+pub plays_other : {D : Type 0} (view : DeskView D) (was now : Player D) (step : Step) (before after : SinkState) → ((s : Setting) (g : Gateway) → Shows view s was before g → Serves view s now after step g) → is_session step ≡ false
+    → (s : Setting) (g : Gateway) → Shows view s was before g → Plays view s now after step g
+plays_other {D} view was now step before after served other s g h =
     let v = served s g h in
     record {
       heard = v.heard;
       whole = λ _ session. let no : true ≡ false = sym session ∙ other in absurd (cc);
-      shows = subst (λ (x : Gateway). Shows s now after x) (sym (other_is s.setup step v.heard g h.running other)) (served_shows s now after step g v);
+      shows = subst (λ (x : Gateway). Shows view s now after x) (sym (other_is s.setup step v.heard g h.running other)) (served_shows view s now after step g v);
     }
 
 -- ---- all steps
 
-limits_two : (setup : Setup) (limits : Limits) → limits ≡ limits_of 2 default_quota setup.capacity → limits.clients ≡ 2
-limits_two setup limits is = ap (λ (l : Limits). l.clients) is
+pub under_way : {D : Type 0} (view : DeskView D) (s : Setting) (player : Player D) (output : SinkState) (g : Gateway) → Shows view s player output g → IsUnderWay view player output
+under_way view s player output g h = record { setting = s; gateway = g; shows = h }
 
-pub ready : (s : Setting) (player : Player) (output : SinkState) (g : Gateway) → Shows s player output g → IsReady player
-ready s player output g h =
-    let two : player.world.limits.clients ≡ 2 = limits_two s.setup player.world.limits h.holds.limits in
-    let quota_is : player.world.limits.quota ≡ 4294967295 = ap (λ (l : Limits). l.quota) h.holds.limits in
+pub ready : {D : Type 0} (view : DeskView D) → ((desk : D) (run : Run) → view.after desk run → IsAllowed (view.limits desk) run) → (s : Setting) (player : Player D) (output : SinkState) (g : Gateway) → Shows view s player output g → IsReady view player output
+ready view allowed s player output g h =
+    let quota_is : (view.limits player.desk).quota ≡ 4294967295 = ap (λ (l : Limits). l.quota) h.holds.limits in
     record {
-      unended = record { run = g.run; stands = h.holds.stands; unended = h.holds.unended; clients = two };
-      few = subst (λ n. n < 2 ^ 34) (sym h.queued) (queued_few player.world.limits g.run h.holds.stands.legal two (omega (arith, quota_is)));
+      under_way = under_way view s player output g h;
+      few = subst (λ n. n < 2 ^ 34) (sym h.queued) (queued_few (view.limits player.desk) g.run (allowed player.desk g.run h.holds.after) (omega (arith, quota_is)));
     }
 
-pub played_none : (setup : Setup) (player : Player) (output : SinkState) → IsNew setup player → PlayedTo (setting setup output) [] player output
-played_none setup player output h = record {
+pub played_none : {D : Type 0} (view : DeskView D) (setup : Setup) (player : Player D) (output : SinkState) → IsNew view setup player → PlayedTo view (setting setup output) [] player output
+played_none view setup player output h = record {
   done = [];
   steps_are = refl;
   whole = tt;
   shows = record {
-    holds = record { stands = h.stands; limits = h.limits; unended = λ c. refl };
+    holds = h.holds;
     applier = record {
       table = ap (λ (v : ApplierView). v.table) h.applier;
       opening = ap (λ (v : ApplierView). v.opening) h.applier;
@@ -245,9 +246,9 @@ next_step steps i item inside is = take_more steps i item inside ∙ ap (λ x. t
 more_steps : (steps : List Step) (step : Step) (before : List Step) → before ≡ reverse steps → step ∷ before ≡ reverse (steps ++ step ∷ [])
 more_steps steps step before e = ap (λ l. step ∷ l) e ∙ sym (reverse-append steps (step ∷ []))
 
-pub played_more : (s : Setting) (steps next : List Step) (was now : Player) (before after : SinkState) (step : Step) → next ≡ steps ++ step ∷ [] → PlayedTo s steps was before
-    → ((t : Setting) (g : Gateway) → Shows t was before g → Plays t now after step g) → PlayedTo s next now after
-played_more s steps next was now before after step is h played =
+pub played_more : {D : Type 0} (view : DeskView D) (s : Setting) (steps next : List Step) (was now : Player D) (before after : SinkState) (step : Step) → next ≡ steps ++ step ∷ [] → PlayedTo view s steps was before
+    → ((t : Setting) (g : Gateway) → Shows view t was before g → Plays view t now after step g) → PlayedTo view s next now after
+played_more view s steps next was now before after step is h played =
     let p = played s (gateway_after s.setup h.done) h.shows in
     record {
       done = (step, p.heard) ∷ h.done;
@@ -282,9 +283,9 @@ idle_whole setup (step ∷ more) done full whole =
     let same : gateway_after setup ((step, nothing_heard []) ∷ done) ≡ gateway_after setup done = stays_full setup step (nothing_heard []) (gateway_after setup done) full in
     idle_whole setup more ((step, nothing_heard []) ∷ done) (ap (λ (g : Gateway). g.full) same ∙ full) ((λ running _. let no : true ≡ false = sym full ∙ running in absurd (cc)), whole)
 
-full_after : (s : Setting) (steps first rest : List Step) (step : Step) (was : Player) (kept : ApplierView) (before after : SinkState) → first ++ step ∷ [] ++ rest ≡ steps → PlayedTo s first was before
-    → ((t : Setting) (g : Gateway) → Shows t was before g → PlaysFull t kept after step g) → PlayedFull s steps kept after
-full_after s steps first rest step was kept before after parts h played =
+full_after : {D : Type 0} (view : DeskView D) (s : Setting) (steps first rest : List Step) (step : Step) (was : Player D) (kept : ApplierView) (before after : SinkState) → first ++ step ∷ [] ++ rest ≡ steps → PlayedTo view s first was before
+    → ((t : Setting) (g : Gateway) → Shows view t was before g → PlaysFull view t kept after step g) → PlayedFull view s steps kept after
+full_after {D} view s steps first rest step was kept before after parts h played =
     let p = played s (gateway_after s.setup h.done) h.shows in
     let done : List (Step × Heard) = (step, p.heard) ∷ h.done in
     let all : steps_of done ≡ reverse (first ++ step ∷ []) = more_steps first step (steps_of h.done) h.steps_are in
@@ -292,16 +293,16 @@ full_after s steps first rest step was kept before after parts h played =
       done = idle rest done;
       steps_are = idle_steps rest done ∙ ap (λ l. reverse rest ++ l) all ∙ sym (reverse-append (first ++ step ∷ []) rest) ∙ ap reverse parts;
       whole = idle_whole s.setup rest done p.ends.full (p.whole, h.whole);
-      ends = subst (λ (x : Gateway). Ends s kept after x) (sym (idle_gateway s.setup rest done p.ends.full)) p.ends;
+      ends = subst (λ (x : Gateway). Ends view s kept after x) (sym (idle_gateway s.setup rest done p.ends.full)) p.ends;
     }
 
 -- the replay stopped at a step, after steps of which none failed a call
-pub played_stops : (stop : Stopped) (player : Player) (base : SinkState) (steps : List Step) (i : ℕ) (step : Step) (was : Player) (before after : SinkState) → take (i + 1) steps ≡ take i steps ++ step ∷ []
-    → Fails base.failures before.failures 0 → ((setup : Setup) → IsNew setup player → PlayedTo (setting setup base) (take i steps) was before)
-    → StopsBy (λ kept. (s : Setting) (g : Gateway) → Shows s was before g → PlaysFull s kept after step g) (Fails before.failures after.failures 0) (IsWriteEnd before after) stop
-    → StopsBy (λ kept. (setup : Setup) → IsNew setup player → PlayedFull (setting setup base) steps kept after) (Fails base.failures after.failures 0) (IsWriteEnd base after) stop
-played_stops stop player base steps i step was before after is none so_far h =
-    stops stop (λ kept. (s : Setting) (g : Gateway) → Shows s was before g → PlaysFull s kept after step g) (λ kept. (setup : Setup) → IsNew setup player → PlayedFull (setting setup base) steps kept after)
+pub played_stops : {D : Type 0} (view : DeskView D) (stop : Stopped) (player : Player D) (base : SinkState) (steps : List Step) (i : ℕ) (step : Step) (was : Player D) (before after : SinkState) → take (i + 1) steps ≡ take i steps ++ step ∷ []
+    → Fails base.failures before.failures 0 → ((setup : Setup) → IsNew view setup player → PlayedTo view (setting setup base) (take i steps) was before)
+    → StopsBy (λ kept. (s : Setting) (g : Gateway) → Shows view s was before g → PlaysFull view s kept after step g) (Fails before.failures after.failures 0) (IsWriteEnd before after) stop
+    → StopsBy (λ kept. (setup : Setup) → IsNew view setup player → PlayedFull view (setting setup base) steps kept after) (Fails base.failures after.failures 0) (IsWriteEnd base after) stop
+played_stops {D} view stop player base steps i step was before after is none so_far h =
+    stops stop (λ kept. (s : Setting) (g : Gateway) → Shows view s was before g → PlaysFull view s kept after step g) (λ kept. (setup : Setup) → IsNew view setup player → PlayedFull view (setting setup base) steps kept after)
     (Fails before.failures after.failures 0) (Fails base.failures after.failures 0) (IsWriteEnd before after) (IsWriteEnd base after)
-    (λ kept full setup new. full_after (setting setup base) steps (take i steps) (drop (i + 1) steps) step was kept before after (ap (λ l. l ++ drop (i + 1) steps) (sym is) ∙ take-append-drop (i + 1) steps) (so_far setup new) full)
+    (λ kept full setup new. full_after view (setting setup base) steps (take i steps) (drop (i + 1) steps) step was kept before after (ap (λ l. l ++ drop (i + 1) steps) (sym is) ∙ take-append-drop (i + 1) steps) (so_far setup new) full)
     (λ m. fails_then base.failures before.failures after.failures 0 none m) (λ fault f. write_end_on base before after fault none f) h

@@ -1,11 +1,11 @@
 -- The ends of a replay.
-use Rattle.std.proofs.Common.{◌≡◌, ℕ, List, Some, None, refl, subst}
+use Rattle.std.proofs.Common.{◌≡◌, ℕ, List, Option, Some, None, Bool, true, false, refl, subst}
 use Rattle.std.specs.Prelude.{Result, Ok, Err, OnOk, IfErr}
 use Rattle.gate_model.specs.declared.object.ObjectLine.{ObjectLine}
 use Rattle.gate_model.specs.declared.record.Record.{Record}
 use Rattle.gate_model.specs.Meaning.{outcomes_of}
 use Rattle.gate_core.specs.Limits.{Limits}
-use Rattle.gate_core.specs.Legal.{IsLegal}
+use Rattle.gate_core.specs.Legal.{Run}
 use Rattle.gate_applier.specs.Applier.{ApplierView}
 use Rattle.gate_pages.specs.LogPage.{log_text}
 use Rattle.gate_reader.specs.Sink.{SinkState, Fails, Delivers}
@@ -15,15 +15,15 @@ use Rattle.gate_replay.specs.declared.player.Player.{Player}
 use Rattle.gate_replay.specs.declared.script.Script.{Script}
 use Rattle.gate_replay.specs.Gateway.{Gateway, gateway_after}
 use Rattle.gate_replay.specs.Replay.{fault_in}
-use Rattle.gate_replay.specs.inner.Playing.{setting, PlayedTo, PlayedFull, IsWriteEnd, EndsPlaying}
+use Rattle.gate_replay.specs.inner.Playing.{DeskView, setting, IsShown, PlayedTo, PlayedFull, IsWriteEnd, IsPrinted, EndsPlaying}
 use Rattle.gate_replay.proofs.Outputs.{fails_then, delivers_on}
 
 page_again : (table other : List ObjectLine) (records more : List Record) → records ≡ more → table ≡ other → log_text records (outcomes_of table records) ≡ log_text more (outcomes_of other more)
 page_again table other records more e f = rw (e, f) refl
 
 -- the log page is delivered after the answers and the status pages
-finished : (script : Script) (player : Player) (b m a : SinkState) → PlayedTo (setting script.setup b) script.steps.items player m → Delivers m a (log_text player.applier.records (outcomes_of player.applier.table player.applier.records)) → EndsPlaying script b a None
-finished script player b m a h printed =
+finished : {D : Type 0} (view : DeskView D) (script : Script) (player : Player D) (b m a : SinkState) → PlayedTo view (setting script.setup b) script.steps.items player m → Delivers m a (log_text player.applier.records (outcomes_of player.applier.table player.applier.records)) → EndsPlaying (IsShown view) script b a None
+finished {D} view script player b m a h printed =
     let g : Gateway = gateway_after script.setup h.done in
     let page = page_again player.applier.table script.setup.table player.applier.records g.records h.shows.applier.records h.shows.applier.table in
     record {
@@ -33,14 +33,14 @@ finished script player b m a h printed =
         steps_are = h.steps_are;
         whole = h.whole;
         is = refl;
-        legal = subst (λ (l : Limits). IsLegal l g.run) h.shows.holds.limits h.shows.holds.stands.legal;
+        kept = record { desk = player.desk; after = h.shows.holds.after; limits_are = h.shows.holds.limits };
       };
       full_is = h.shows.running;
       printed = delivers_on b m a g.printed _ h.shows.printed (subst (λ (t : List ℕ). Delivers m a t) page printed);
     }
 
-finished_full : (script : Script) (kept : ApplierView) (b m a : SinkState) → PlayedFull (setting script.setup b) script.steps.items kept m → Delivers m a (log_text kept.records (outcomes_of kept.table kept.records)) → EndsPlaying script b a (Some LogFull)
-finished_full script kept b m a h printed =
+finished_full : {D : Type 0} (view : DeskView D) (script : Script) (kept : ApplierView) (b m a : SinkState) → PlayedFull view (setting script.setup b) script.steps.items kept m → Delivers m a (log_text kept.records (outcomes_of kept.table kept.records)) → EndsPlaying (IsShown view) script b a (Some LogFull)
+finished_full {D} view script kept b m a h printed =
     let g : Gateway = gateway_after script.setup h.done in
     let page = page_again kept.table script.setup.table kept.records g.records h.ends.shown.records h.ends.shown.table in
     record {
@@ -50,48 +50,68 @@ finished_full script kept b m a h printed =
         steps_are = h.steps_are;
         whole = h.whole;
         is = refl;
-        legal = h.ends.legal;
+        kept = h.ends.kept;
       };
       full_is = h.ends.full;
       printed = delivers_on b m a g.printed _ h.ends.printed (subst (λ (t : List ℕ). Delivers m a t) page printed);
     }
 
 -- a write ends the replay, after calls of which none failed
-pub unwritten : (script : Script) (b m a : SinkState) (fault : ReplayFault) → Fails b.failures m.failures 0 → IsWriteEnd m a fault → EndsPlaying script b a (Some fault)
-unwritten script b m a TooLong h k = k
-unwritten script b m a (Line number) h k = k
-unwritten script b m a LogFull h k = absurd k
-unwritten script b m a OutOfMemory h k = k
-unwritten script b m a ReadFault h k = k
-unwritten script b m a WriteFault h k = fails_then b.failures m.failures a.failures 1 h k
+pub unwritten : (rules : Limits → Run → Type 0) (script : Script) (b m a : SinkState) (fault : ReplayFault) → Fails b.failures m.failures 0 → IsWriteEnd m a fault → EndsPlaying rules script b a (Some fault)
+unwritten rules script b m a TooLong h k = k
+unwritten rules script b m a (Line number) h k = k
+unwritten rules script b m a LogFull h k = absurd k
+unwritten rules script b m a OutOfMemory h k = k
+unwritten rules script b m a ReadFault h k = k
+unwritten rules script b m a WriteFault h k = fails_then b.failures m.failures a.failures 1 h k
 
 -- a write ends the replay, the first one to fail
-pub ends_unwritten : (script : Script) (b a : SinkState) (fault : ReplayFault) → IsWriteEnd b a fault → EndsPlaying script b a (Some fault)
-ends_unwritten script b a TooLong k = k
-ends_unwritten script b a (Line number) k = k
-ends_unwritten script b a LogFull k = absurd k
-ends_unwritten script b a OutOfMemory k = k
-ends_unwritten script b a ReadFault k = k
-ends_unwritten script b a WriteFault k = k
+pub ends_unwritten : (rules : Limits → Run → Type 0) (script : Script) (b a : SinkState) (fault : ReplayFault) → IsWriteEnd b a fault → EndsPlaying rules script b a (Some fault)
+ends_unwritten rules script b a TooLong k = k
+ends_unwritten rules script b a (Line number) k = k
+ends_unwritten rules script b a LogFull k = absurd k
+ends_unwritten rules script b a OutOfMemory k = k
+ends_unwritten rules script b a ReadFault k = k
+ends_unwritten rules script b a WriteFault k = k
 
 -- the log page ends the replay
-pub log_ends : (r : Result (Unit {0}) ReplayFault) (script : Script) (player : Player) (b m a : SinkState) → PlayedTo (setting script.setup b) script.steps.items player m
-    → OnOk r (Delivers m a (log_text player.applier.records (outcomes_of player.applier.table player.applier.records))) → IfErr r (IsWriteEnd m a) → EndsPlaying script b a (fault_in r)
-log_ends (Ok x) script player b m a h ok err = finished script player b m a h ok
-log_ends (Err fault) script player b m a h ok err = unwritten script b m a fault h.shows.printed.none_failed err
+pub log_ends : {D : Type 0} (view : DeskView D) (r : Result (Unit {0}) ReplayFault) (script : Script) (player : Player D) (b m a : SinkState) → PlayedTo view (setting script.setup b) script.steps.items player m
+    → OnOk r (Delivers m a (log_text player.applier.records (outcomes_of player.applier.table player.applier.records))) → IfErr r (IsWriteEnd m a) → EndsPlaying (IsShown view) script b a (fault_in r)
+log_ends view (Ok x) script player b m a h ok err = finished view script player b m a h ok
+log_ends view (Err fault) script player b m a h ok err = unwritten (IsShown view) script b m a fault h.shows.printed.none_failed err
 
-fault_is : (result : Result (Unit {0}) ReplayFault) (fault : ReplayFault) (script : Script) (b a : SinkState) → result ≡ Err fault → EndsPlaying script b a (Some fault) → EndsPlaying script b a (fault_in result)
-fault_is result fault script b a is ends = rw is ends
+fault_is : (rules : Limits → Run → Type 0) (result : Result (Unit {0}) ReplayFault) (fault : ReplayFault) (script : Script) (b a : SinkState) → result ≡ Err fault → EndsPlaying rules script b a (Some fault) → EndsPlaying rules script b a (fault_in result)
+fault_is rules result fault script b a is ends = rw is ends
 
 -- the log page after a full log ends the replay
-pub full_ends : (printed result : Result (Unit {0}) ReplayFault) (script : Script) (kept : ApplierView) (b m a : SinkState) → PlayedFull (setting script.setup b) script.steps.items kept m
+pub full_ends : {D : Type 0} (view : DeskView D) (printed result : Result (Unit {0}) ReplayFault) (script : Script) (kept : ApplierView) (b m a : SinkState) → PlayedFull view (setting script.setup b) script.steps.items kept m
     → OnOk printed (Delivers m a (log_text kept.records (outcomes_of kept.table kept.records))) → IfErr printed (IsWriteEnd m a)
-    → OnOk printed (result ≡ Err LogFull) → IfErr printed (λ other. result ≡ Err other) → EndsPlaying script b a (fault_in result)
-full_ends (Ok done) result script kept b m a h ok err is other = fault_is result LogFull script b a is (finished_full script kept b m a h ok)
-full_ends (Err fault) result script kept b m a h ok err is other = fault_is result fault script b a other (unwritten script b m a fault h.ends.printed.none_failed err)
+    → OnOk printed (result ≡ Err LogFull) → IfErr printed (λ other. result ≡ Err other) → EndsPlaying (IsShown view) script b a (fault_in result)
+full_ends view (Ok done) result script kept b m a h ok err is other = fault_is (IsShown view) result LogFull script b a is (finished_full view script kept b m a h ok)
+full_ends view (Err fault) result script kept b m a h ok err is other = fault_is (IsShown view) result fault script b a other (unwritten (IsShown view) script b m a fault h.ends.printed.none_failed err)
 
 -- the log page after memory ran out ends the replay
-pub memory_ends : (printed result : Result (Unit {0}) ReplayFault) (script : Script) (b m a : SinkState) → Fails b.failures m.failures 0
-    → IfErr printed (IsWriteEnd m a) → OnOk printed (result ≡ Err OutOfMemory) → IfErr printed (λ other. result ≡ Err other) → EndsPlaying script b a (fault_in result)
-memory_ends (Ok done) result script b m a none_failed err is other = fault_is result OutOfMemory script b a is tt
-memory_ends (Err fault) result script b m a none_failed err is other = fault_is result fault script b a other (unwritten script b m a fault none_failed err)
+pub memory_ends : (rules : Limits → Run → Type 0) (printed result : Result (Unit {0}) ReplayFault) (script : Script) (b m a : SinkState) → Fails b.failures m.failures 0
+    → IfErr printed (IsWriteEnd m a) → OnOk printed (result ≡ Err OutOfMemory) → IfErr printed (λ other. result ≡ Err other) → EndsPlaying rules script b a (fault_in result)
+memory_ends rules (Ok done) result script b m a none_failed err is other = fault_is rules result OutOfMemory script b a is tt
+memory_ends rules (Err fault) result script b m a none_failed err is other = fault_is rules result fault script b a other (unwritten rules script b m a fault none_failed err)
+
+-- ---- the rules that the queue kept
+
+kept_too : (rules others : Limits → Run → Type 0) (script : Script) (b a : SinkState) (full : Bool) → ((limits : Limits) (run : Run) → rules limits run → others limits run) → IsPrinted rules script b a full → IsPrinted others script b a full
+kept_too rules others script b a full weaker h = record {
+  gateway = h.gateway;
+  played = record { done = h.played.done; steps_are = h.played.steps_are; whole = h.played.whole; is = h.played.is; kept = weaker _ h.gateway.run h.played.kept };
+  full_is = h.full_is;
+  printed = h.printed;
+}
+
+-- a queue that keeps some rules keeps those that follow from them
+pub ends_too : (rules others : Limits → Run → Type 0) (script : Script) (b a : SinkState) (end : Option ReplayFault) → ((limits : Limits) (run : Run) → rules limits run → others limits run) → EndsPlaying rules script b a end → EndsPlaying others script b a end
+ends_too rules others script b a None weaker h = kept_too rules others script b a false weaker h
+ends_too rules others script b a (Some TooLong) weaker h = h
+ends_too rules others script b a (Some (Line number)) weaker h = h
+ends_too rules others script b a (Some LogFull) weaker h = kept_too rules others script b a true weaker h
+ends_too rules others script b a (Some OutOfMemory) weaker h = h
+ends_too rules others script b a (Some ReadFault) weaker h = h
+ends_too rules others script b a (Some WriteFault) weaker h = h

@@ -2,6 +2,8 @@
 use Rattle.std.proofs.Common.{◌≡◌, ℕ, ◌<◌, ◌≤◌, ◌++◌, List, [], length, take, Option, Some, None, refl, ap, ◌∙◌, arith, take_all}
 use Rattle.std.specs.Prelude.{IfSome, option_map}
 use Rattle.std.proofs.lemmas.List.{length-take}
+use Rattle.gate_core.specs.Limits.{Limits}
+use Rattle.gate_core.specs.Legal.{Run}
 use Rattle.gate_replay.specs.declared.fault.ReplayFault.{ReplayFault}
 use Rattle.gate_replay.specs.declared.fault.ReplayFault.TheVariants.{TooLong, Line, LogFull, OutOfMemory, ReadFault, WriteFault}
 use Rattle.gate_replay.specs.declared.script.Script.{Script}
@@ -22,25 +24,25 @@ whole_text (Some bytes) front items most e h few =
     k ∙ take_all most bytes short
 
 -- an input that was read and is a script
-pub played_input : (input : Option (List ℕ)) (text : List ℕ) (played : Script) (fault : Option ReplayFault) (b a : SinkState) → IsWholeInput input text → length text ≤ 1048576 → IsScript (parsed_lines text) played → EndsPlaying played b a fault → EndsWith input b a fault
-played_input input text played None b a whole short parsed h = record { text = text; whole = whole; short = short; script = played; parsed = parsed; gateway = h.gateway; played = h.played; full_is = h.full_is; printed = h.printed }
-played_input input text played (Some TooLong) b a whole short parsed h = absurd h
-played_input input text played (Some (Line number)) b a whole short parsed h = absurd h
-played_input input text played (Some LogFull) b a whole short parsed h = record { text = text; whole = whole; short = short; script = played; parsed = parsed; gateway = h.gateway; played = h.played; full_is = h.full_is; printed = h.printed }
-played_input input text played (Some OutOfMemory) b a whole short parsed h = h
-played_input input text played (Some ReadFault) b a whole short parsed h = absurd h
-played_input input text played (Some WriteFault) b a whole short parsed h = h
+pub played_input : (rules : Limits → Run → Type 0) (input : Option (List ℕ)) (text : List ℕ) (played : Script) (fault : Option ReplayFault) (b a : SinkState) → IsWholeInput input text → length text ≤ 1048576 → IsScript (parsed_lines text) played → EndsPlaying rules played b a fault → EndsWith rules input b a fault
+played_input rules input text played None b a whole short parsed h = record { text = text; whole = whole; short = short; script = played; parsed = parsed; gateway = h.gateway; played = h.played; full_is = h.full_is; printed = h.printed }
+played_input rules input text played (Some TooLong) b a whole short parsed h = absurd h
+played_input rules input text played (Some (Line number)) b a whole short parsed h = absurd h
+played_input rules input text played (Some LogFull) b a whole short parsed h = record { text = text; whole = whole; short = short; script = played; parsed = parsed; gateway = h.gateway; played = h.played; full_is = h.full_is; printed = h.printed }
+played_input rules input text played (Some OutOfMemory) b a whole short parsed h = h
+played_input rules input text played (Some ReadFault) b a whole short parsed h = absurd h
+played_input rules input text played (Some WriteFault) b a whole short parsed h = h
 
 -- an input that was read and is no script
-pub faulty_input : (input : Option (List ℕ)) (text : List ℕ) (fault : ScriptFault) (a : SinkState) → IsWholeInput input text → length text ≤ 1048576 → IsFaultOf (parsed_lines text) fault → EndsWith input a a (Some (replay_fault fault))
-faulty_input input text (script.Line number) a whole short h = (record { text = text; whole = whole; short = short; faulty = h }, refl)
-faulty_input input text script.OutOfMemory a whole short h = tt
+pub faulty_input : (rules : Limits → Run → Type 0) (input : Option (List ℕ)) (text : List ℕ) (fault : ScriptFault) (a : SinkState) → IsWholeInput input text → length text ≤ 1048576 → IsFaultOf (parsed_lines text) fault → EndsWith rules input a a (Some (replay_fault fault))
+faulty_input rules input text (script.Line number) a whole short h = (record { text = text; whole = whole; short = short; faulty = h }, refl)
+faulty_input rules input text script.OutOfMemory a whole short h = tt
 
 -- an input that wasn't read
-pub unread_input : (input : Option (List ℕ)) (fault : ReplayFault) (a : SinkState) → IsInputFault input fault → EndsWith input a a (Some fault)
-unread_input input TooLong a h = (h, refl)
-unread_input input (Line number) a h = absurd h
-unread_input input LogFull a h = absurd h
-unread_input input OutOfMemory a h = h
-unread_input input ReadFault a h = refl
-unread_input input WriteFault a h = absurd h
+pub unread_input : (rules : Limits → Run → Type 0) (input : Option (List ℕ)) (fault : ReplayFault) (a : SinkState) → IsInputFault input fault → EndsWith rules input a a (Some fault)
+unread_input rules input TooLong a h = (h, refl)
+unread_input rules input (Line number) a h = absurd h
+unread_input rules input LogFull a h = absurd h
+unread_input rules input OutOfMemory a h = h
+unread_input rules input ReadFault a h = refl
+unread_input rules input WriteFault a h = absurd h

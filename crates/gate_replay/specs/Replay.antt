@@ -1,9 +1,11 @@
 -- What a replay prints, how it ends, and what it reports. It prints an answer to each packet and each
 -- line, a status page where one is asked for, and then the log page. The main definitions are
--- `printed_by`, `EndsWith`, `IsReplayRun`.
+-- `printed_by`, `EndsWith`, `IsReplayRun`. The rules are those that the queue's answers keep.
 -- Own rule: a script has at most 1,048,576 bytes.
 use Rattle.std.specs.Prelude.{◌≡◌, ℕ, ◌<◌, ◌≤◌, ◌⊎◌, Option, Some, None, Result, Ok, Err, IfSome, Bool, true, false, List, ◌++◌, length}
 use Rattle.gate_model.specs.Meaning.{outcomes_of}
+use Rattle.gate_core.specs.Limits.{Limits}
+use Rattle.gate_core.specs.Legal.{Run}
 use Rattle.gate_reader.specs.Sink.{SinkState, Delivers, FailsOnce}
 use Rattle.gate_pages.specs.LogPage.{log_text}
 use Rattle.gate_replay.specs.declared.script.Script.{Script}
@@ -23,14 +25,14 @@ IsWholeInput input text = IfSome input (λ bytes. text ≡ bytes)
 
 -- the input is a script, a gateway played it whole, and the output grew by what that prints. The last
 -- is whether the log was full with an item left
-pub record IsReplay (input : Option (List ℕ)) (before after : SinkState) (full : Bool) : Type 0 where
+pub record IsReplay (rules : Limits → Run → Type 0) (input : Option (List ℕ)) (before after : SinkState) (full : Bool) : Type 0 where
   pub text : List ℕ
   pub whole : IsWholeInput input text
   pub short : length text ≤ 1048576
   pub script : Script
   pub parsed : IsScript (parsed_lines text) script
   pub gateway : Gateway
-  pub played : IsPlayed script gateway
+  pub played : IsPlayed rules script gateway
   pub full_is : gateway.full ≡ full
   pub printed : Delivers before after (printed_by script gateway)
 
@@ -47,14 +49,14 @@ IsTooLong input = IfSome input (λ bytes. 1048576 < length bytes)
 
 -- what is true of the input and of how the output grew, where a replay ends without a fault or with this
 -- one. At OutOfMemory nothing is claimed
-abbrev pub EndsWith : Option (List ℕ) → SinkState → SinkState → Option ReplayFault → Type 0
-EndsWith input before after None = IsReplay input before after false
-EndsWith input before after (Some TooLong) = IsTooLong input × (after ≡ before)
-EndsWith input before after (Some (Line number)) = HasFaultyLine input number × (after ≡ before)
-EndsWith input before after (Some LogFull) = IsReplay input before after true
-EndsWith input before after (Some OutOfMemory) = Unit {0}
-EndsWith input before after (Some ReadFault) = after ≡ before
-EndsWith input before after (Some WriteFault) = FailsOnce before after
+abbrev pub EndsWith : (Limits → Run → Type 0) → Option (List ℕ) → SinkState → SinkState → Option ReplayFault → Type 0
+EndsWith rules input before after None = IsReplay rules input before after false
+EndsWith rules input before after (Some TooLong) = IsTooLong input × (after ≡ before)
+EndsWith rules input before after (Some (Line number)) = HasFaultyLine input number × (after ≡ before)
+EndsWith rules input before after (Some LogFull) = IsReplay rules input before after true
+EndsWith rules input before after (Some OutOfMemory) = Unit {0}
+EndsWith rules input before after (Some ReadFault) = after ≡ before
+EndsWith rules input before after (Some WriteFault) = FailsOnce before after
 
 -- the fault that a result has
 abbrev pub fault_in : Result (Unit {0}) ReplayFault → Option ReplayFault
@@ -72,8 +74,8 @@ IsFaultReported (Some fault) before after = IsReported (message_of fault) before
 
 -- the replay of this input, with what is known of the output and of the errors before and after it, ends
 -- with this exit status
-pub record IsReplayRun (input : Option (List ℕ)) (output output_after errors errors_after : SinkState) (status : ℕ) : Type 0 where
+pub record IsReplayRun (rules : Limits → Run → Type 0) (input : Option (List ℕ)) (output output_after errors errors_after : SinkState) (status : ℕ) : Type 0 where
   pub fault : Option ReplayFault
   pub status_is : status ≡ status_at_end fault
-  pub ended : EndsWith input output output_after fault
+  pub ended : EndsWith rules input output output_after fault
   pub reported : IsFaultReported fault errors errors_after

@@ -1,6 +1,7 @@
 ghost use Rattle.std.specs.Prelude.{◌≡◌, List, map};
 ghost use Rattle.gate_model.specs.declared.record.Record.{Record};
-ghost use Rattle.gate_core.specs.Legal.{taken};
+ghost use Rattle.gate_core.specs.Legal.{taken, IsLegal};
+ghost use Rattle.gate_desk.specs.Allowed.{IsAllowed};
 ghost use Rattle.gate_replay.specs.declared.script.Step.{Step};
 ghost use Rattle.gate_replay.specs.declared.script.Setup.{Setup};
 ghost use Rattle.gate_replay.specs.declared.script.Script.{Script};
@@ -17,7 +18,10 @@ pub fn replay_laws()
         → steps_of done ≡ steps_of other → IsWhole setup done → IsWhole setup other
         → (gateway_after setup done).run ≡ (gateway_after setup other).run
         → gateway_after setup done ≡ gateway_after setup other }
-    // A script leads to one gateway at most.
+    // Over a World a script leads to one gateway at most.
     ensures one { (script : Script) (one other : Gateway)
-        → IsPlayed script one → IsPlayed script other → one ≡ other }
+        → IsPlayed IsLegal script one → IsPlayed IsLegal script other → one ≡ other }
+    // A gate's answers may be those of a World.
+    ensures allowed { (script : Script) (g : Gateway)
+        → IsPlayed IsLegal script g → IsPlayed IsAllowed script g }
 {}

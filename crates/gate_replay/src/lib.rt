@@ -1,8 +1,9 @@
 //! The replay of a script: its lines are parsed and checked whole before anything is done, and then
-//! played through a queue of two clients and an applier. Each packet is a session of client 1 and
-//! each operator's line one of client 2. It prints their answers, a status page where one is asked
-//! for, and in the end the log page; what stops it is reported in one line and an exit status. It
-//! prints to a `Sink`, and drops no failed write or flush.
+//! played through a queue of two clients and an applier. The queue is a gate, or a World for
+//! reference. Each packet is a session of client 1 and each operator's line one of client 2. It
+//! prints their answers, a status page where one is asked for, and in the end the log page; what
+//! stops it is reported in one line and an exit status. It prints to a `Sink`, and drops no failed
+//! write or flush.
 #![tactic(auto)]
 
 mod fault;
@@ -20,6 +21,6 @@ mod sessions;
 pub use fault::ReplayFault;
 pub use laws::replay_laws;
 pub use program::{ProgramFault, run_program};
-pub use replay::{SCRIPT_BYTES, replay_script, run_replay};
+pub use replay::{SCRIPT_BYTES, replay_over_world, replay_script, run_replay};
 pub use script::{Script, ScriptFault, Setup, Step, read_script};
 pub use script_line::{ScriptLine, read_script_line};

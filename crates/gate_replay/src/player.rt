@@ -1,11 +1,13 @@
-ghost use Rattle.std.specs.Prelude.{◌≡◌, ◌≢◌, ◌+◌, ◌<◌, ◌^◌, length, IfOk, IfErr, OnOk};
+ghost use Rattle.std.specs.Prelude.{◌≡◌, ◌≢◌, ◌+◌, ◌<◌, ◌^◌, [], length, IfOk, IfErr, OnOk};
+ghost use Rattle.gate_core.specs.Limits.{limits_of, default_quota};
+ghost use Rattle.gate_core.specs.Legal.{Run};
 ghost use Rattle.gate_reader.specs.Sink.{SinkState, sink_state, Fails};
 ghost use Rattle.gate_pages.specs.StatusPage.{status_text_at};
 ghost use Rattle.gate_replay.specs.declared.script.Step.TheVariants as step;
 ghost use Rattle.gate_replay.specs.declared.script.Setup.{Setup};
 ghost use Rattle.gate_replay.specs.Gateway.{Gateway, is_session};
 ghost use Rattle.gate_replay.specs.inner.Sessions.{queued_in};
-ghost use Rattle.gate_replay.specs.inner.Playing.{Setting, setting, Shows, IsNew, IsReady, Takes, Serves, Drains, DrainsFull, Plays, PlaysFull, PlayedTo, PlayedFull, IsWriteEnd, StopsBy};
+ghost use Rattle.gate_replay.specs.inner.Playing.{desk_view, Setting, setting, Shows, IsNew, IsUnderWay, IsReady, Takes, Serves, Drains, DrainsFull, Plays, PlaysFull, PlayedTo, PlayedFull, IsWriteEnd, StopsBy};
 
 use crate::fault::ReplayFault;
 use crate::printing::{print, print_answer};
@@ -13,17 +15,17 @@ use crate::script::{Setup, Step};
 use crate::serving::{serve_line, serve_packet};
 use crate::sessions::only_answer;
 use gate_applier::{Applier, PrepareCause, PrepareFault, Ready};
-use gate_core::World;
+use gate_desk::Desk;
 use gate_model::{Moment, Text};
 use gate_packet::Packet;
 use gate_pages::{Board, status_page};
 use gate_reader::{Answer, Sink};
 use std::alloc::{AllocError, Global};
 
-/// A replay under way.
+/// A replay under way, over a queue that is this desk.
 #[derive(Drop)]
-pub(crate) struct Player {
-    pub(crate) world: World,
+pub(crate) struct Player<D> {
+    pub(crate) desk: D,
     pub(crate) applier: Applier,
     pub(crate) clock: Moment,
     pub(crate) age: u32,
@@ -92,10 +94,12 @@ fn opens_session(step: &Step) -> bool
     matches!(step, Step::Packet(_) | Step::Line(_))
 }
 
-impl Player {
-    /// The replay that begins with this setup.
-    pub(crate) fn open(alloc: Global, setup: Setup) -> Result<Player, ReplayFault>
-        ensures begun { IfOk result (IsNew setup) }
+impl<D: Desk + Drop> Player<D> {
+    /// The replay over this desk that begins with this setup.
+    pub(crate) fn open(alloc: Global, desk: D, setup: Setup) -> Result<Player<D>, ReplayFault>
+        requires begun { D.after desk [] }
+        requires limits { D.limits desk ≡ limits_of 2 default_quota setup.capacity }
+        ensures begun { IfOk result (IsNew (desk_view D.after D.limits) setup) }
         ensures err { IfErr result (λ fault. fault ≡ ReplayFault.OutOfMemory) }
     {
         let Setup {
@@ -103,14 +107,11 @@ impl Player {
             moment,
             age,
             limit,
-            capacity,
+            capacity: _,
         } = setup;
-        let Ok(world) = World::open(alloc, 2, capacity as usize) else {
-            return Err(ReplayFault::OutOfMemory);
-        };
         match Applier::open(alloc, table, moment, limit) {
             Ok(applier) => Ok(Player {
-                world,
+                desk,
                 applier,
                 clock: moment,
                 age,
@@ -121,14 +122,16 @@ impl Player {
     }
 
     // Takes an item and records it. Without one there is nothing more to take.
-    fn take_one(self) -> Result<(Player, bool), Stopped>
-        ensures taken { IfOk result (λ turn. Takes self turn.0 turn.1) }
+    fn take_one(self) -> Result<(Player<D>, bool), Stopped>
+        requires { (run : Run) × D.after self.desk run }
+        ensures taken { IfOk result (λ turn.
+            Takes (desk_view D.after D.limits) self turn.0 turn.1) }
         ensures stopped { IfErr result (StopsBy
             (λ kept. (kept ≡ self.applier) × (length self.applier.records ≡ self.applier.limit))
             (Unit {0}) (λ _. ⊥)) }
     {
         let Player {
-            mut world,
+            desk,
             applier,
             clock,
             age,
@@ -138,11 +141,12 @@ impl Player {
             Ok(ready) => ready,
             Err(stop) => return Err(stop),
         };
-        match world.take() {
+        let (desk, item) = desk.take();
+        match item {
             Some(item) => {
                 let (applier, _) = ready.apply(item, clock);
                 let player = Player {
-                    world,
+                    desk,
                     applier,
                     clock,
                     age,
@@ -153,7 +157,7 @@ impl Player {
             None => {
                 let applier = ready.give_back();
                 let player = Player {
-                    world,
+                    desk,
                     applier,
                     clock,
                     age,
@@ -165,11 +169,14 @@ impl Player {
     }
 
     // Records what is queued.
-    fn drain(self) -> Result<Player, Stopped>
-        ensures drained { IfOk result (λ now. (s : Setting) (output : SinkState) (g : Gateway)
-            → Shows s self output g → Drains s now output g) }
-        ensures stopped { IfErr result (StopsBy (λ kept. (s : Setting) (output : SinkState)
-            (g : Gateway) → Shows s self output g → DrainsFull s kept output g)
+    fn drain(self) -> Result<Player<D>, Stopped>
+        requires { (output : SinkState) × IsUnderWay (desk_view D.after D.limits) self output }
+        ensures drained { let view = desk_view D.after D.limits in
+            IfOk result (λ now. (s : Setting) (output : SinkState) (g : Gateway)
+            → Shows view s self output g → Drains view s now output g) }
+        ensures stopped { let view = desk_view D.after D.limits in
+            IfErr result (StopsBy (λ kept. (s : Setting) (output : SinkState)
+            (g : Gateway) → Shows view s self output g → DrainsFull view s kept output g)
             (Unit {0}) (λ _. ⊥)) }
     {
         let mut player = self;
@@ -193,24 +200,27 @@ impl Player {
         alloc: Global,
         packet: &Packet,
         output: &mut W,
-    ) -> Result<Player, Stopped>
-        requires { IsReady self }
-        ensures served { let state = sink_state W.contents W.pending W.failures in
-            IfOk result (λ now. (s : Setting) (g : Gateway) → Shows s self (state output.old) g
-            → Serves s now (state output.new) (step.Packet packet.now) g) }
+    ) -> Result<Player<D>, Stopped>
+        requires { let state = sink_state W.contents W.pending W.failures in
+            IsReady (desk_view D.after D.limits) self (state output.old) }
+        ensures served { let view = desk_view D.after D.limits in
+            let state = sink_state W.contents W.pending W.failures in
+            IfOk result (λ now. (s : Setting) (g : Gateway)
+            → Shows view s self (state output.old) g
+            → Serves view s now (state output.new) (step.Packet packet.now) g) }
         ensures none_failed { OnOk result (Fails (W.failures output.old) (W.failures output.new) 0) }
         ensures stopped { let state = sink_state W.contents W.pending W.failures in
             IfErr result (StopsBy (λ _. ⊥) (Fails (W.failures output.old) (W.failures output.new) 0)
             (IsWriteEnd (state output.old) (state output.new))) }
     {
         let Player {
-            world,
+            desk,
             applier,
             clock,
             age,
             queued,
         } = self;
-        let (world, report) = serve_packet(alloc, world, packet, age, clock);
+        let (desk, report) = serve_packet(alloc, desk, packet, age, clock);
         let Some(answer) = only_answer(&report) else {
             return Err(Stopped::OutOfMemory(applier));
         };
@@ -219,7 +229,7 @@ impl Player {
         }
         let queued = queued_after(queued, answer);
         Ok(Player {
-            world,
+            desk,
             applier,
             clock,
             age,
@@ -228,25 +238,28 @@ impl Player {
     }
 
     // The session of an operator's line.
-    fn line<W: Sink>(self, alloc: Global, text: &Text, output: &mut W) -> Result<Player, Stopped>
-        requires { IsReady self }
-        ensures served { let state = sink_state W.contents W.pending W.failures in
-            IfOk result (λ now. (s : Setting) (g : Gateway) → Shows s self (state output.old) g
-            → Serves s now (state output.new) (step.Line text.now) g) }
+    fn line<W: Sink>(self, alloc: Global, text: &Text, output: &mut W) -> Result<Player<D>, Stopped>
+        requires { let state = sink_state W.contents W.pending W.failures in
+            IsReady (desk_view D.after D.limits) self (state output.old) }
+        ensures served { let view = desk_view D.after D.limits in
+            let state = sink_state W.contents W.pending W.failures in
+            IfOk result (λ now. (s : Setting) (g : Gateway)
+            → Shows view s self (state output.old) g
+            → Serves view s now (state output.new) (step.Line text.now) g) }
         ensures none_failed { OnOk result (Fails (W.failures output.old) (W.failures output.new) 0) }
         ensures stopped { let state = sink_state W.contents W.pending W.failures in
             IfErr result (StopsBy (λ _. ⊥) (Fails (W.failures output.old) (W.failures output.new) 0)
             (IsWriteEnd (state output.old) (state output.new))) }
     {
         let Player {
-            world,
+            desk,
             applier,
             clock,
             age,
             queued,
         } = self;
         let mut written = Vec::new(alloc);
-        let (world, report) = match serve_line(alloc, world, text, clock, &mut written) {
+        let (desk, report) = match serve_line(alloc, desk, text, clock, &mut written) {
             Ok(served) => served,
             Err(_) => return Err(Stopped::OutOfMemory(applier)),
         };
@@ -258,7 +271,7 @@ impl Player {
         }
         let queued = queued_after(queued, answer);
         Ok(Player {
-            world,
+            desk,
             applier,
             clock,
             age,
@@ -267,10 +280,12 @@ impl Player {
     }
 
     // The status page, at the clock's moment or the applier's, whichever is later.
-    fn page<W: Sink>(self, alloc: Global, output: &mut W) -> Result<Player, Stopped>
-        ensures served { let state = sink_state W.contents W.pending W.failures in
-            IfOk result (λ now. (s : Setting) (g : Gateway) → Shows s self (state output.old) g
-            → Serves s now (state output.new) step.Page g) }
+    fn page<W: Sink>(self, alloc: Global, output: &mut W) -> Result<Player<D>, Stopped>
+        ensures served { let view = desk_view D.after D.limits in
+            let state = sink_state W.contents W.pending W.failures in
+            IfOk result (λ now. (s : Setting) (g : Gateway)
+            → Shows view s self (state output.old) g
+            → Serves view s now (state output.new) step.Page g) }
         ensures none_failed { OnOk result (Fails (W.failures output.old) (W.failures output.new) 0) }
         ensures stopped { let state = sink_state W.contents W.pending W.failures in
             IfErr result (StopsBy (λ _. ⊥) (Fails (W.failures output.old) (W.failures output.new) 0)
@@ -288,11 +303,19 @@ impl Player {
     }
 
     // The step without its drain.
-    fn serve<W: Sink>(self, alloc: Global, step: &Step, output: &mut W) -> Result<Player, Stopped>
-        requires { IsReady self }
-        ensures served { let state = sink_state W.contents W.pending W.failures in
-            IfOk result (λ now. (s : Setting) (g : Gateway) → Shows s self (state output.old) g
-            → Serves s now (state output.new) step.now g) }
+    fn serve<W: Sink>(
+        self,
+        alloc: Global,
+        step: &Step,
+        output: &mut W,
+    ) -> Result<Player<D>, Stopped>
+        requires { let state = sink_state W.contents W.pending W.failures in
+            IsReady (desk_view D.after D.limits) self (state output.old) }
+        ensures served { let view = desk_view D.after D.limits in
+            let state = sink_state W.contents W.pending W.failures in
+            IfOk result (λ now. (s : Setting) (g : Gateway)
+            → Shows view s self (state output.old) g
+            → Serves view s now (state output.new) step.now g) }
         ensures none_failed { OnOk result (Fails (W.failures output.old) (W.failures output.new) 0) }
         ensures stopped { let state = sink_state W.contents W.pending W.failures in
             IfErr result (StopsBy (λ _. ⊥) (Fails (W.failures output.old) (W.failures output.new) 0)
@@ -310,14 +333,19 @@ impl Player {
         }
     }
 
-    fn step<W: Sink>(self, alloc: Global, step: &Step, output: &mut W) -> Result<Player, Stopped>
-        requires { IsReady self }
-        ensures played { let state = sink_state W.contents W.pending W.failures in
-            IfOk result (λ now. (s : Setting) (g : Gateway) → Shows s self (state output.old) g
-            → Plays s now (state output.new) step.now g) }
-        ensures stopped { let state = sink_state W.contents W.pending W.failures in
+    fn step<W: Sink>(self, alloc: Global, step: &Step, output: &mut W) -> Result<Player<D>, Stopped>
+        requires { let state = sink_state W.contents W.pending W.failures in
+            IsReady (desk_view D.after D.limits) self (state output.old) }
+        ensures played { let view = desk_view D.after D.limits in
+            let state = sink_state W.contents W.pending W.failures in
+            IfOk result (λ now. (s : Setting) (g : Gateway)
+            → Shows view s self (state output.old) g
+            → Plays view s now (state output.new) step.now g) }
+        ensures stopped { let view = desk_view D.after D.limits in
+            let state = sink_state W.contents W.pending W.failures in
             IfErr result (StopsBy (λ kept. (s : Setting) (g : Gateway)
-            → Shows s self (state output.old) g → PlaysFull s kept (state output.new) step.now g)
+            → Shows view s self (state output.old) g
+            → PlaysFull view s kept (state output.new) step.now g)
             (Fails (W.failures output.old) (W.failures output.new) 0)
             (IsWriteEnd (state output.old) (state output.new))) }
     {
@@ -340,14 +368,16 @@ impl Player {
         alloc: Global,
         steps: &[Step],
         output: &mut W,
-    ) -> Result<Player, Stopped>
-        requires { (setup : Setup) × IsNew setup self }
-        ensures played { let state = sink_state W.contents W.pending W.failures in
-            IfOk result (λ now. (setup : Setup) → IsNew setup self
-            → PlayedTo (setting setup (state output.old)) steps.now now (state output.new)) }
-        ensures stopped { let state = sink_state W.contents W.pending W.failures in
-            IfErr result (StopsBy (λ kept. (setup : Setup) → IsNew setup self
-            → PlayedFull (setting setup (state output.old)) steps.now kept (state output.new))
+    ) -> Result<Player<D>, Stopped>
+        requires { (setup : Setup) × IsNew (desk_view D.after D.limits) setup self }
+        ensures played { let view = desk_view D.after D.limits in
+            let state = sink_state W.contents W.pending W.failures in
+            IfOk result (λ now. (setup : Setup) → IsNew view setup self
+            → PlayedTo view (setting setup (state output.old)) steps.now now (state output.new)) }
+        ensures stopped { let view = desk_view D.after D.limits in
+            let state = sink_state W.contents W.pending W.failures in
+            IfErr result (StopsBy (λ kept. (setup : Setup) → IsNew view setup self
+            → PlayedFull view (setting setup (state output.old)) steps.now kept (state output.new))
             (Fails (W.failures output.old) (W.failures output.new) 0)
             (IsWriteEnd (state output.old) (state output.new))) }
     {

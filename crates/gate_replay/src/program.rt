@@ -1,4 +1,5 @@
 ghost use Rattle.std.specs.Prelude.{◌≡◌, ◌↔◌, IsTrue, OnOk, OnErr, map, codes, string_bytes};
+ghost use Rattle.gate_desk.specs.Allowed.{IsAllowed};
 ghost use Rattle.gate_reader.specs.Sink.{sink_state, Delivers, FailsOnce};
 ghost use Rattle.gate_replay.specs.Replay.{IsReplayRun};
 ghost use Rattle.gate_replay.specs.Program.{IsReplayAsked, status_without, line_on, IsRefusal};
@@ -9,6 +10,7 @@ use gate_reader::Sink;
 use std::alloc::{AllocError, Global};
 use std::io;
 use std::io::{ErrorKind, Read};
+use std::sync::Wait;
 use thiserror::Error;
 
 /// Why the program does nothing.
@@ -103,17 +105,18 @@ fn is_replay(words: &[String]) -> bool
 /// The one word `replay` replays the script on `input`, as `run_replay` does. Any other words, or
 /// none, are refused with status 2 and the line `nscagate: bad arguments` on `errors`: nothing is
 /// read and nothing printed. That a line can't be written to `errors` changes nothing. Own rules.
-pub fn run_program<R: Read, W: Sink, E: Sink>(
+pub fn run_program<R: Wait, I: Read, W: Sink, E: Sink>(
+    rt: &R,
     alloc: Global,
     words: &[String],
-    input: &mut R,
+    input: &mut I,
     output: &mut W,
     errors: &mut E,
 ) -> u8
     ensures replay { IsReplayAsked (map string_bytes words.now) →
         let of_output = sink_state W.contents W.pending W.failures in
         let of_errors = sink_state E.contents E.pending E.failures in
-        IsReplayRun (R.remaining input.old) (of_output output.old) (of_output output.new)
+        IsReplayRun IsAllowed (I.remaining input.old) (of_output output.old) (of_output output.new)
         (of_errors errors.old) (of_errors errors.new) result }
 
     ensures refused { ¬ IsReplayAsked (map string_bytes words.now) →
@@ -123,7 +126,7 @@ pub fn run_program<R: Read, W: Sink, E: Sink>(
     ensures unprinted { ¬ IsReplayAsked (map string_bytes words.now) → output.new ≡ output.old }
 {
     if is_replay(words) {
-        run_replay(alloc, input, output, errors)
+        run_replay(rt, alloc, input, output, errors)
     } else {
         ProgramFault::BadArguments.end(errors)
     }

@@ -1,27 +1,34 @@
-ghost use Rattle.std.specs.Prelude.{◌≡◌, ◌≤◌, length, IfOk, IfErr, OnOk};
+ghost use Rattle.std.specs.Prelude.{◌≡◌, ◌≤◌, [], length, IfOk, IfErr, OnOk};
 ghost use Rattle.gate_model.specs.Meaning.{outcomes_of};
+ghost use Rattle.gate_core.specs.Limits.{limits_of, default_quota};
+ghost use Rattle.gate_core.specs.Legal.{IsLegal};
+ghost use Rattle.gate_desk.specs.Allowed.{IsAllowed};
 ghost use Rattle.gate_pages.specs.LogPage.{log_text};
 ghost use Rattle.gate_reader.specs.Sink.{sink_state, Delivers};
 ghost use Rattle.gate_replay.specs.Replay.{IsWholeInput, fault_in, EndsWith, IsReplayRun};
-ghost use Rattle.gate_replay.specs.inner.Playing.{IsWriteEnd, EndsPlaying, IsInputFault};
+ghost use Rattle.gate_replay.specs.inner.Playing.{desk_view, IsShown, IsWriteEnd, EndsPlaying, IsInputFault};
 
 use crate::fault::{ReplayFault, read_fault};
 use crate::player::{Player, Stopped};
 use crate::printing::{deliver, print};
 use crate::script::{Script, read_script};
 use gate_applier::Applier;
+use gate_core::{LocalClient, World};
+use gate_desk::{Desk, GateDesk};
 use gate_pages::log_page;
+use gate_queue::open;
 use gate_reader::Sink;
 use std::alloc::Global;
 use std::io::Read;
+use std::sync::Wait;
 
 /// The most bytes of a script.
 pub const SCRIPT_BYTES: u64 = 1_048_576;
 
-fn read_input<R: Read>(alloc: Global, input: &mut R) -> Result<Vec<u8>, ReplayFault>
-    ensures whole { IfOk result (λ text. IsWholeInput (R.remaining input.old) text.items) }
+fn read_input<I: Read>(alloc: Global, input: &mut I) -> Result<Vec<u8>, ReplayFault>
+    ensures whole { IfOk result (λ text. IsWholeInput (I.remaining input.old) text.items) }
     ensures short { IfOk result (λ text. length text.items ≤ 1048576) }
-    ensures err { IfErr result (IsInputFault (R.remaining input.old)) }
+    ensures err { IfErr result (IsInputFault (I.remaining input.old)) }
 {
     let mut text = Vec::new(alloc);
     let mut input = input.take(SCRIPT_BYTES + 1);
@@ -65,13 +72,22 @@ fn fault_after(printed: Result<(), ReplayFault>, fault: ReplayFault) -> Result<(
     Err(fault)
 }
 
-// Plays a script, and prints the log of what was applied, unless a write failed.
-fn run<W: Sink>(alloc: Global, script: Script, output: &mut W) -> Result<(), ReplayFault>
+// Plays a script over a desk at which nothing happened yet, and prints the log of what was applied,
+// unless a write failed.
+fn play_over<D: Desk + Drop, W: Sink>(
+    alloc: Global,
+    desk: D,
+    script: Script,
+    output: &mut W,
+) -> Result<(), ReplayFault>
+    requires begun { D.after desk [] }
+    requires limits { D.limits desk ≡ limits_of 2 default_quota script.setup.capacity }
     ensures { let state = sink_state W.contents W.pending W.failures in
-        EndsPlaying script (state output.old) (state output.new) (fault_in result) }
+        EndsPlaying (IsShown (desk_view D.after D.limits)) script
+        (state output.old) (state output.new) (fault_in result) }
 {
     let Script { setup, steps } = script;
-    let player = Player::open(alloc, setup)?;
+    let player = Player::open(alloc, desk, setup)?;
     match player.play(alloc, &steps, output) {
         Ok(player) => print_log(alloc, &player.applier, output),
         Err(Stopped::Full(applier)) => {
@@ -86,45 +102,106 @@ fn run<W: Sink>(alloc: Global, script: Script, output: &mut W) -> Result<(), Rep
     }
 }
 
-/// Reads a script, checks it whole and plays it over a queue of two clients: it prints an answer for
+// Plays a script over a World, and prints the log.
+fn play_over_world<W: Sink>(
+    alloc: Global,
+    script: Script,
+    output: &mut W,
+) -> Result<(), ReplayFault>
+    ensures { let state = sink_state W.contents W.pending W.failures in
+        EndsPlaying IsLegal script (state output.old) (state output.new) (fault_in result) }
+{
+    let Ok(world) = World::open(alloc, 2, script.setup.capacity as usize) else {
+        return Err(ReplayFault::OutOfMemory);
+    };
+    let desk = LocalClient::new(world, 1).ok().unwrap();
+    play_over(alloc, desk, script, output)
+}
+
+// Plays a script over a gate, and prints the log.
+fn play_over_gate<R: Wait, W: Sink>(
+    rt: &R,
+    alloc: Global,
+    script: Script,
+    output: &mut W,
+) -> Result<(), ReplayFault>
+    ensures { let state = sink_state W.contents W.pending W.failures in
+        EndsPlaying IsAllowed script (state output.old) (state output.new) (fault_in result) }
+{
+    let Ok((gate, taker, closer, mut clients)) = open(alloc, 2, script.setup.capacity as usize)
+    else {
+        return Err(ReplayFault::OutOfMemory);
+    };
+    let two = clients.pop().unwrap();
+    let one = clients.pop().unwrap();
+    let desk = GateDesk::new(rt, alloc, &gate, taker, closer, one, two);
+    play_over(alloc, desk, script, output)
+}
+
+/// Reads a script, checks it whole and plays it over a gate of two clients: it prints an answer for
 /// each packet and each line that arrives, the status page where it is asked for, and in the end the
 /// log page, also where the log was full with an item left.
+///
+/// The queue's answers keep the rules that a gate keeps whatever other threads do. Those leave open
+/// that it answers full although there is room, that a take finds nothing although items wait, and
+/// which body a taken item has before its client has ended. All else that is printed follows from
+/// the script and these answers.
 ///
 /// TooLong and Line are faults of the input, before anything is printed: it has more than 1,048,576
 /// bytes, or a first faulty line. LogFull is an item that finds the log full. ReadFault is a failed
 /// call of `input` and WriteFault one of `output`, unless its error is out of memory. After a failed
 /// call of `output` no other is made. OutOfMemory may come instead of any other answer, and the log
 /// page is printed then too, if it can be made. Own rules.
-pub fn replay_script<R: Read, W: Sink>(
+pub fn replay_script<R: Wait, I: Read, W: Sink>(
+    rt: &R,
     alloc: Global,
-    input: &mut R,
+    input: &mut I,
     output: &mut W,
 ) -> Result<(), ReplayFault>
     ensures { let state = sink_state W.contents W.pending W.failures in
-        EndsWith (R.remaining input.old) (state output.old) (state output.new) (fault_in result) }
+        EndsWith IsAllowed (I.remaining input.old) (state output.old) (state output.new)
+        (fault_in result) }
 {
     let text = read_input(alloc, input)?;
     let script = read_script(alloc, &text)?;
-    run(alloc, script, output)
+    play_over_gate(rt, alloc, script, output)
 }
 
-/// Replays a script, reports what stops it in one line on `errors`, and returns the exit status.
+/// Does what `replay_script` does, over a World in place of a gate. Its answers are those of the
+/// machine of all interleavings, so the script alone decides what is printed.
+pub fn replay_over_world<I: Read, W: Sink>(
+    alloc: Global,
+    input: &mut I,
+    output: &mut W,
+) -> Result<(), ReplayFault>
+    ensures { let state = sink_state W.contents W.pending W.failures in
+        EndsWith IsLegal (I.remaining input.old) (state output.old) (state output.new)
+        (fault_in result) }
+{
+    let text = read_input(alloc, input)?;
+    let script = read_script(alloc, &text)?;
+    play_over_world(alloc, script, output)
+}
+
+/// Replays a script over a gate, reports what stops it in one line on `errors`, and returns the
+/// exit status.
 ///
 /// The status is 0 where all of the script was replayed and delivered; 2 where the input is no
 /// script, and then nothing was printed; 3 where the log is full with an item left, memory ran out,
 /// or input or output failed. That a line can't be written to `errors` changes nothing. Own rules.
-pub fn run_replay<R: Read, W: Sink, E: Sink>(
+pub fn run_replay<R: Wait, I: Read, W: Sink, E: Sink>(
+    rt: &R,
     alloc: Global,
-    input: &mut R,
+    input: &mut I,
     output: &mut W,
     errors: &mut E,
 ) -> u8
     ensures { let of_output = sink_state W.contents W.pending W.failures in
         let of_errors = sink_state E.contents E.pending E.failures in
-        IsReplayRun (R.remaining input.old) (of_output output.old) (of_output output.new)
+        IsReplayRun IsAllowed (I.remaining input.old) (of_output output.old) (of_output output.new)
         (of_errors errors.old) (of_errors errors.new) result }
 {
-    match replay_script(alloc, input, output) {
+    match replay_script(rt, alloc, input, output) {
         Ok(()) => 0,
         Err(fault) => {
             let _ = fault.report(errors);

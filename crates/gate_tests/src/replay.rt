@@ -1,13 +1,17 @@
 use gate_reader::Sink;
-use gate_replay::{run_program, run_replay};
+use gate_replay::{replay_over_world, replay_script, run_program, run_replay};
 use std::alloc::Global;
 use std::io;
 use std::io::{Error, ErrorKind, Read, Write};
+use std::sync::Wait;
 
 const SCRIPT: &[u8] = b"open;1000;9;4;1\npacket;1000;0;web1;;a\npacket;1;0;web1;;b\n";
 
 const PRINTED: &[u8] = b"queued 1\nStale\nlog 1\n\
 [1000] 1:1 PROCESS_HOST_CHECK_RESULT;web1;0;a -> NoSuchHost\n";
+
+/// A script whose second packet finds the log full.
+const FULL_LOG: &[u8] = b"open;0;0;1;1\npacket;0;0;a;;\npacket;0;0;a;;\n";
 
 /// A reader of so many line ends, which then ends, or fails with this kind of error.
 #[derive(Drop)]
@@ -125,41 +129,55 @@ fn fails_after(alloc: Global, left: usize, kind: ErrorKind) -> FailsOnce {
 }
 
 /// Whether the replay of this input ends so.
-fn ends<R: Read>(
+fn ends<R: Wait, I: Read>(
+    rt: &R,
     alloc: Global,
-    input: &mut R,
+    input: &mut I,
     status: u8,
     printed: &[u8],
     reported: &[u8],
 ) -> bool {
     let mut output = Vec::new(alloc);
     let mut errors = Vec::new(alloc);
-    run_replay(alloc, input, &mut output, &mut errors) == status
+    run_replay(rt, alloc, input, &mut output, &mut errors) == status
         && output.as_slice() == printed
         && errors.as_slice() == reported
 }
 
 /// Whether the replay of the script to this output ends so.
-fn ends_to<W: Sink>(alloc: Global, output: &mut W, status: u8, reported: &[u8]) -> bool {
+fn ends_to<R: Wait, W: Sink>(
+    rt: &R,
+    alloc: Global,
+    output: &mut W,
+    status: u8,
+    reported: &[u8],
+) -> bool {
     let mut input = SCRIPT;
     let mut errors = Vec::new(alloc);
-    run_replay(alloc, &mut input, output, &mut errors) == status && errors.as_slice() == reported
+    run_replay(rt, alloc, &mut input, output, &mut errors) == status
+        && errors.as_slice() == reported
 }
 
 /// Whether nothing is written after the one write that fails, at this offset of the output.
-fn stops_at(alloc: Global, offset: usize, kind: ErrorKind, reported: &[u8]) -> bool {
+fn stops_at<R: Wait>(
+    rt: &R,
+    alloc: Global,
+    offset: usize,
+    kind: ErrorKind,
+    reported: &[u8],
+) -> bool {
     let mut output = fails_after(alloc, offset, kind);
-    ends_to(alloc, &mut output, 3, reported)
+    ends_to(rt, alloc, &mut output, 3, reported)
         && output.taken.len() == offset
         && PRINTED.starts_with(&output.taken)
 }
 
 /// Whether the status is this one where the errors can't be written.
-fn ends_unreported(alloc: Global, script: &[u8], status: u8) -> bool {
+fn ends_unreported<R: Wait>(rt: &R, alloc: Global, script: &[u8], status: u8) -> bool {
     let mut input = script;
     let mut output = Vec::new(alloc);
     let mut errors = fails_after(alloc, 0, ErrorKind::BrokenPipe);
-    run_replay(alloc, &mut input, &mut output, &mut errors) == status
+    run_replay(rt, alloc, &mut input, &mut output, &mut errors) == status
 }
 
 fn text_of(alloc: Global, words: &[&str]) -> Option<Vec<String>> {
@@ -171,14 +189,21 @@ fn text_of(alloc: Global, words: &[&str]) -> Option<Vec<String>> {
 }
 
 /// Whether the program with these words ends so, with the script as its input.
-fn runs(alloc: Global, words: &[&str], status: u8, printed: &[u8], reported: &[u8]) -> bool {
+fn runs<R: Wait>(
+    rt: &R,
+    alloc: Global,
+    words: &[&str],
+    status: u8,
+    printed: &[u8],
+    reported: &[u8],
+) -> bool {
     let Some(words) = text_of(alloc, words) else {
         return false;
     };
     let mut input = SCRIPT;
     let mut output = Vec::new(alloc);
     let mut errors = Vec::new(alloc);
-    run_program(alloc, &words, &mut input, &mut output, &mut errors) == status
+    run_program(rt, alloc, &words, &mut input, &mut output, &mut errors) == status
         && output.as_slice() == printed
         && errors.as_slice() == reported
 }
@@ -186,7 +211,28 @@ fn runs(alloc: Global, words: &[&str], status: u8, printed: &[u8], reported: &[u
 #[test]
 fn a_script_is_replayed(rt: HostRuntime) {
     let mut input = SCRIPT;
-    assert!(rt; ends(rt.alloc(), &mut input, 0, PRINTED, b""));
+    assert!(rt; ends(&rt, rt.alloc(), &mut input, 0, PRINTED, b""));
+}
+
+/// A script with a stale packet, a faulty line, a page and two closes.
+const EACH_ANSWER: &[u8] = b"object;60;web1\nopen;1000;9;1;2\n\
+packet;1000;0;web1;;up\npacket;1;0;web1;;late\nline;[1000] NO_SUCH_NAME\nclock;1010\n\
+line;[1000] DEL_HOST_COMMENT;7\npage\nline;[1] SHUTDOWN_PROGRAM\npacket;1010;0;web1;;up\n\
+line;[1] SHUTDOWN_PROGRAM\n";
+
+fn is_same_over_a_world<R: Wait>(rt: &R, alloc: Global, script: &[u8]) -> bool {
+    let (mut input, mut again) = (script, script);
+    let mut over_gate = Vec::new(alloc);
+    let mut over_world = Vec::new(alloc);
+    let ended = replay_script(rt, alloc, &mut input, &mut over_gate);
+    replay_over_world(alloc, &mut again, &mut over_world) == ended && over_world == over_gate
+}
+
+#[test]
+fn a_gate_and_a_world_print_the_same(rt: HostRuntime) {
+    for script in [SCRIPT, EACH_ANSWER, FULL_LOG] {
+        assert!(&rt; is_same_over_a_world(&rt, rt.alloc(), script));
+    }
 }
 
 #[test]
@@ -195,7 +241,7 @@ fn an_interrupted_read_is_made_again(rt: HostRuntime) {
         pending: true,
         text: SCRIPT,
     };
-    assert!(rt; ends(rt.alloc(), &mut input, 0, PRINTED, b""));
+    assert!(rt; ends(&rt, rt.alloc(), &mut input, 0, PRINTED, b""));
 }
 
 #[rattlefmt::skip]
@@ -214,7 +260,7 @@ fn a_long_or_unreadable_input_is_reported_by_its_cause(rt: HostRuntime) {
     for (left, fails, status, reported) in LENGTHS {
         let mut input = LineEnds { left, fails };
         assert!(&rt;
-            ends(rt.alloc(), &mut input, status, b"", reported),
+            ends(&rt, rt.alloc(), &mut input, status, b"", reported),
             "{left}"
         );
     }
@@ -222,7 +268,15 @@ fn a_long_or_unreadable_input_is_reported_by_its_cause(rt: HostRuntime) {
 
 #[test]
 fn a_failed_flush_is_a_failed_output(rt: HostRuntime) {
-    assert!(rt; ends_to(rt.alloc(), &mut FailsToFlush, 3, b"nscagate: WriteFault\n"));
+    assert!(rt;
+        ends_to(
+            &rt,
+            rt.alloc(),
+            &mut FailsToFlush,
+            3,
+            b"nscagate: WriteFault\n"
+        )
+    );
 }
 
 #[test]
@@ -230,6 +284,7 @@ fn nothing_is_written_after_a_failed_write(rt: HostRuntime) {
     for offset in 0..PRINTED.len() {
         assert!(&rt;
             stops_at(
+                &rt,
                 rt.alloc(),
                 offset,
                 ErrorKind::BrokenPipe,
@@ -245,6 +300,7 @@ fn a_writer_that_is_out_of_memory_is_no_failed_output(rt: HostRuntime) {
     for offset in 0..PRINTED.len() {
         assert!(&rt;
             stops_at(
+                &rt,
                 rt.alloc(),
                 offset,
                 ErrorKind::OutOfMemory,
@@ -257,18 +313,17 @@ fn a_writer_that_is_out_of_memory_is_no_failed_output(rt: HostRuntime) {
 
 #[test]
 fn errors_that_cannot_be_written_change_no_status(rt: HostRuntime) {
-    for (script, status) in [
-        (b"page\n".as_slice(), 2),
-        (b"open;0;0;1;1\npacket;0;0;a;;\npacket;0;0;a;;\n", 3),
-        (SCRIPT, 0),
-    ] {
-        assert!(&rt; ends_unreported(rt.alloc(), script, status), "{status}");
+    for (script, status) in [(b"page\n".as_slice(), 2), (FULL_LOG, 3), (SCRIPT, 0)] {
+        assert!(&rt;
+            ends_unreported(&rt, rt.alloc(), script, status),
+            "{status}"
+        );
     }
 }
 
 #[test]
 fn only_the_one_word_replay_replays(rt: HostRuntime) {
-    assert!(rt; runs(rt.alloc(), &["replay"], 0, PRINTED, b""));
+    assert!(rt; runs(&rt, rt.alloc(), &["replay"], 0, PRINTED, b""));
 }
 
 #[test]
@@ -281,6 +336,6 @@ fn other_words_are_bad_arguments(rt: HostRuntime) {
         &["Replay"],
         &[""],
     ] {
-        assert!(&rt; runs(rt.alloc(), words, 2, b"", b"nscagate: bad arguments\n"));
+        assert!(&rt; runs(&rt, rt.alloc(), words, 2, b"", b"nscagate: bad arguments\n"));
     }
 }

@@ -19,7 +19,8 @@ fn main(rt: HostRuntime) -> ExitCode {
         Ok(words) => match BufWriter::new(rt.alloc(), rt.stdout().lock()) {
             Ok(mut output) => {
                 let mut input = rt.stdin().lock();
-                let status = run_program(rt.alloc(), &words, &mut input, &mut output, &mut errors);
+                let status =
+                    run_program(&rt, rt.alloc(), &words, &mut input, &mut output, &mut errors);
                 // What a failed write left in the buffer is never written.
                 let _unwritten = output.into_parts();
                 status

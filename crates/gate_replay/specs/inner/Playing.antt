@@ -3,10 +3,11 @@ use Rattle.std.specs.Prelude.{◌≡◌, ◌≢◌, ℕ, ◌<◌, ◌^◌, List,
 use Rattle.std.specs.Bool.{MatchBool}
 use Rattle.gate_model.specs.declared.submission.Numbered.{Numbered}
 use Rattle.gate_model.specs.Record.{later}
-use Rattle.gate_core.specs.Limits.{limits_of, default_quota}
-use Rattle.gate_core.specs.Legal.{Run, has_ended, IsLegal}
-use Rattle.gate_core.specs.State.{WorldState, StandsAfter, Extends}
+use Rattle.gate_core.specs.Limits.{Limits, limits_of, default_quota}
+use Rattle.gate_core.specs.Legal.{Run}
+use Rattle.gate_core.specs.declared.event.Event.{Event}
 use Rattle.gate_core.specs.declared.event.Event.TheVariants.{Take}
+use Rattle.gate_core.specs.declared.event.Reply.{Reply}
 use Rattle.gate_core.specs.declared.event.Reply.TheVariants.{Taken, Empty}
 use Rattle.gate_applier.specs.Applier.{ApplierView, opened}
 use Rattle.gate_reader.specs.Sink.{SinkState, FailsOnce, Writes, Delivers}
@@ -20,6 +21,32 @@ use Rattle.gate_replay.specs.declared.script.Setup.{Setup}
 use Rattle.gate_replay.specs.declared.script.Script.{Script}
 use Rattle.gate_replay.specs.Gateway.{Gateway, Heard, number_queued, serves, drains, plays, gateway_after, steps_of, Finishes, IsWholeStep, IsWhole, IsPlayed}
 use Rattle.gate_replay.specs.Replay.{IsTooLong, printed_by}
+
+-- ---- a desk
+
+-- what a desk's type knows of it: the runs that may be what happened at it, and its limits
+pub record DeskView (D : Type 0) : Type 1 where
+  pub after : D → Run → Type 0
+  pub limits : D → Limits
+
+-- the view with these members of the desk's type
+abbrev pub desk_view : {D : Type 0} → (D → Run → Type 0) → (D → Limits) → DeskView D
+desk_view after limits = record { after = after; limits = limits }
+
+-- whatever run the old desk showed, the new one shows that run with this event and its reply
+abbrev pub Extends : {D : Type 0} → DeskView D → D → Event → Reply → D → Type 0
+Extends view old event reply new = (run : Run) → view.after old run → view.after new ((event, reply) ∷ run)
+
+-- the desk has the setup's limits, and this run may be what happened at it
+pub record HoldsRun {D : Type 0} (view : DeskView D) (setup : Setup) (desk : D) (run : Run) : Type 0 where
+  pub after : view.after desk run
+  pub limits : view.limits desk ≡ limits_of 2 default_quota setup.capacity
+
+-- a desk of these limits shows this run
+pub record IsShown {D : Type 0} (view : DeskView D) (limits : Limits) (run : Run) : Type 0 where
+  pub desk : D
+  pub after : view.after desk run
+  pub limits_are : view.limits desk ≡ limits
 
 -- ---- a player
 
@@ -38,15 +65,9 @@ pub record ShowsRecords (setup : Setup) (applier : ApplierView) (g : Gateway) : 
   pub limit : applier.limit ≡ setup.limit
   pub records : applier.records ≡ g.records
 
--- the World stands after the gateway's run, in which no client ended
-pub record HoldsRun (setup : Setup) (world : WorldState) (run : Run) : Type 0 where
-  pub stands : StandsAfter world run
-  pub limits : world.limits ≡ limits_of 2 default_quota setup.capacity
-  pub unended : (client : ℕ) → has_ended client run ≡ false
-
 -- the player has come to this state of the gateway, and its output to this
-pub record Shows (s : Setting) (player : Player) (output : SinkState) (g : Gateway) : Type 0 where
-  pub holds : HoldsRun s.setup player.world g.run
+pub record Shows {D : Type 0} (view : DeskView D) (s : Setting) (player : Player D) (output : SinkState) (g : Gateway) : Type 0 where
+  pub holds : HoldsRun view s.setup player.desk g.run
   pub applier : ShowsRecords s.setup player.applier g
   pub moment : player.applier.moment ≡ g.moment
   pub clock : player.clock ≡ g.clock
@@ -56,101 +77,99 @@ pub record Shows (s : Setting) (player : Player) (output : SinkState) (g : Gatew
   pub running : g.full ≡ false
 
 -- a player that has done nothing yet
-pub record IsNew (setup : Setup) (player : Player) : Type 0 where
-  pub stands : StandsAfter player.world []
-  pub limits : player.world.limits ≡ limits_of 2 default_quota setup.capacity
+pub record IsNew {D : Type 0} (view : DeskView D) (setup : Setup) (player : Player D) : Type 0 where
+  pub holds : HoldsRun view setup player.desk []
   pub applier : player.applier ≡ opened setup.table setup.moment setup.limit
   pub clock : player.clock ≡ setup.moment
   pub age : player.age ≡ setup.age
   pub queued : player.queued ≡ 0
 
 -- a player took an item and recorded it
-pub record TakesItem (was now : Player) (item : Numbered) : Type 0 where
-  pub taken : Extends was.world Take (Taken item) now.world
+pub record TakesItem {D : Type 0} (view : DeskView D) (was now : Player D) (item : Numbered) : Type 0 where
+  pub taken : Extends view was.desk Take (Taken item) now.desk
   pub records : now.applier.records ≡ was.applier.records ++ record { moment = later was.applier.moment was.clock; item = item } ∷ []
   pub moment : now.applier.moment ≡ later was.applier.moment was.clock
 
 -- a player took nothing
-pub record TakesNothing (was now : Player) : Type 0 where
-  pub taken : Extends was.world Take Empty now.world
+pub record TakesNothing {D : Type 0} (view : DeskView D) (was now : Player D) : Type 0 where
+  pub taken : Extends view was.desk Take Empty now.desk
   pub records : now.applier.records ≡ was.applier.records
   pub moment : now.applier.moment ≡ was.applier.moment
 
 -- a player took an item and recorded it, or nothing where the last is false
-pub record Takes (was now : Player) (found : Bool) : Type 0 where
+pub record Takes {D : Type 0} (view : DeskView D) (was now : Player D) (found : Bool) : Type 0 where
   pub room : length was.applier.records ≢ was.applier.limit
-  pub limits : now.world.limits ≡ was.world.limits
+  pub limits : view.limits now.desk ≡ view.limits was.desk
   pub table : now.applier.table ≡ was.applier.table
   pub opening : now.applier.opening ≡ was.applier.opening
   pub limit : now.applier.limit ≡ was.applier.limit
   pub clock : now.clock ≡ was.clock
   pub age : now.age ≡ was.age
   pub queued : now.queued ≡ was.queued
-  pub turn : MatchBool found ((item : Numbered) × TakesItem was now item) (TakesNothing was now)
+  pub turn : MatchBool found ((item : Numbered) × TakesItem view was now item) (TakesNothing view was now)
 
--- no client of the World has ended
-pub record IsUnended (world : WorldState) : Type 0 where
-  pub run : Run
-  pub stands : StandsAfter world run
-  pub unended : (client : ℕ) → has_ended client run ≡ false
-  pub clients : world.limits.clients ≡ 2
+-- the player has come to some state of the gateway
+pub record IsUnderWay {D : Type 0} (view : DeskView D) (player : Player D) (output : SinkState) : Type 0 where
+  pub setting : Setting
+  pub gateway : Gateway
+  pub shows : Shows view setting player output gateway
 
 -- the player may play a step
-pub record IsReady (player : Player) : Type 0 where
-  pub unended : IsUnended player.world
+pub record IsReady {D : Type 0} (view : DeskView D) (player : Player D) (output : SinkState) : Type 0 where
+  pub under_way : IsUnderWay view player output
   pub few : player.queued < 2 ^ 34
 
 -- ---- what a step did
 
 -- the step was served, without its drain
-pub record Serves (s : Setting) (player : Player) (output : SinkState) (step : Step) (g : Gateway) : Type 0 where
+pub record Serves {D : Type 0} (view : DeskView D) (s : Setting) (player : Player D) (output : SinkState) (step : Step) (g : Gateway) : Type 0 where
   pub heard : Heard
-  pub shows : (takes : List (Option Numbered)) → Shows s player output (serves s.setup step (record heard { takes = takes }) g)
+  pub shows : (takes : List (Option Numbered)) → Shows view s player output (serves s.setup step (record heard { takes = takes }) g)
 
 -- a drain from this state came to an end
-pub record Drains (s : Setting) (player : Player) (output : SinkState) (g : Gateway) : Type 0 where
+pub record Drains {D : Type 0} (view : DeskView D) (s : Setting) (player : Player D) (output : SinkState) (g : Gateway) : Type 0 where
   pub takes : List (Option Numbered)
   pub finishes : Finishes s.setup.limit takes g
-  pub shows : Shows s player output (drains takes g)
+  pub shows : Shows view s player output (drains takes g)
 
 -- the log was full with an item left
-pub record Ends (s : Setting) (applier : ApplierView) (output : SinkState) (g : Gateway) : Type 0 where
-  pub legal : IsLegal (limits_of 2 default_quota s.setup.capacity) g.run
+pub record Ends {D : Type 0} (view : DeskView D) (s : Setting) (applier : ApplierView) (output : SinkState) (g : Gateway) : Type 0 where
+  pub kept : IsShown view (limits_of 2 default_quota s.setup.capacity) g.run
   pub shown : ShowsRecords s.setup applier g
   pub printed : Writes s.base output g.printed
   pub full : g.full ≡ true
 
 -- a drain from this state met a full log with an item left
-pub record DrainsFull (s : Setting) (applier : ApplierView) (output : SinkState) (g : Gateway) : Type 0 where
+pub record DrainsFull {D : Type 0} (view : DeskView D) (s : Setting) (applier : ApplierView) (output : SinkState) (g : Gateway) : Type 0 where
   pub takes : List (Option Numbered)
   pub finishes : Finishes s.setup.limit takes g
-  pub ends : Ends s applier output (drains takes g)
+  pub ends : Ends view s applier output (drains takes g)
 
 -- the step was played
-pub record Plays (s : Setting) (player : Player) (output : SinkState) (step : Step) (g : Gateway) : Type 0 where
+pub record Plays {D : Type 0} (view : DeskView D) (s : Setting) (player : Player D) (output : SinkState) (step : Step) (g : Gateway) : Type 0 where
   pub heard : Heard
   pub whole : IsWholeStep s.setup step heard g
-  pub shows : Shows s player output (plays s.setup step heard g)
+  pub shows : Shows view s player output (plays s.setup step heard g)
 
 -- the step was played, and the log was full with an item left
-pub record PlaysFull (s : Setting) (applier : ApplierView) (output : SinkState) (step : Step) (g : Gateway) : Type 0 where
+pub record PlaysFull {D : Type 0} (view : DeskView D) (s : Setting) (applier : ApplierView) (output : SinkState) (step : Step) (g : Gateway) : Type 0 where
   pub heard : Heard
   pub whole : IsWholeStep s.setup step heard g
-  pub ends : Ends s applier output (plays s.setup step heard g)
+  pub ends : Ends view s applier output (plays s.setup step heard g)
 
 -- the steps so far were played
-pub record PlayedTo (s : Setting) (steps : List Step) (player : Player) (output : SinkState) : Type 0 where
+pub record PlayedTo {D : Type 0} (view : DeskView D) (s : Setting) (steps : List Step) (player : Player D) (output : SinkState) : Type 0 where
   pub done : List (Step × Heard)
   pub steps_are : steps_of done ≡ reverse steps
   pub whole : IsWhole s.setup done
-  pub shows : Shows s player output (gateway_after s.setup done)
+  pub shows : Shows view s player output (gateway_after s.setup done)
 
 -- the steps were played, and at one of them the log was full with an item left
-pub record PlayedFull (s : Setting) (steps : List Step) (applier : ApplierView) (output : SinkState) : Type 0 where
+pub record PlayedFull {D : Type 0} (view : DeskView D) (s : Setting) (steps : List Step) (applier : ApplierView) (output : SinkState) : Type 0 where
   pub done : List (Step × Heard)
   pub steps_are : steps_of done ≡ reverse steps
   pub whole : IsWhole s.setup done
-  pub ends : Ends s applier output (gateway_after s.setup done)
+  pub ends : Ends view s applier output (gateway_after s.setup done)
 
 -- ---- ends
 
@@ -171,21 +190,21 @@ StopsBy P Q R (stopped.OutOfMemory applier) = Q
 StopsBy P Q R (stopped.Unwritten fault) = R fault
 
 -- a script was played, to a full log or to its end, and what it prints was delivered
-pub record IsPrinted (script : Script) (before after : SinkState) (full : Bool) : Type 0 where
+pub record IsPrinted (rules : Limits → Run → Type 0) (script : Script) (before after : SinkState) (full : Bool) : Type 0 where
   pub gateway : Gateway
-  pub played : IsPlayed script gateway
+  pub played : IsPlayed rules script gateway
   pub full_is : gateway.full ≡ full
   pub printed : Delivers before after (printed_by script gateway)
 
 -- a script was played to its end, or to this fault
-abbrev pub EndsPlaying : Script → SinkState → SinkState → Option ReplayFault → Type 0
-EndsPlaying script before after None = IsPrinted script before after false
-EndsPlaying script before after (Some TooLong) = ⊥
-EndsPlaying script before after (Some (Line number)) = ⊥
-EndsPlaying script before after (Some LogFull) = IsPrinted script before after true
-EndsPlaying script before after (Some OutOfMemory) = Unit {0}
-EndsPlaying script before after (Some ReadFault) = ⊥
-EndsPlaying script before after (Some WriteFault) = FailsOnce before after
+abbrev pub EndsPlaying : (Limits → Run → Type 0) → Script → SinkState → SinkState → Option ReplayFault → Type 0
+EndsPlaying rules script before after None = IsPrinted rules script before after false
+EndsPlaying rules script before after (Some TooLong) = ⊥
+EndsPlaying rules script before after (Some (Line number)) = ⊥
+EndsPlaying rules script before after (Some LogFull) = IsPrinted rules script before after true
+EndsPlaying rules script before after (Some OutOfMemory) = Unit {0}
+EndsPlaying rules script before after (Some ReadFault) = ⊥
+EndsPlaying rules script before after (Some WriteFault) = FailsOnce before after
 
 -- why an input wasn't read: it is too long, memory ran out, or a read failed
 abbrev pub IsInputFault : Option (List ℕ) → ReplayFault → Type 0

@@ -10,7 +10,6 @@ use Rattle.gate_grammar.specs.declared.faults.LineFault.{LineFault}
 use Rattle.gate_core.specs.declared.submit.Refused.{Refused}
 use Rattle.gate_core.specs.declared.submit.CloseFault.{CloseFault}
 use Rattle.gate_core.specs.Legal.{Run}
-use Rattle.gate_core.specs.State.{WorldState}
 use Rattle.gate_reader.specs.declared.report.Answer.{Answer}
 use Rattle.gate_reader.specs.declared.report.Answer.TheVariants.{Queued, Stale, Bad, Down}
 use Rattle.gate_reader.specs.declared.report.Report.{Report}
@@ -22,7 +21,7 @@ use Rattle.gate_reader.specs.Lines.{OperatorView, Closes, first_close}
 use Rattle.gate_replay.specs.declared.script.Step.{Step}
 use Rattle.gate_replay.specs.declared.script.Setup.{Setup}
 use Rattle.gate_replay.specs.Gateway.{Gateway, Heard, prints, asks, is_shutdown, number_queued, serves}
-use Rattle.gate_replay.specs.inner.Playing.{HoldsRun}
+use Rattle.gate_replay.specs.inner.Playing.{DeskView, HoldsRun}
 
 -- the session stopped at the end of its input, or after the answer that reports a close
 abbrev pub HasEnded : Stop → Type 0
@@ -69,16 +68,16 @@ abbrev pub queued_in : Answer → ℕ
 queued_in (Queued number) = 1
 queued_in _ = 0
 
--- a step is a session that asks this World so much and prints this answer
-pub record Answers (setup : Setup) (world : WorldState) (step : Step) (answer : Answer) (g : Gateway) : Type 0 where
+-- a step is a session that asks this desk so much and prints this answer
+pub record Answers {D : Type 0} (view : DeskView D) (setup : Setup) (desk : D) (step : Step) (answer : Answer) (g : Gateway) : Type 0 where
   pub heard : Heard
   pub pairs : Run
   pub does : (takes : List (Option Numbered)) → serves setup step (record heard { takes = takes }) g ≡ prints (answer_line answer) (asks pairs g)
-  pub holds : HoldsRun setup world (pairs ++ g.run)
+  pub holds : HoldsRun view setup desk (pairs ++ g.run)
   pub counted : number_queued (pairs ++ g.run) ≡ number_queued g.run + queued_in answer
 
--- the World answered a step so, after each gateway that it held
-abbrev pub AnswersStep : WorldState → ℕ → Moment → WorldState → Step → Answer → Type 0
-AnswersStep old age now new step answer =
-    (setup : Setup) (g : Gateway) → HoldsRun setup old g.run → now ≡ g.clock → age ≡ setup.age
-    → Answers setup new step answer g
+-- the desk answered a step so, after each gateway that it held
+abbrev pub AnswersStep : {D : Type 0} → DeskView D → D → ℕ → Moment → D → Step → Answer → Type 0
+AnswersStep view old age now new step answer =
+    (setup : Setup) (g : Gateway) → HoldsRun view setup old g.run → now ≡ g.clock → age ≡ setup.age
+    → Answers view setup new step answer g

@@ -1,4 +1,4 @@
-use Rattle.gate_replay.proofs.OneReplay.{items_are_taken, one_run, one_played}
+use Rattle.gate_replay.proofs.OneReplay.{items_are_taken, one_run, one_played, played_allowed}
 use Rattle.gate_replay.proofs.laws.replay_laws.Goals as goal
 
 pub returns-clause-items : goal.returns-clause-items
@@ -9,3 +9,6 @@ returns-clause-function c = one_run
 
 pub returns-clause-one : goal.returns-clause-one
 returns-clause-one c = one_played
+
+pub returns-clause-allowed : goal.returns-clause-allowed
+returns-clause-allowed c = played_allowed

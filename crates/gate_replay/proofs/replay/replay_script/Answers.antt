@@ -1,3 +1,4 @@
+use Rattle.gate_desk.specs.Allowed.{IsAllowed}
 use Rattle.gate_reader.specs.Sink.{sink_state}
 use Rattle.gate_replay.specs.Replay.{fault_in}
 use Rattle.gate_replay.proofs.ReplayTexts.{played_input}
@@ -6,4 +7,4 @@ use Rattle.gate_replay.proofs.replay.replay_script.Goals as goal
 pub returns : goal.returns
 returns g c =
     let state = sink_state g.W.Write.contents g.W.Sink.pending g.W.Sink.failures in
-    played_input (g.R.Read.remaining c.args.input.now) c.in_ok-text.text.items c.in_ok-script.script (fault_in c.run.result) (state c.args.output.now) (state c.run.new.output) c.in_ok-text.ensures.whole c.in_ok-text.ensures.short (rw c.deref.ensures.value at c.in_ok-script.ensures.script) c.run.ensures
+    played_input IsAllowed (g.I.Read.remaining c.args.input.now) c.in_ok-text.text.items c.in_ok-script.script (fault_in c.play_over_gate.result) (state c.args.output.now) (state c.play_over_gate.new.output) c.in_ok-text.ensures.whole c.in_ok-text.ensures.short (rw c.deref.ensures.value at c.in_ok-script.ensures.script) c.play_over_gate.ensures

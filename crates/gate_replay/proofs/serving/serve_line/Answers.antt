@@ -1,10 +1,18 @@
-use Rattle.std.proofs.Common.{rules, ◌≡◌}
-use Rattle.gate_core.specs.LocalClient.{local}
-use Rattle.gate_replay.proofs.WorldSteps.{line_step}
+use Rattle.std.proofs.Common.{subst}
+use Rattle.std.specs.Prelude.{◌++◌}
+use Rattle.gate_core.specs.LocalClient.{submitted}
+use Rattle.gate_reader.specs.Lines.{operator_view}
+use Rattle.gate_replay.specs.inner.Playing.{desk_view}
+use Rattle.gate_replay.proofs.DeskSteps.{line_step}
 use Rattle.gate_replay.proofs.serving.serve_line.Goals as goal
 
 pub returns-clause-answered : goal.returns-clause-answered
-returns-clause-answered c = λ a only age.
-    let is : c.unwrap-client.result ≡ local c.args.world 2 = search rules in
-    line_step c.args.world c.into_world.result c.unwrap-client.result c.line_session.new.operator c.args.text.now c.args.now a is
-    (rw c.bytes.ensures at c.in_ok-report.ensures.answered a only) c.into_world.ensures age
+returns-clause-answered g c = λ a only.
+    let old = c.turn_to-client.result in
+    let new = c.line_session.new.operator in
+    line_step (desk_view g.D.Desk.after g.D.Desk.limits) (operator_view g.D.Submit.stands g.D.Submit.knows g.D.Submit.answers g.D.Operator.closes (g.D.Submit.named old)) c.args.desk old new c.args.text.now c.args.now a
+    c.turn_to-client.ensures.after c.turn_to-client.ensures.limits
+    (λ body r run h shown. subst (λ n. g.D.Desk.after new (submitted n body r ++ run)) c.turn_to-client.ensures.named (g.met.D.Desk.after_submit old new body r run h shown))
+    (λ moment r run h shown. g.met.D.Desk.after_close old new moment r run h shown)
+    (g.met.D.Desk.same_limits old new c.in_ok-report.ensures.keeps)
+    (rw c.bytes.ensures at c.in_ok-report.ensures.answered a only)
