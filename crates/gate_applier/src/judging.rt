@@ -17,7 +17,8 @@ impl Books {
     /// into the books.
     pub fn judge(&mut self, table: &ObjectTable, record: &Record, log_index: u32) -> Outcome
         requires can_take { CanTake table.now self.old }
-        ensures judged { Judges table.now «record».now.moment log_index «record».now.item.body result self.old self.new }
+        ensures judged { Judges table.now «record».now.moment log_index
+            «record».now.item.body result self.old self.new }
         ensures takes { TakesOne self.old self.new }
     {
         match &record.item.body {
@@ -203,7 +204,8 @@ impl Books {
         plan: Plan,
     ) -> Outcome
         requires can_take { CanTake table.now self.old }
-        ensures judged { (moment : Moment) (fixed : ℕ) (author text : List ℕ) → plan.fixed ≡ is_fixed fixed
+        ensures judged { (moment : Moment) (fixed : ℕ) (author text : List ℕ)
+            → plan.fixed ≡ is_fixed fixed
             → let body = bodies.Schedule host.now service.now plan.starts plan.ends fixed plan.trigger plan.lasts author text in
             Judges table.now moment plan.log_index body result self.old self.new }
         ensures takes { TakesOne self.old self.new }

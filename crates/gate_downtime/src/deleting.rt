@@ -20,9 +20,12 @@ use gate_model::Entry;
 fn delete_row(rows: &mut Vec<Row>, depths: &mut Vec<u32>, at: usize)
     requires within { at < length rows.old.items }
     requires counted { Counted rows.old.items depths.old.items }
-    requires placed { All (λ r. r.entry.scheduled.object.place < length depths.old.items) rows.old.items }
+    requires placed { All (λ r. r.entry.scheduled.object.place
+        < length depths.old.items) rows.old.items }
     requires few { length rows.old.items < 2 ^ 32 }
-    ensures rows { (d : Row) → rows.new.items ≡ slice_set rows.old.items at (deleted_row (slice_index_or rows.old.items at d)) }
+    ensures rows { (d : Row)
+        → rows.new.items
+        ≡ slice_set rows.old.items at (deleted_row (slice_index_or rows.old.items at d)) }
     ensures counted { Counted rows.new.items depths.new.items }
     ensures objects { length depths.new.items ≡ length depths.old.items }
     ensures depths { vec_len depths.new ≡ vec_len depths.old }
@@ -50,14 +53,17 @@ fn delete_at(rows: &mut Vec<Row>, tally: &mut Tally, at: usize, now: u32)
     requires within { at < length rows.old.items }
     requires sound { IsSound now rows.old.items tally.old }
     ensures sound { IsSound now rows.new.items tally.new }
-    ensures rows { (d : Row) → rows.new.items ≡ slice_set rows.old.items at (deleted_row (slice_index_or rows.old.items at d)) }
+    ensures rows { (d : Row)
+        → rows.new.items
+        ≡ slice_set rows.old.items at (deleted_row (slice_index_or rows.old.items at d)) }
     ensures objects { vec_len tally.new.depths ≡ vec_len tally.old.depths }
     ensures gone_same { SameGone tally.old.gone tally.new.gone }
     ensures ids_same { tally.new.live.ids ≡ tally.old.live.ids }
     ensures len { vec_len rows.new ≡ vec_len rows.old }
     ensures capacity { vec_capacity rows.new ≡ vec_capacity rows.old }
     ensures deadlines_len { heap_len tally.new.deadlines ≡ heap_len tally.old.deadlines }
-    ensures deadlines_capacity { heap_capacity tally.new.deadlines ≡ heap_capacity tally.old.deadlines }
+    ensures deadlines_capacity { heap_capacity tally.new.deadlines
+        ≡ heap_capacity tally.old.deadlines }
 {
     let id = row_at(rows, at).entry.scheduled.id;
     delete_row(rows, &mut tally.depths, at);
@@ -77,21 +83,30 @@ fn visit(
 )
     requires sound { IsSound now rows.old.items tally.old }
     requires stack { IsStack first rows.old.items links.now (pending.old.items ++ at ∷ []) }
-    requires room { vec_len pending.old + 1 + count_by is_kept rows.old.items ≤ vec_capacity pending.old }
+    requires room { vec_len pending.old + 1 + count_by is_kept rows.old.items
+        ≤ vec_capacity pending.old }
     ensures sound { IsSound now rows.new.items tally.new }
     ensures stack { IsStack first rows.new.items links.now pending.new.items }
-    ensures deletes { (before : List Row) (id : ℕ) → Deletes first now id before rows.old.items links.now (pending.old.items ++ at ∷ []) → Deletes first now id before rows.new.items links.now pending.new.items }
-    ensures unsettled { count_by is_unsettled rows.new.items ≡ count_by is_unsettled rows.old.items }
+    ensures deletes { (before : List Row) (id : ℕ)
+        → Deletes first now id before rows.old.items links.now (pending.old.items ++ at ∷ [])
+        → Deletes first now id before rows.new.items links.now pending.new.items }
+    ensures unsettled { count_by is_unsettled rows.new.items
+        ≡ count_by is_unsettled rows.old.items }
     ensures objects { vec_len tally.new.depths ≡ vec_len tally.old.depths }
     ensures gone_same { SameGone tally.old.gone tally.new.gone }
     ensures ids_same { tally.new.live.ids ≡ tally.old.live.ids }
     ensures len { vec_len rows.new ≡ vec_len rows.old }
     ensures capacity { vec_capacity rows.new ≡ vec_capacity rows.old }
     ensures deadlines_len { heap_len tally.new.deadlines ≡ heap_len tally.old.deadlines }
-    ensures deadlines_capacity { heap_capacity tally.new.deadlines ≡ heap_capacity tally.old.deadlines }
-    ensures room { vec_len pending.new + count_by is_kept rows.new.items ≤ vec_capacity pending.new }
+    ensures deadlines_capacity { heap_capacity tally.new.deadlines
+        ≡ heap_capacity tally.old.deadlines }
+    ensures room { vec_len pending.new + count_by is_kept rows.new.items
+        ≤ vec_capacity pending.new }
     ensures pending_capacity { vec_capacity pending.old ≤ vec_capacity pending.new }
-    ensures less { count_by is_kept rows.new.items * (length rows.new.items + 1) + load pending.new.items < count_by is_kept rows.old.items * (length rows.old.items + 1) + load (pending.old.items ++ at ∷ []) }
+    ensures less { count_by is_kept rows.new.items * (length rows.new.items + 1)
+        + load pending.new.items
+        < count_by is_kept rows.old.items * (length rows.old.items + 1)
+        + load (pending.old.items ++ at ∷ []) }
 {
     let sibling = links[at].sibling;
     let child = links[at].child;
@@ -122,16 +137,20 @@ pub fn delete_from(
     requires room { vec_len rows.old ≤ vec_capacity pending.old }
     ensures sound { IsSound now rows.new.items tally.new }
     ensures struck { HasStruck rows.old.items rows.new.items }
-    ensures entries { row_entries rows.new.items ≡ map (after_deletion (is_chained (is_live_in (row_entries rows.old.items) now) (row_entries rows.old.items) (first + at))) (row_entries rows.old.items) }
+    ensures entries { row_entries rows.new.items ≡ map
+        (after_deletion (is_chained (is_live_in (row_entries rows.old.items) now)
+        (row_entries rows.old.items) (first + at))) (row_entries rows.old.items) }
     ensures pending_empty { pending.new.items ≡ [] }
-    ensures unsettled { count_by is_unsettled rows.new.items ≡ count_by is_unsettled rows.old.items }
+    ensures unsettled { count_by is_unsettled rows.new.items
+        ≡ count_by is_unsettled rows.old.items }
     ensures objects { vec_len tally.new.depths ≡ vec_len tally.old.depths }
     ensures gone_same { SameGone tally.old.gone tally.new.gone }
     ensures ids_same { tally.new.live.ids ≡ tally.old.live.ids }
     ensures len { vec_len rows.new ≡ vec_len rows.old }
     ensures capacity { vec_capacity rows.new ≡ vec_capacity rows.old }
     ensures deadlines_len { heap_len tally.new.deadlines ≡ heap_len tally.old.deadlines }
-    ensures deadlines_capacity { heap_capacity tally.new.deadlines ≡ heap_capacity tally.old.deadlines }
+    ensures deadlines_capacity { heap_capacity tally.new.deadlines
+        ≡ heap_capacity tally.old.deadlines }
     ensures pending_capacity { vec_capacity pending.old ≤ vec_capacity pending.new }
 {
     delete_at(rows, tally, at, now);
@@ -151,10 +170,14 @@ fn delete_pending(
 )
     requires sound { IsSound now rows.old.items tally.old }
     requires stack { IsStack first rows.old.items links.now pending.old.items }
-    requires room { vec_len pending.old + count_by is_kept rows.old.items ≤ vec_capacity pending.old }
+    requires room { vec_len pending.old + count_by is_kept rows.old.items
+        ≤ vec_capacity pending.old }
     ensures sound { IsSound now rows.new.items tally.new }
-    ensures deletes { (before : List Row) (id : ℕ) → Deletes first now id before rows.old.items links.now pending.old.items → Deletes first now id before rows.new.items links.now [] }
-    ensures unsettled { count_by is_unsettled rows.new.items ≡ count_by is_unsettled rows.old.items }
+    ensures deletes { (before : List Row) (id : ℕ)
+        → Deletes first now id before rows.old.items links.now pending.old.items
+        → Deletes first now id before rows.new.items links.now [] }
+    ensures unsettled { count_by is_unsettled rows.new.items
+        ≡ count_by is_unsettled rows.old.items }
     ensures pending_empty { pending.new.items ≡ [] }
     ensures objects { vec_len tally.new.depths ≡ vec_len tally.old.depths }
     ensures gone_same { SameGone tally.old.gone tally.new.gone }
@@ -162,7 +185,8 @@ fn delete_pending(
     ensures len { vec_len rows.new ≡ vec_len rows.old }
     ensures capacity { vec_capacity rows.new ≡ vec_capacity rows.old }
     ensures deadlines_len { heap_len tally.new.deadlines ≡ heap_len tally.old.deadlines }
-    ensures deadlines_capacity { heap_capacity tally.new.deadlines ≡ heap_capacity tally.old.deadlines }
+    ensures deadlines_capacity { heap_capacity tally.new.deadlines
+        ≡ heap_capacity tally.old.deadlines }
     ensures pending_capacity { vec_capacity pending.old ≤ vec_capacity pending.new }
 {
     'pending: while let Some(at) = pending.pop() {

@@ -68,8 +68,10 @@ fn mark_at(marks: &[Mark], at: usize) -> Mark
 /// Lists the row at this index, where it isn't live.
 pub fn list_gone(gone: &mut Gone, at: usize, live: bool)
     requires within { at < length gone.old.marks.items }
-    requires room { heap_len gone.old.heap + count_by is_free gone.old.marks.items ≤ heap_capacity gone.old.heap }
-    requires kept { IsKept (length gone.old.marks.items) gone.old.marks.items (heap_items gone.old.heap) }
+    requires room { heap_len gone.old.heap + count_by is_free gone.old.marks.items
+        ≤ heap_capacity gone.old.heap }
+    requires kept { IsKept (length gone.old.marks.items) gone.old.marks.items
+        (heap_items gone.old.heap) }
     ensures { Lists at live gone.old gone.new }
 {
     if live {
@@ -93,7 +95,8 @@ pub fn list_gone(gone: &mut Gone, at: usize, live: bool)
 /// The mark of a new row.
 pub fn push_mark(gone: &mut Gone)
     requires { vec_len gone.old.marks < vec_capacity gone.old.marks }
-    ensures marks { gone.new.marks.items ≡ gone.old.marks.items ++ (record { listed = false; returned = false }) ∷ [] }
+    ensures marks { gone.new.marks.items
+        ≡ gone.old.marks.items ++ (record { listed = false; returned = false }) ∷ [] }
     ensures len { vec_len gone.new.marks ≡ vec_len gone.old.marks + 1 }
     ensures marks_capacity { vec_capacity gone.old.marks ≤ vec_capacity gone.new.marks }
     ensures heap { gone.new.heap ≡ gone.old.heap }
@@ -112,7 +115,8 @@ fn pop_heap(heap: &mut BinaryHeap<Reverse<usize>>) -> Option<usize>
     requires { IsHeap gone_cmp (heap_items heap.old) }
     ensures none { IfNone result (heap_items heap.old ≡ []) }
     ensures none_same { IfNone result (heap_items heap.new ≡ heap_items heap.old) }
-    ensures some { IfSome result (λ k. IsPermutation (heap_items heap.old) (record { 0 = k } ∷ heap_items heap.new)) }
+    ensures some { IfSome result (λ k. IsPermutation (heap_items heap.old)
+        (record { 0 = k } ∷ heap_items heap.new)) }
     ensures least { IfSome result (λ k. All (λ x. k ≤ x.0) (heap_items heap.new)) }
     ensures order { IsHeap gone_cmp (heap_items heap.new) }
     ensures fewer { IfSome result (λ k. heap_len heap.new + 1 ≡ heap_len heap.old) }
@@ -127,7 +131,8 @@ fn pop_heap(heap: &mut BinaryHeap<Reverse<usize>>) -> Option<usize>
 
 /// Takes the least listed row.
 fn pop_listed(gone: &mut Gone) -> Option<usize>
-    requires { IsKept (length gone.old.marks.items) gone.old.marks.items (heap_items gone.old.heap) }
+    requires { IsKept (length gone.old.marks.items) gone.old.marks.items
+        (heap_items gone.old.heap) }
     ensures none { IfNone result (heap_items gone.old.heap ≡ []) }
     ensures none_heap { IfNone result (heap_items gone.new.heap ≡ heap_items gone.old.heap) }
     ensures none_len { IfNone result (heap_len gone.new.heap ≡ heap_len gone.old.heap) }

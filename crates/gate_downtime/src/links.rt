@@ -86,7 +86,10 @@ pub fn link_alone(links: &mut Vec<Link>)
 pub fn link_triggered(links: &mut Vec<Link>, trigger: usize)
     requires room { vec_len links.old < vec_capacity links.old }
     requires within { trigger < length links.old.items }
-    ensures items { (d : Link) → links.new.items ≡ slice_set links.old.items trigger (with_child (length links.old.items) (slice_index_or links.old.items trigger d)) ++ child_link (slice_index_or links.old.items trigger d).child ∷ [] }
+    ensures items { (d : Link)
+        → links.new.items ≡ slice_set links.old.items trigger
+        (with_child (length links.old.items) (slice_index_or links.old.items trigger d))
+        ++ child_link (slice_index_or links.old.items trigger d).child ∷ [] }
     ensures len { vec_len links.new ≡ vec_len links.old + 1 }
     ensures capacity { vec_capacity links.old ≤ vec_capacity links.new }
 {
@@ -111,8 +114,10 @@ pub fn link_triggered(links: &mut Vec<Link>, trigger: usize)
 pub fn link_waiting(links: &mut Vec<Link>, heads: &mut Vec<Option<usize>>, place: usize)
     requires room { vec_len links.old < vec_capacity links.old }
     requires within { place < length heads.old.items }
-    ensures items { links.new.items ≡ links.old.items ++ waiting_link (slice_index_or heads.old.items place None) ∷ [] }
-    ensures heads { heads.new.items ≡ slice_set heads.old.items place (Some (length links.old.items)) }
+    ensures items { links.new.items ≡ links.old.items
+        ++ waiting_link (slice_index_or heads.old.items place None) ∷ [] }
+    ensures heads { heads.new.items
+        ≡ slice_set heads.old.items place (Some (length links.old.items)) }
     ensures heads_len { vec_len heads.new ≡ vec_len heads.old }
     ensures len { vec_len links.new ≡ vec_len links.old + 1 }
     ensures capacity { vec_capacity links.old ≤ vec_capacity links.new }
@@ -141,7 +146,8 @@ pub fn link_row(
     requires room { vec_len links.old < vec_capacity links.old }
     requires trigger { IfSome trigger (λ at. at < length links.old.items) }
     requires place { place < length heads.old.items }
-    ensures linked { IsLinkedMore links.old.items heads.old.items trigger fixed place links.new.items heads.new.items }
+    ensures linked { IsLinkedMore links.old.items heads.old.items trigger fixed place
+        links.new.items heads.new.items }
     ensures heads_len { vec_len heads.new ≡ vec_len heads.old }
     ensures len { vec_len links.new ≡ vec_len links.old + 1 }
     ensures capacity { vec_capacity links.old ≤ vec_capacity links.new }

@@ -64,7 +64,8 @@ pub fn note_ended(live: &mut LiveIds, id: u32, ended: bool)
 /// Adds the id of a new row, where it is live.
 pub fn push_live(live: &mut LiveIds, id: u32, is_live: bool)
     requires { vec_len live.old.ids < vec_capacity live.old.ids }
-    ensures ids { live.new.ids.items ≡ (if is_live then live.old.ids.items ++ id ∷ [] else live.old.ids.items) }
+    ensures ids { live.new.ids.items
+        ≡ (if is_live then live.old.ids.items ++ id ∷ [] else live.old.ids.items) }
     ensures len { vec_len live.new.ids ≤ vec_len live.old.ids + 1 }
     ensures capacity { vec_capacity live.old.ids ≤ vec_capacity live.new.ids }
     ensures ended { live.new.ended ≡ live.old.ended }

@@ -23,7 +23,8 @@ fn set_next(
 )
     requires place { place < length heads.old.items }
     requires last { IsLastWithin last links.old.items }
-    ensures sets { SetsNext last next place links.old.items heads.old.items links.new.items heads.new.items }
+    ensures sets { SetsNext last next place links.old.items heads.old.items
+        links.new.items heads.new.items }
     ensures links_len { vec_len links.new ≡ vec_len links.old }
     ensures links_capacity { vec_capacity links.new ≡ vec_capacity links.old }
     ensures heads_len { vec_len heads.new ≡ vec_len heads.old }

@@ -18,17 +18,22 @@ pub fn replace_row(rows: &mut Vec<Row>, tally: &mut Tally, at: usize, row: Row, 
     requires sound { IsSound now rows.old.items tally.old }
     requires room { HasRoom 2 tally.old }
     requires mark { (d : Row) → row.active ≡ (slice_index_or rows.old.items at d).active }
-    requires place { (d : Row) → row.entry.scheduled.object.place ≡ (slice_index_or rows.old.items at d).entry.scheduled.object.place }
-    requires id { (d : Row) → row.entry.scheduled.id ≡ (slice_index_or rows.old.items at d).entry.scheduled.id }
+    requires place { (d : Row)
+        → row.entry.scheduled.object.place
+        ≡ (slice_index_or rows.old.items at d).entry.scheduled.object.place }
+    requires id { (d : Row)
+        → row.entry.scheduled.id ≡ (slice_index_or rows.old.items at d).entry.scheduled.id }
     ensures sound { IsSound now rows.new.items tally.new }
-    ensures rows { rows.new.items ≡ slice_set rows.old.items at (with_active (active_at now row) row) }
+    ensures rows { rows.new.items
+        ≡ slice_set rows.old.items at (with_active (active_at now row) row) }
     ensures objects { vec_len tally.new.depths ≡ vec_len tally.old.depths }
     ensures gone_same { SameGone tally.old.gone tally.new.gone }
     ensures ids_same { tally.new.live.ids ≡ tally.old.live.ids }
     ensures len { vec_len rows.new ≡ vec_len rows.old }
     ensures capacity { vec_capacity rows.new ≡ vec_capacity rows.old }
     ensures deadlines_len { heap_len tally.new.deadlines ≤ heap_len tally.old.deadlines + 2 }
-    ensures deadlines_capacity { heap_capacity tally.old.deadlines ≤ heap_capacity tally.new.deadlines }
+    ensures deadlines_capacity { heap_capacity tally.old.deadlines
+        ≤ heap_capacity tally.new.deadlines }
 {
     let ended = has_ended(row_at(rows, at), now, row, now);
     write_row(rows, at, row);
@@ -42,7 +47,9 @@ pub fn replace_row(rows: &mut Vec<Row>, tally: &mut Tally, at: usize, row: Row, 
 /// A triggered row takes the beginning and the end that follow from its trigger's row.
 fn refresh_row(rows: &mut Vec<Row>, tally: &mut Tally, at: usize, first: u32, now: u32)
     requires within { at < length rows.old.items }
-    requires trigger { (d : Row) → (first ≤ trig (slice_index_or rows.old.items at d)) × (trig (slice_index_or rows.old.items at d) < first + at) }
+    requires trigger { (d : Row)
+        → (first ≤ trig (slice_index_or rows.old.items at d))
+        × (trig (slice_index_or rows.old.items at d) < first + at) }
     requires sound { IsSound now rows.old.items tally.old }
     requires room { HasRoom 2 tally.old }
     ensures sound { IsSound now rows.new.items tally.new }
@@ -53,7 +60,8 @@ fn refresh_row(rows: &mut Vec<Row>, tally: &mut Tally, at: usize, first: u32, no
     ensures len { vec_len rows.new ≡ vec_len rows.old }
     ensures capacity { vec_capacity rows.new ≡ vec_capacity rows.old }
     ensures deadlines_len { heap_len tally.new.deadlines ≤ heap_len tally.old.deadlines + 2 }
-    ensures deadlines_capacity { heap_capacity tally.old.deadlines ≤ heap_capacity tally.new.deadlines }
+    ensures deadlines_capacity { heap_capacity tally.old.deadlines
+        ≤ heap_capacity tally.new.deadlines }
 {
     let row = row_at(rows, at);
     let trigger = row_at(rows, (row.entry.scheduled.plan.trigger - first) as usize);
@@ -82,7 +90,8 @@ fn visit(
     requires sound { IsSound now rows.old.items tally.old }
     requires spreading { Spreading first rows.old.items links.now (pending.old.items ++ at ∷ []) }
     requires room_deadlines { HasRoom (2 * count_by is_unsettled rows.old.items) tally.old }
-    requires room_pending { vec_len pending.old + 1 + count_by is_unsettled rows.old.items ≤ vec_capacity pending.old }
+    requires room_pending { vec_len pending.old + 1 + count_by is_unsettled rows.old.items
+        ≤ vec_capacity pending.old }
     ensures sound { IsSound now rows.new.items tally.new }
     ensures spreading { Spreading first rows.new.items links.now pending.new.items }
     ensures entries { row_entries rows.new.items ≡ row_entries rows.old.items }
@@ -91,11 +100,18 @@ fn visit(
     ensures ids_same { tally.new.live.ids ≡ tally.old.live.ids }
     ensures len { vec_len rows.new ≡ vec_len rows.old }
     ensures capacity { vec_capacity rows.new ≡ vec_capacity rows.old }
-    ensures deadlines_left { heap_len tally.new.deadlines + 2 * count_by is_unsettled rows.new.items ≤ heap_len tally.old.deadlines + 2 * count_by is_unsettled rows.old.items }
-    ensures deadlines_capacity { heap_capacity tally.old.deadlines ≤ heap_capacity tally.new.deadlines }
-    ensures pending_left { vec_len pending.new + count_by is_unsettled rows.new.items ≤ vec_len pending.old + 1 + count_by is_unsettled rows.old.items }
+    ensures deadlines_left { heap_len tally.new.deadlines
+        + 2 * count_by is_unsettled rows.new.items
+        ≤ heap_len tally.old.deadlines + 2 * count_by is_unsettled rows.old.items }
+    ensures deadlines_capacity { heap_capacity tally.old.deadlines
+        ≤ heap_capacity tally.new.deadlines }
+    ensures pending_left { vec_len pending.new + count_by is_unsettled rows.new.items
+        ≤ vec_len pending.old + 1 + count_by is_unsettled rows.old.items }
     ensures pending_capacity { vec_capacity pending.old ≤ vec_capacity pending.new }
-    ensures less { count_by is_unsettled rows.new.items * (length rows.new.items + 1) + load pending.new.items < count_by is_unsettled rows.old.items * (length rows.old.items + 1) + load (pending.old.items ++ at ∷ []) }
+    ensures less { count_by is_unsettled rows.new.items * (length rows.new.items + 1)
+        + load pending.new.items
+        < count_by is_unsettled rows.old.items * (length rows.old.items + 1)
+        + load (pending.old.items ++ at ∷ []) }
 {
     let sibling = links[at].sibling;
     let child = links[at].child;
@@ -121,7 +137,8 @@ pub fn spread(
     requires sound { IsSound now rows.old.items tally.old }
     requires spreading { Spreading first rows.old.items links.now pending.old.items }
     requires room_deadlines { HasRoom (2 * count_by is_unsettled rows.old.items) tally.old }
-    requires room_pending { vec_len pending.old + count_by is_unsettled rows.old.items ≤ vec_capacity pending.old }
+    requires room_pending { vec_len pending.old + count_by is_unsettled rows.old.items
+        ≤ vec_capacity pending.old }
     ensures sound { IsSound now rows.new.items tally.new }
     ensures spreading { Spreading first rows.new.items links.now [] }
     ensures consistent { Consistent first rows.new.items }
@@ -131,10 +148,14 @@ pub fn spread(
     ensures ids_same { tally.new.live.ids ≡ tally.old.live.ids }
     ensures len { vec_len rows.new ≡ vec_len rows.old }
     ensures capacity { vec_capacity rows.new ≡ vec_capacity rows.old }
-    ensures deadlines_left { heap_len tally.new.deadlines + 2 * count_by is_unsettled rows.new.items ≤ heap_len tally.old.deadlines + 2 * count_by is_unsettled rows.old.items }
-    ensures deadlines_capacity { heap_capacity tally.old.deadlines ≤ heap_capacity tally.new.deadlines }
+    ensures deadlines_left { heap_len tally.new.deadlines
+        + 2 * count_by is_unsettled rows.new.items
+        ≤ heap_len tally.old.deadlines + 2 * count_by is_unsettled rows.old.items }
+    ensures deadlines_capacity { heap_capacity tally.old.deadlines
+        ≤ heap_capacity tally.new.deadlines }
     ensures pending_empty { pending.new.items ≡ [] }
-    ensures pending_left { count_by is_unsettled rows.new.items ≤ vec_len pending.old + count_by is_unsettled rows.old.items }
+    ensures pending_left { count_by is_unsettled rows.new.items
+        ≤ vec_len pending.old + count_by is_unsettled rows.old.items }
     ensures pending_capacity { vec_capacity pending.old ≤ vec_capacity pending.new }
 {
     'pending: while let Some(at) = pending.pop() {

@@ -54,7 +54,9 @@ fn next_due(deadlines: &mut BinaryHeap<Reverse<(u64, usize)>>, now: u32) -> Opti
     requires { IsHeap deadline_cmp (heap_items deadlines.old) }
     ensures none { IfNone result (All (λ d. now < d.0.0) (heap_items deadlines.old)) }
     ensures none_same { IfNone result (heap_items deadlines.new ≡ heap_items deadlines.old) }
-    ensures some { IfSome result (λ k. (m : ℕ) × (m ≤ now) × IsPermutation (heap_items deadlines.old) (record { 0 = (m, k) } ∷ heap_items deadlines.new)) }
+    ensures some { IfSome result (λ k. (m : ℕ) × (m ≤ now)
+        × IsPermutation (heap_items deadlines.old)
+        (record { 0 = (m, k) } ∷ heap_items deadlines.new)) }
     ensures order { IsHeap deadline_cmp (heap_items deadlines.new) }
     ensures fewer { IfSome result (λ k. heap_len deadlines.new + 1 ≡ heap_len deadlines.old) }
     ensures capacity { heap_capacity deadlines.new ≡ heap_capacity deadlines.old }
@@ -79,7 +81,8 @@ fn mark_active(rows: &mut [Row], depths: &mut [u32], at: usize, active: bool)
     requires counted { Counted rows.old depths.old }
     requires placed { All (λ r. r.entry.scheduled.object.place < length depths.old) rows.old }
     requires few { length rows.old < 2 ^ 32 }
-    ensures rows { (d : Row) → rows.new ≡ slice_set rows.old at (with_active active (slice_index_or rows.old at d)) }
+    ensures rows { (d : Row)
+        → rows.new ≡ slice_set rows.old at (with_active active (slice_index_or rows.old at d)) }
     ensures counted { Counted rows.new depths.new }
     ensures objects { length depths.new ≡ length depths.old }
 {
@@ -105,9 +108,12 @@ fn mark_active(rows: &mut [Row], depths: &mut [u32], at: usize, active: bool)
 pub fn mark_row(rows: &mut Vec<Row>, depths: &mut Vec<u32>, at: usize, active: bool)
     requires within { at < length rows.old.items }
     requires counted { Counted rows.old.items depths.old.items }
-    requires placed { All (λ r. r.entry.scheduled.object.place < length depths.old.items) rows.old.items }
+    requires placed { All (λ r. r.entry.scheduled.object.place
+        < length depths.old.items) rows.old.items }
     requires few { length rows.old.items < 2 ^ 32 }
-    ensures rows { (d : Row) → rows.new.items ≡ slice_set rows.old.items at (with_active active (slice_index_or rows.old.items at d)) }
+    ensures rows { (d : Row)
+        → rows.new.items
+        ≡ slice_set rows.old.items at (with_active active (slice_index_or rows.old.items at d)) }
     ensures counted { Counted rows.new.items depths.new.items }
     ensures objects { length depths.new.items ≡ length depths.old.items }
     ensures depths { vec_len depths.new ≡ vec_len depths.old }
@@ -159,7 +165,8 @@ fn push_deadline(deadlines: &mut BinaryHeap<Reverse<(u64, usize)>>, moment: u64,
 fn wake_at(deadlines: &mut BinaryHeap<Reverse<(u64, usize)>>, moment: u64, at: usize, now: u32)
     requires { heap_len deadlines.old < heap_capacity deadlines.old }
     ensures adds { Adds at (heap_items deadlines.old) (heap_items deadlines.new) }
-    ensures there { now < moment → Contains (heap_items deadlines.new) (record { 0 = (moment, at) }) }
+    ensures there { now < moment
+        → Contains (heap_items deadlines.new) (record { 0 = (moment, at) }) }
     ensures len { heap_len deadlines.new ≤ heap_len deadlines.old + 1 }
     ensures capacity { heap_capacity deadlines.old ≤ heap_capacity deadlines.new }
 {

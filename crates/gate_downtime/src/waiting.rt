@@ -34,16 +34,23 @@ fn turn_root(
     requires room_pending { count_by is_unsettled rows.old.items ≤ vec_capacity pending.old }
     ensures sound { IsSound now.0 rows.new.items tally.new }
     ensures spreading { Spreading first rows.new.items links.now [] }
-    ensures entries { (d : Row) → row_entries rows.new.items ≡ reverse (slice_set (map (λ (r : Row). r.entry) rows.old.items) at (turned_at now (slice_index_or rows.old.items at d).entry)) }
+    ensures entries { (d : Row)
+        → row_entries rows.new.items
+        ≡ reverse (slice_set (map (λ (r : Row). r.entry) rows.old.items) at
+        (turned_at now (slice_index_or rows.old.items at d).entry)) }
     ensures pending_empty { pending.new.items ≡ [] }
     ensures objects { vec_len tally.new.depths ≡ vec_len tally.old.depths }
     ensures gone_same { SameGone tally.old.gone tally.new.gone }
     ensures ids_same { tally.new.live.ids ≡ tally.old.live.ids }
     ensures len { vec_len rows.new ≡ vec_len rows.old }
     ensures capacity { vec_capacity rows.new ≡ vec_capacity rows.old }
-    ensures deadlines_left { heap_len tally.new.deadlines + 2 * count_by is_unsettled rows.new.items ≤ heap_len tally.old.deadlines + 2 * count_by is_unsettled rows.old.items }
-    ensures deadlines_capacity { heap_capacity tally.old.deadlines ≤ heap_capacity tally.new.deadlines }
-    ensures pending_left { count_by is_unsettled rows.new.items ≤ count_by is_unsettled rows.old.items }
+    ensures deadlines_left { heap_len tally.new.deadlines
+        + 2 * count_by is_unsettled rows.new.items
+        ≤ heap_len tally.old.deadlines + 2 * count_by is_unsettled rows.old.items }
+    ensures deadlines_capacity { heap_capacity tally.old.deadlines
+        ≤ heap_capacity tally.new.deadlines }
+    ensures pending_left { count_by is_unsettled rows.new.items
+        ≤ count_by is_unsettled rows.old.items }
     ensures pending_capacity { vec_capacity pending.old ≤ vec_capacity pending.new }
 {
     let row = row_at(rows, at);
@@ -67,7 +74,8 @@ fn turn_root(
 }
 
 fn begins(entry: Entry, now: Moment, place: u32) -> bool
-    ensures { result ≡ ((is_none entry.transition && not entry.deleted) && begins_at entry.scheduled now place) }
+    ensures { result ≡ ((is_none entry.transition && not entry.deleted)
+        && begins_at entry.scheduled now place) }
 {
     let plan = entry.scheduled.plan;
     entry.transition.is_none()
@@ -99,16 +107,23 @@ fn turn_row(
     requires room_pending { count_by is_unsettled rows.old.items ≤ vec_capacity pending.old }
     ensures sound { IsSound now.0 rows.new.items tally.new }
     ensures spreading { Spreading first rows.new.items links.now [] }
-    ensures entries { (d : Row) → entry_list rows.new.items ≡ slice_set (entry_list rows.old.items) at (after_transition now place (slice_index_or rows.old.items at d).entry) }
+    ensures entries { (d : Row)
+        → entry_list rows.new.items
+        ≡ slice_set (entry_list rows.old.items) at
+        (after_transition now place (slice_index_or rows.old.items at d).entry) }
     ensures pending_empty { pending.new.items ≡ [] }
     ensures objects { vec_len tally.new.depths ≡ vec_len tally.old.depths }
     ensures gone_same { SameGone tally.old.gone tally.new.gone }
     ensures ids_same { tally.new.live.ids ≡ tally.old.live.ids }
     ensures len { vec_len rows.new ≡ vec_len rows.old }
     ensures capacity { vec_capacity rows.new ≡ vec_capacity rows.old }
-    ensures deadlines_left { heap_len tally.new.deadlines + 2 * count_by is_unsettled rows.new.items ≤ heap_len tally.old.deadlines + 2 * count_by is_unsettled rows.old.items }
-    ensures deadlines_capacity { heap_capacity tally.old.deadlines ≤ heap_capacity tally.new.deadlines }
-    ensures pending_left { count_by is_unsettled rows.new.items ≤ count_by is_unsettled rows.old.items }
+    ensures deadlines_left { heap_len tally.new.deadlines
+        + 2 * count_by is_unsettled rows.new.items
+        ≤ heap_len tally.old.deadlines + 2 * count_by is_unsettled rows.old.items }
+    ensures deadlines_capacity { heap_capacity tally.old.deadlines
+        ≤ heap_capacity tally.new.deadlines }
+    ensures pending_left { count_by is_unsettled rows.new.items
+        ≤ count_by is_unsettled rows.old.items }
     ensures pending_capacity { vec_capacity pending.old ≤ vec_capacity pending.new }
 {
     let entry = row_at(rows, at).entry;
@@ -137,16 +152,21 @@ pub fn turn_waiting(
     requires room_pending { count_by is_unsettled rows.old.items ≤ vec_capacity pending.old }
     ensures sound { IsSound now.0 rows.new.items tally.new }
     ensures spreading { Spreading first rows.new.items links.now [] }
-    ensures entries { entry_list rows.new.items ≡ map (after_transition now place) (entry_list rows.old.items) }
+    ensures entries { entry_list rows.new.items
+        ≡ map (after_transition now place) (entry_list rows.old.items) }
     ensures pending_empty { pending.new.items ≡ [] }
     ensures objects { vec_len tally.new.depths ≡ vec_len tally.old.depths }
     ensures gone_same { SameGone tally.old.gone tally.new.gone }
     ensures ids_same { tally.new.live.ids ≡ tally.old.live.ids }
     ensures len { vec_len rows.new ≡ vec_len rows.old }
     ensures capacity { vec_capacity rows.new ≡ vec_capacity rows.old }
-    ensures deadlines_left { heap_len tally.new.deadlines + 2 * count_by is_unsettled rows.new.items ≤ heap_len tally.old.deadlines + 2 * count_by is_unsettled rows.old.items }
-    ensures deadlines_capacity { heap_capacity tally.old.deadlines ≤ heap_capacity tally.new.deadlines }
-    ensures pending_left { count_by is_unsettled rows.new.items ≤ count_by is_unsettled rows.old.items }
+    ensures deadlines_left { heap_len tally.new.deadlines
+        + 2 * count_by is_unsettled rows.new.items
+        ≤ heap_len tally.old.deadlines + 2 * count_by is_unsettled rows.old.items }
+    ensures deadlines_capacity { heap_capacity tally.old.deadlines
+        ≤ heap_capacity tally.new.deadlines }
+    ensures pending_left { count_by is_unsettled rows.new.items
+        ≤ count_by is_unsettled rows.old.items }
     ensures pending_capacity { vec_capacity pending.old ≤ vec_capacity pending.new }
 {
     let mut cursor = head;
