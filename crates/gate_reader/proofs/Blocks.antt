@@ -1,8 +1,9 @@
 -- Blocks that are answered one after the other, and the stop at one.
-use Rattle.std.proofs.Common.{◌≡◌, ℕ, List, [], ◌∷◌, ◌++◌, true, sym, subst, ap, refl, inr}
+use Rattle.std.proofs.Common.{◌≡◌, ℕ, ◌+◌, ◌-◌, ◌<◌, List, [], ◌∷◌, ◌++◌, length, drop, Option, Some, None, IfSome, MatchOption, true, sym, subst, ap, ◌∙◌, refl, inr, append_assoc, length-append, arith}
+use Rattle.std.proofs.lemmas.List.{drop_at}
 use Rattle.gate_packet.specs.declared.decoding.PacketFault.{PacketFault}
 use Rattle.gate_packet.specs.declared.decoding.PacketFault.TheVariants as fault
-use Rattle.gate_packet.specs.Stream.{Begins}
+use Rattle.gate_packet.specs.Stream.{block_length, Begins, Cuts, IsRest}
 use Rattle.gate_packet.proofs.Cuts.{cuts_more, cuts_append, rest_none}
 use Rattle.gate_reader.specs.Report.{is_open, AreOpen}
 use Rattle.gate_reader.specs.Session.{ClientView, Parties, handled, Queues}
@@ -10,7 +11,7 @@ use Rattle.gate_reader.specs.Packets.{StopsAtBlock, packets}
 use Rattle.gate_reader.specs.declared.report.Answer.{Answer}
 use Rattle.gate_reader.specs.declared.report.Stop.{Stop}
 use Rattle.gate_reader.specs.declared.report.Stop.TheVariants.{End, Truncated, BadPacket, ReadFault, WriteFault, TooMany, OutOfMemory, Shutdown}
-use Rattle.gate_reader.specs.inner.Progress.{Adds, AnswersOneBlock, IsLastBlock, stop_by}
+use Rattle.gate_reader.specs.inner.Progress.{Adds, AnswersOneBlock, IsLastBlock, stop_by, AreLast}
 use Rattle.gate_reader.proofs.Serving.{KindLaws, queues_none, serves_one, adds_one}
 
 pub queues_same : {S : Type 0} (view : ClientView S) (a b : S) → b ≡ a → Queues view a [] b
@@ -60,3 +61,33 @@ block_refused most age m b answers held block more fault.OutOfMemory o begins l 
 pub open_next : (xs : List Answer) (a : Answer) → AreOpen xs → is_open a ≡ true → AreOpen (xs ++ a ∷ [])
 open_next [] a o e = (e, tt)
 open_next (x ∷ xs) a (p, o) e = (p, open_next xs a o e)
+
+-- what holds of each value that there may be
+pub if_some : {X : Type 0} (P : Type 0) (Q R : X → Type 0) (o : Option X) → MatchOption o P Q → ((x : X) → Q x → R x) → IfSome o R
+if_some P Q R None m f = tt
+if_some P Q R (Some x) m f = f x m
+
+-- ---- what is left of bytes that are cut
+
+front_of_cut : (bytes : List ℕ) (blocks : List (List ℕ)) (left : List ℕ) → Cuts bytes blocks left → (front : List ℕ) × (bytes ≡ front ++ left)
+front_of_cut bytes [] left c = ([], c)
+front_of_cut bytes (block ∷ blocks) left (more, b, c) =
+    let after = front_of_cut more blocks left c in
+    (block ++ after.0, b.whole ∙ ap (λ l. block ++ l) after.1 ∙ sym (append_assoc block after.0 left))
+
+last_of_append : (bytes front left : List ℕ) → bytes ≡ front ++ left → AreLast bytes (length left) left
+last_of_append bytes front left e =
+    let long : length bytes ≡ length front + length left = ap length e ∙ length-append front left in
+    let before : length front ≡ length bytes - length left = omega (arith, long) in
+    record { within = omega (arith, long); last = ap (λ l. drop (length bytes - length left) l) e ∙ drop_at front left (length bytes - length left) before }
+
+-- what is left over is the last bytes
+pub cut_leaves_last : (bytes : List ℕ) (blocks : List (List ℕ)) (left : List ℕ) (count : ℕ) → Cuts bytes blocks left → count ≡ length left → AreLast bytes count left
+cut_leaves_last bytes blocks left count c same =
+    let front = front_of_cut bytes blocks left c in
+    subst (λ n. AreLast bytes n left) (sym same) (last_of_append bytes front.0 left front.1)
+
+-- a rest leaves room in the buffer of a read
+pub rest_short : (bytes : List ℕ) → IsRest bytes → length bytes < 65536
+unfolding block_length
+rest_short bytes rest = omega (arith, rest.short)

@@ -2,6 +2,7 @@ pub mod Readings
 pub mod Serving
 pub mod Writing
 pub mod Blocks
+pub mod Buffers
 pub mod Sessions
 pub mod PacketSessions
 pub mod KeptLines

@@ -1,24 +1,23 @@
-ghost use Rattle.std.specs.Prelude.{◌≡◌, ◌<◌, ◌≤◌, [], length, IfOk, IfErr, OnOk, OnErr, IfSome};
+ghost use Rattle.std.specs.Prelude.{◌≡◌, ◌<◌, ◌≤◌, [], length, IfOk, IfErr, OnOk, OnErr, IfSome, IfNone, Some, None, ⊤};
+ghost use Rattle.gate_packet.specs.Stream.{Begins, IsRest};
 ghost use Rattle.gate_reader.specs.Source.{source_state};
 ghost use Rattle.gate_reader.specs.Sink.{sink_state, Delivers, FailsOnce};
 ghost use Rattle.gate_reader.specs.Report.{AreOpen};
 ghost use Rattle.gate_reader.specs.Session.{client_view, parties, IsSession, AnswersFront};
 ghost use Rattle.gate_reader.specs.Packets.{greeting, packets, IsPacketSession};
-ghost use Rattle.gate_reader.specs.inner.Progress.{AnswersOneBlock, IsLastBlock, stop_by, ServesFront};
+ghost use Rattle.gate_reader.specs.inner.Progress.{AnswersOneBlock, IsLastBlock, stop_by, ServesFront, AreLast};
 
 use crate::clock::Clock;
+use crate::read_buffer::ReadBuffer;
 use crate::report::{Answer, Answers, Report, SessionLimits, Stop};
 use crate::sink::Sink;
 use crate::source::Source;
 use crate::submitting::{is_open, submit_body};
 use gate_core::Submit;
 use gate_model::Moment;
-use gate_packet::{Cutter, PACKET_SIZE, PacketFault, decode};
+use gate_packet::{PACKET_SIZE, PacketFault, decode};
 use std::alloc::Global;
 use std::io;
-
-// How many bytes a read may give.
-const PIECE: usize = 65536;
 
 // Reads a block as a packet and submits its result. An error ends the session.
 fn serve_block<C: Clock, S: Submit>(
@@ -56,44 +55,60 @@ fn stop_of(fault: PacketFault) -> Stop
     }
 }
 
-// Serves the blocks that are held.
-fn serve_held<C: Clock, S: Submit>(
+// Splits the first block off the bytes, if it is whole.
+#[tactic(auto, unfolding(gate_packet::specs::Stream::block_length))]
+fn split_block(bytes: &[u8]) -> Option<(&[u8; PACKET_SIZE], &[u8])>
+    ensures some { IfSome result (λ split. Begins bytes.now split.0.now split.1.now) }
+    ensures none { IfNone result (IsRest bytes.now) }
+{
+    bytes.split_first_chunk()
+}
+
+// Serves the packets at the front of the bytes: how many bytes are left over, or why the session
+// stops.
+fn serve_front<C: Clock, S: Submit>(
     alloc: Global,
-    cutter: &mut Cutter,
+    bytes: &[u8],
     clock: &mut C,
     client: &mut S,
     items: u32,
     greatest_age: u32,
     answers: &mut Vec<Answer>,
-) -> Option<Stop>
+) -> Result<usize, Stop>
     requires within { length answers.old.items ≤ items }
     requires open { AreOpen answers.old.items }
-    ensures served { let view = client_view S.stands S.knows S.answers (S.named client.old) in
-        ServesFront view (packets view items greatest_age) items
+    ensures ok { let view = client_view S.stands S.knows S.answers (S.named client.old) in
+        IfOk result (λ left. ServesFront view (packets view items greatest_age) items
         (parties client.old (C.readings clock.old)) (parties client.new (C.readings clock.new))
-        answers.old.items answers.new.items cutter.old (λ rest. cutter.new ≡ rest) result }
+        answers.old.items answers.new.items bytes.now (AreLast bytes.now left) None) }
+    ensures err { let view = client_view S.stands S.knows S.answers (S.named client.old) in
+        IfErr result (λ stop. ServesFront view (packets view items greatest_age) items
+        (parties client.old (C.readings clock.old)) (parties client.new (C.readings clock.new))
+        answers.old.items answers.new.items bytes.now (λ _. ⊤) (Some stop)) }
     ensures named { S.named client.new ≡ S.named client.old }
     ensures keeps { S.keeps client.old client.new }
 {
-    while let Some(block) = cutter.next_packet() {
+    let mut rest = bytes;
+    while let Some((block, more)) = split_block(rest) {
         if answers.len() >= items as usize {
-            return Some(Stop::TooMany);
+            return Err(Stop::TooMany);
         }
         if answers.reserve(1).is_err() {
-            return Some(Stop::OutOfMemory);
+            return Err(Stop::OutOfMemory);
         }
-        match serve_block(alloc, &block, clock, client, greatest_age) {
+        match serve_block(alloc, block, clock, client, greatest_age) {
             Ok(answer) => {
                 let is_last = !is_open(&answer);
                 answers.push_reserved(answer);
                 if is_last {
-                    return Some(Stop::Shutdown);
+                    return Err(Stop::Shutdown);
                 }
             }
-            Err(fault) => return Some(stop_of(fault)),
+            Err(fault) => return Err(stop_of(fault)),
         }
+        rest = more;
     }
-    None
+    Ok(rest.len())
 }
 
 // How a session stops at the end of its input, of which so many bytes are no whole item.
@@ -127,28 +142,24 @@ fn read_packets<R: Source, C: Clock, S: Submit>(
     ensures named { S.named client.new ≡ S.named client.old }
     ensures keeps { S.keeps client.old client.new }
 {
-    let mut cutter = Cutter::new(alloc);
-    let mut piece = [0; PIECE];
+    let mut buffer = ReadBuffer::new();
     for _ in 0..limits.reads {
-        let count = match reader.take_some(&mut piece) {
+        match buffer.read(reader) {
             Err(_) => return Stop::ReadFault,
-            Ok(0) => return stop_at_end(cutter.rest()),
-            Ok(count) => count,
-        };
-        if cutter.feed(&piece[..count]).is_err() {
-            return Stop::OutOfMemory;
+            Ok(0) => return stop_at_end(buffer.as_slice().len()),
+            Ok(_) => {}
         }
-        match serve_held(
+        match serve_front(
             alloc,
-            &mut cutter,
+            buffer.as_slice(),
             clock,
             client,
             limits.items,
             greatest_age,
             answers,
         ) {
-            Some(stop) => return stop,
-            None => {}
+            Ok(left) => buffer.keep_last(left),
+            Err(stop) => return stop,
         }
     }
     Stop::ReadFault
