@@ -13,7 +13,7 @@ use Rattle.gate_replay.specs.declared.player.Player.{Player}
 use Rattle.gate_replay.specs.declared.player.Stopped.{Stopped}
 use Rattle.gate_replay.specs.declared.player.Stopped.TheVariants as stopped
 use Rattle.gate_replay.specs.Gateway.{Gateway, records_item, drains, number_queued, Finishes}
-use Rattle.gate_replay.specs.inner.Playing.{DeskView, Extends, Setting, Shows, Takes, TakesItem, TakesNothing, Drains, DrainsFull, Ends, StopsBy}
+use Rattle.gate_replay.specs.inner.Playing.{DeskView, Extends, IsEnded, Setting, Shows, FindsFull, Takes, TakesItem, TakesNothing, Drains, DrainsFull, Ends, StopsBy}
 
 -- whatever ends a drain from g ends it from start
 abbrev pub Leads : ℕ → Gateway → Gateway → Type 0
@@ -70,24 +70,24 @@ drains_none {D} view was now none on s output g h =
     }
 
 -- the log is full, and an item is left
-pub drains_full : {D : Type 0} (view : DeskView D) (was now : Player D) (kept : ApplierView) → length now.applier.records < now.queued → kept ≡ now.applier → length now.applier.records ≡ now.applier.limit → DrainsOn view was now
-    → (s : Setting) (output : SinkState) (g : Gateway) → Shows view s was output g → DrainsFull view s kept output g
-drains_full {D} view was now kept some is full on s output g h =
+pub drains_full : {D E : Type 0} (view : DeskView D) (ended : DeskView E) (was now : Player D) (kept : ApplierView) → length now.applier.records < now.queued → FindsFull view ended now kept → DrainsOn view was now
+    → (s : Setting) (output : SinkState) (g : Gateway) → Shows view s was output g → DrainsFull ended s kept output g
+drains_full {D} view ended was now kept some found on s output g h =
     let r : Reaches view s now output g = on s output g h in
     let left : length r.g.records < number_queued r.g.run = left_in view s now output r.g r.shows some in
-    let at_limit : s.setup.limit ≤ length r.g.records = omega (arith, full, r.shows.applier.limit, ap length r.shows.applier.records) in
+    let at_limit : s.setup.limit ≤ length r.g.records = omega (arith, found.full, r.shows.applier.limit, ap length r.shows.applier.records) in
     let more = r.leads [] (λ _. at_limit) in
     let same : drains [] r.g ≡ record r.g { full = true } = ap (λ b. record r.g { full = b }) (is_left (length r.g.records) (number_queued r.g.run) left) in
     record {
       takes = more.0;
       finishes = more.1;
-      ends = subst (λ (x : Gateway). Ends view s kept output x) (sym (more.2 ∙ same)) (record {
-        kept = record { desk = now.desk; after = r.shows.holds.after; limits_are = r.shows.holds.limits };
+      ends = subst (λ (x : Gateway). Ends ended s kept output x) (sym (more.2 ∙ same)) (record {
+        kept = record { desk = found.is_ended.rest; after = found.is_ended.after r.g.run r.shows.holds.after; limits_are = found.is_ended.limits_are ∙ r.shows.holds.limits };
         shown = record {
-          table = ap (λ (a : ApplierView). a.table) is ∙ r.shows.applier.table;
-          opening = ap (λ (a : ApplierView). a.opening) is ∙ r.shows.applier.opening;
-          limit = ap (λ (a : ApplierView). a.limit) is ∙ r.shows.applier.limit;
-          records = ap (λ (a : ApplierView). a.records) is ∙ r.shows.applier.records;
+          table = ap (λ (a : ApplierView). a.table) found.applier ∙ r.shows.applier.table;
+          opening = ap (λ (a : ApplierView). a.opening) found.applier ∙ r.shows.applier.opening;
+          limit = ap (λ (a : ApplierView). a.limit) found.applier ∙ r.shows.applier.limit;
+          records = ap (λ (a : ApplierView). a.records) found.applier ∙ r.shows.applier.records;
         };
         printed = r.shows.printed;
         full = refl;
@@ -217,9 +217,16 @@ takes_true {D} view was now found e t = subst (λ (b : Bool). Takes view was now
 pub takes_false : {D : Type 0} (view : DeskView D) (was now : Player D) (found : Bool) → found ≡ false → Takes view was now found → Takes view was now false
 takes_false {D} view was now found e t = subst (λ (b : Bool). Takes view was now b) e t
 
+-- a take that found no room met a full log, or memory ran out
+pub take_stopped : {D E : Type 0} (view : DeskView D) (ended : DeskView E) (player : Player D) (stop : Stopped) → IsEnded view ended player.desk → StopsBy (λ kept. (kept ≡ player.applier) × (length player.applier.records ≡ player.applier.limit)) (Unit {0}) (λ _. ⊥) stop
+    → StopsBy (FindsFull view ended player) (Unit {0}) (λ _. ⊥) stop
+take_stopped view ended player (stopped.Full kept) is_ended h = record { applier = h.0; full = h.1; is_ended = is_ended }
+take_stopped view ended player (stopped.OutOfMemory kept) is_ended h = tt
+take_stopped view ended player (stopped.Unwritten fault) is_ended h = absurd h
+
 -- a drain that stops met a full log, or memory ran out
-pub drain_stopped : {D : Type 0} (view : DeskView D) (was now : Player D) (stop : Stopped) → length now.applier.records < now.queued → DrainsOn view was now → StopsBy (λ kept. (kept ≡ now.applier) × (length now.applier.records ≡ now.applier.limit)) (Unit {0}) (λ _. ⊥) stop
-    → StopsBy (λ kept. (s : Setting) (output : SinkState) (g : Gateway) → Shows view s was output g → DrainsFull view s kept output g) (Unit {0}) (λ _. ⊥) stop
-drain_stopped view was now (stopped.Full kept) some on h = drains_full view was now kept some h.0 h.1 on
-drain_stopped view was now (stopped.OutOfMemory kept) some on h = tt
-drain_stopped view was now (stopped.Unwritten fault) some on h = absurd h
+pub drain_stopped : {D E : Type 0} (view : DeskView D) (ended : DeskView E) (was now : Player D) (stop : Stopped) → length now.applier.records < now.queued → DrainsOn view was now → StopsBy (FindsFull view ended now) (Unit {0}) (λ _. ⊥) stop
+    → StopsBy (λ kept. (s : Setting) (output : SinkState) (g : Gateway) → Shows view s was output g → DrainsFull ended s kept output g) (Unit {0}) (λ _. ⊥) stop
+drain_stopped view ended was now (stopped.Full kept) some on h = drains_full view ended was now kept some h on
+drain_stopped view ended was now (stopped.OutOfMemory kept) some on h = tt
+drain_stopped view ended was now (stopped.Unwritten fault) some on h = absurd h

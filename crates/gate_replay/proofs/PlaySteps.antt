@@ -141,15 +141,15 @@ drains_plays {D} view s now step after g heard running session d =
       shows = subst (λ (x : Gateway). Shows view s now after x) (sym is) d.shows;
     }
 
-drains_plays_full : {D : Type 0} (view : DeskView D) (s : Setting) (kept : ApplierView) (step : Step) (after : SinkState) (g : Gateway) (heard : Heard) → g.full ≡ false → is_session step ≡ true → DrainsFull view s kept after (serves s.setup step heard g) → PlaysFull view s kept after step g
-drains_plays_full {D} view s kept step after g heard running session d =
+drains_plays_full : {E : Type 0} (ended : DeskView E) (s : Setting) (kept : ApplierView) (step : Step) (after : SinkState) (g : Gateway) (heard : Heard) → g.full ≡ false → is_session step ≡ true → DrainsFull ended s kept after (serves s.setup step heard g) → PlaysFull ended s kept after step g
+drains_plays_full {E} ended s kept step after g heard running session d =
     let with_takes : Heard = record heard { takes = d.takes } in
     let same : serves s.setup step with_takes g ≡ serves s.setup step heard g = serves_with s.setup step heard d.takes g in
     let is : plays s.setup step with_takes g ≡ drains d.takes (serves s.setup step heard g) = session_is s.setup step with_takes g running session ∙ ap (λ (v : Gateway). drains d.takes v) same in
     record {
       heard = with_takes;
       whole = λ _ _. rw same d.finishes;
-      ends = subst (λ (x : Gateway). Ends view s kept after x) (sym is) d.ends;
+      ends = subst (λ (x : Gateway). Ends ended s kept after x) (sym is) d.ends;
     }
 
 -- the step's service, whatever its takes
@@ -177,21 +177,21 @@ write_end_on a b c replay_fault.ReadFault h k = k
 write_end_on a b c replay_fault.WriteFault h k = fails_then a.failures b.failures c.failures 1 h k
 
 -- the service of a session stopped
-pub served_stops : {D : Type 0} (view : DeskView D) (stop : Stopped) (was : Player D) (step : Step) (before after : SinkState) → StopsBy (λ _. ⊥) (Fails before.failures after.failures 0) (IsWriteEnd before after) stop
-    → StopsBy (λ kept. (s : Setting) (g : Gateway) → Shows view s was before g → PlaysFull view s kept after step g) (Fails before.failures after.failures 0) (IsWriteEnd before after) stop
-served_stops {D} view stop was step before after h =
-    stops stop (λ _. ⊥) (λ kept. (s : Setting) (g : Gateway) → Shows view s was before g → PlaysFull view s kept after step g) (Fails before.failures after.failures 0) (Fails before.failures after.failures 0) (IsWriteEnd before after) (IsWriteEnd before after)
+pub served_stops : {D E : Type 0} (view : DeskView D) (ended : DeskView E) (stop : Stopped) (was : Player D) (step : Step) (before after : SinkState) → StopsBy (λ _. ⊥) (Fails before.failures after.failures 0) (IsWriteEnd before after) stop
+    → StopsBy (λ kept. (s : Setting) (g : Gateway) → Shows view s was before g → PlaysFull ended s kept after step g) (Fails before.failures after.failures 0) (IsWriteEnd before after) stop
+served_stops {D} view ended stop was step before after h =
+    stops stop (λ _. ⊥) (λ kept. (s : Setting) (g : Gateway) → Shows view s was before g → PlaysFull ended s kept after step g) (Fails before.failures after.failures 0) (Fails before.failures after.failures 0) (IsWriteEnd before after) (IsWriteEnd before after)
     (λ kept no. absurd no) (λ m. m) (λ fault f. f) h
 
 -- the drain of a session stopped
-pub drain_stops : {D : Type 0} (view : DeskView D) (r : Result (Player D) Stopped) (was mid : Player D) (step : Step) (before after : SinkState) → ((s : Setting) (g : Gateway) → Shows view s was before g → Serves view s mid after step g) → is_session step ≡ true → Fails before.failures after.failures 0
-    → IfErr r (StopsBy (λ kept. (s : Setting) (output : SinkState) (g : Gateway) → Shows view s mid output g → DrainsFull view s kept output g) (Unit {0}) (λ _. ⊥))
-    → IfErr r (StopsBy (λ kept. (s : Setting) (g : Gateway) → Shows view s was before g → PlaysFull view s kept after step g) (Fails before.failures after.failures 0) (IsWriteEnd before after))
-drain_stops view (Ok now) was mid step before after served session none h = tt
-drain_stops {D} view (Err stop) was mid step before after served session none h =
-    stops stop (λ kept. (s : Setting) (output : SinkState) (g : Gateway) → Shows view s mid output g → DrainsFull view s kept output g) (λ kept. (s : Setting) (g : Gateway) → Shows view s was before g → PlaysFull view s kept after step g)
+pub drain_stops : {D E : Type 0} (view : DeskView D) (ended : DeskView E) (r : Result (Player D) Stopped) (was mid : Player D) (step : Step) (before after : SinkState) → ((s : Setting) (g : Gateway) → Shows view s was before g → Serves view s mid after step g) → is_session step ≡ true → Fails before.failures after.failures 0
+    → IfErr r (StopsBy (λ kept. (s : Setting) (output : SinkState) (g : Gateway) → Shows view s mid output g → DrainsFull ended s kept output g) (Unit {0}) (λ _. ⊥))
+    → IfErr r (StopsBy (λ kept. (s : Setting) (g : Gateway) → Shows view s was before g → PlaysFull ended s kept after step g) (Fails before.failures after.failures 0) (IsWriteEnd before after))
+drain_stops view ended (Ok now) was mid step before after served session none h = tt
+drain_stops {D} view ended (Err stop) was mid step before after served session none h =
+    stops stop (λ kept. (s : Setting) (output : SinkState) (g : Gateway) → Shows view s mid output g → DrainsFull ended s kept output g) (λ kept. (s : Setting) (g : Gateway) → Shows view s was before g → PlaysFull ended s kept after step g)
     (Unit {0}) (Fails before.failures after.failures 0) (λ _. ⊥) (IsWriteEnd before after)
-    (λ kept full s g shows. let v = served s g shows in drains_plays_full view s kept step after g v.heard shows.running session (full s after (serves s.setup step v.heard g) (served_shows view s mid after step g v)))
+    (λ kept full s g shows. let v = served s g shows in drains_plays_full ended s kept step after g v.heard shows.running session (full s after (serves s.setup step v.heard g) (served_shows view s mid after step g v)))
     (λ m. none) (λ fault no. absurd no) h
 
 pub plays_other : {D : Type 0} (view : DeskView D) (was now : Player D) (step : Step) (before after : SinkState) → ((s : Setting) (g : Gateway) → Shows view s was before g → Serves view s now after step g) → is_session step ≡ false
@@ -283,9 +283,9 @@ idle_whole setup (step ∷ more) done full whole =
     let same : gateway_after setup ((step, nothing_heard []) ∷ done) ≡ gateway_after setup done = stays_full setup step (nothing_heard []) (gateway_after setup done) full in
     idle_whole setup more ((step, nothing_heard []) ∷ done) (ap (λ (g : Gateway). g.full) same ∙ full) ((λ running _. let no : true ≡ false = sym full ∙ running in absurd (cc)), whole)
 
-full_after : {D : Type 0} (view : DeskView D) (s : Setting) (steps first rest : List Step) (step : Step) (was : Player D) (kept : ApplierView) (before after : SinkState) → first ++ step ∷ [] ++ rest ≡ steps → PlayedTo view s first was before
-    → ((t : Setting) (g : Gateway) → Shows view t was before g → PlaysFull view t kept after step g) → PlayedFull view s steps kept after
-full_after {D} view s steps first rest step was kept before after parts h played =
+full_after : {D E : Type 0} (view : DeskView D) (ended : DeskView E) (s : Setting) (steps first rest : List Step) (step : Step) (was : Player D) (kept : ApplierView) (before after : SinkState) → first ++ step ∷ [] ++ rest ≡ steps → PlayedTo view s first was before
+    → ((t : Setting) (g : Gateway) → Shows view t was before g → PlaysFull ended t kept after step g) → PlayedFull ended s steps kept after
+full_after {D} view ended s steps first rest step was kept before after parts h played =
     let p = played s (gateway_after s.setup h.done) h.shows in
     let done : List (Step × Heard) = (step, p.heard) ∷ h.done in
     let all : steps_of done ≡ reverse (first ++ step ∷ []) = more_steps first step (steps_of h.done) h.steps_are in
@@ -293,16 +293,16 @@ full_after {D} view s steps first rest step was kept before after parts h played
       done = idle rest done;
       steps_are = idle_steps rest done ∙ ap (λ l. reverse rest ++ l) all ∙ sym (reverse-append (first ++ step ∷ []) rest) ∙ ap reverse parts;
       whole = idle_whole s.setup rest done p.ends.full (p.whole, h.whole);
-      ends = subst (λ (x : Gateway). Ends view s kept after x) (sym (idle_gateway s.setup rest done p.ends.full)) p.ends;
+      ends = subst (λ (x : Gateway). Ends ended s kept after x) (sym (idle_gateway s.setup rest done p.ends.full)) p.ends;
     }
 
 -- the replay stopped at a step, after steps of which none failed a call
-pub played_stops : {D : Type 0} (view : DeskView D) (stop : Stopped) (player : Player D) (base : SinkState) (steps : List Step) (i : ℕ) (step : Step) (was : Player D) (before after : SinkState) → take (i + 1) steps ≡ take i steps ++ step ∷ []
+pub played_stops : {D E : Type 0} (view : DeskView D) (ended : DeskView E) (stop : Stopped) (player : Player D) (base : SinkState) (steps : List Step) (i : ℕ) (step : Step) (was : Player D) (before after : SinkState) → take (i + 1) steps ≡ take i steps ++ step ∷ []
     → Fails base.failures before.failures 0 → ((setup : Setup) → IsNew view setup player → PlayedTo view (setting setup base) (take i steps) was before)
-    → StopsBy (λ kept. (s : Setting) (g : Gateway) → Shows view s was before g → PlaysFull view s kept after step g) (Fails before.failures after.failures 0) (IsWriteEnd before after) stop
-    → StopsBy (λ kept. (setup : Setup) → IsNew view setup player → PlayedFull view (setting setup base) steps kept after) (Fails base.failures after.failures 0) (IsWriteEnd base after) stop
-played_stops {D} view stop player base steps i step was before after is none so_far h =
-    stops stop (λ kept. (s : Setting) (g : Gateway) → Shows view s was before g → PlaysFull view s kept after step g) (λ kept. (setup : Setup) → IsNew view setup player → PlayedFull view (setting setup base) steps kept after)
+    → StopsBy (λ kept. (s : Setting) (g : Gateway) → Shows view s was before g → PlaysFull ended s kept after step g) (Fails before.failures after.failures 0) (IsWriteEnd before after) stop
+    → StopsBy (λ kept. (setup : Setup) → IsNew view setup player → PlayedFull ended (setting setup base) steps kept after) (Fails base.failures after.failures 0) (IsWriteEnd base after) stop
+played_stops {D} view ended stop player base steps i step was before after is none so_far h =
+    stops stop (λ kept. (s : Setting) (g : Gateway) → Shows view s was before g → PlaysFull ended s kept after step g) (λ kept. (setup : Setup) → IsNew view setup player → PlayedFull ended (setting setup base) steps kept after)
     (Fails before.failures after.failures 0) (Fails base.failures after.failures 0) (IsWriteEnd before after) (IsWriteEnd base after)
-    (λ kept full setup new. full_after view (setting setup base) steps (take i steps) (drop (i + 1) steps) step was kept before after (ap (λ l. l ++ drop (i + 1) steps) (sym is) ∙ take-append-drop (i + 1) steps) (so_far setup new) full)
+    (λ kept full setup new. full_after view ended (setting setup base) steps (take i steps) (drop (i + 1) steps) step was kept before after (ap (λ l. l ++ drop (i + 1) steps) (sym is) ∙ take-append-drop (i + 1) steps) (so_far setup new) full)
     (λ m. fails_then base.failures before.failures after.failures 0 none m) (λ fault f. write_end_on base before after fault none f) h

@@ -1,11 +1,12 @@
 -- The ends of a replay.
-use Rattle.std.proofs.Common.{◌≡◌, ℕ, List, Option, Some, None, Bool, true, false, refl, subst}
+use Rattle.std.proofs.Common.{◌≡◌, ℕ, List, Option, Some, None, Bool, true, false, refl, ◌∙◌, subst}
 use Rattle.std.specs.Prelude.{Result, Ok, Err, OnOk, IfErr}
 use Rattle.gate_model.specs.declared.object.ObjectLine.{ObjectLine}
 use Rattle.gate_model.specs.declared.record.Record.{Record}
 use Rattle.gate_model.specs.Meaning.{outcomes_of}
 use Rattle.gate_core.specs.Limits.{Limits}
 use Rattle.gate_core.specs.Legal.{Run}
+use Rattle.gate_desk.specs.Ending.{with_ends}
 use Rattle.gate_applier.specs.Applier.{ApplierView}
 use Rattle.gate_pages.specs.LogPage.{log_text}
 use Rattle.gate_reader.specs.Sink.{SinkState, Fails, Delivers}
@@ -15,15 +16,15 @@ use Rattle.gate_replay.specs.declared.player.Player.{Player}
 use Rattle.gate_replay.specs.declared.script.Script.{Script}
 use Rattle.gate_replay.specs.Gateway.{Gateway, gateway_after}
 use Rattle.gate_replay.specs.Replay.{fault_in}
-use Rattle.gate_replay.specs.inner.Playing.{DeskView, setting, IsShown, PlayedTo, PlayedFull, IsWriteEnd, IsPrinted, EndsPlaying}
+use Rattle.gate_replay.specs.inner.Playing.{DeskView, setting, IsShown, IsEnded, PlayedTo, PlayedFull, IsWriteEnd, IsPrinted, EndsPlaying}
 use Rattle.gate_replay.proofs.Outputs.{fails_then, delivers_on}
 
 page_again : (table other : List ObjectLine) (records more : List Record) → records ≡ more → table ≡ other → log_text records (outcomes_of table records) ≡ log_text more (outcomes_of other more)
 page_again table other records more e f = rw (e, f) refl
 
 -- the log page is delivered after the answers and the status pages
-finished : {D : Type 0} (view : DeskView D) (script : Script) (player : Player D) (b m a : SinkState) → PlayedTo view (setting script.setup b) script.steps.items player m → Delivers m a (log_text player.applier.records (outcomes_of player.applier.table player.applier.records)) → EndsPlaying (IsShown view) script b a None
-finished {D} view script player b m a h printed =
+finished : {D E : Type 0} (view : DeskView D) (ended : DeskView E) (script : Script) (player : Player D) (b m a : SinkState) → IsEnded view ended player.desk → PlayedTo view (setting script.setup b) script.steps.items player m → Delivers m a (log_text player.applier.records (outcomes_of player.applier.table player.applier.records)) → EndsPlaying (IsShown ended) script b a None
+finished {D} view ended script player b m a e h printed =
     let g : Gateway = gateway_after script.setup h.done in
     let page = page_again player.applier.table script.setup.table player.applier.records g.records h.shows.applier.records h.shows.applier.table in
     record {
@@ -33,14 +34,14 @@ finished {D} view script player b m a h printed =
         steps_are = h.steps_are;
         whole = h.whole;
         is = refl;
-        kept = record { desk = player.desk; after = h.shows.holds.after; limits_are = h.shows.holds.limits };
+        kept = record { desk = e.rest; after = e.after g.run h.shows.holds.after; limits_are = e.limits_are ∙ h.shows.holds.limits };
       };
       full_is = h.shows.running;
       printed = delivers_on b m a g.printed _ h.shows.printed (subst (λ (t : List ℕ). Delivers m a t) page printed);
     }
 
-finished_full : {D : Type 0} (view : DeskView D) (script : Script) (kept : ApplierView) (b m a : SinkState) → PlayedFull view (setting script.setup b) script.steps.items kept m → Delivers m a (log_text kept.records (outcomes_of kept.table kept.records)) → EndsPlaying (IsShown view) script b a (Some LogFull)
-finished_full {D} view script kept b m a h printed =
+finished_full : {E : Type 0} (ended : DeskView E) (script : Script) (kept : ApplierView) (b m a : SinkState) → PlayedFull ended (setting script.setup b) script.steps.items kept m → Delivers m a (log_text kept.records (outcomes_of kept.table kept.records)) → EndsPlaying (IsShown ended) script b a (Some LogFull)
+finished_full {E} ended script kept b m a h printed =
     let g : Gateway = gateway_after script.setup h.done in
     let page = page_again kept.table script.setup.table kept.records g.records h.ends.shown.records h.ends.shown.table in
     record {
@@ -75,20 +76,22 @@ ends_unwritten rules script b a ReadFault k = k
 ends_unwritten rules script b a WriteFault k = k
 
 -- the log page ends the replay
-pub log_ends : {D : Type 0} (view : DeskView D) (r : Result (Unit {0}) ReplayFault) (script : Script) (player : Player D) (b m a : SinkState) → PlayedTo view (setting script.setup b) script.steps.items player m
-    → OnOk r (Delivers m a (log_text player.applier.records (outcomes_of player.applier.table player.applier.records))) → IfErr r (IsWriteEnd m a) → EndsPlaying (IsShown view) script b a (fault_in r)
-log_ends view (Ok x) script player b m a h ok err = finished view script player b m a h ok
-log_ends view (Err fault) script player b m a h ok err = unwritten (IsShown view) script b m a fault h.shows.printed.none_failed err
+pub log_ends : {D E : Type 0} (view : DeskView D) (ended : DeskView E) (r : Result (Unit {0}) ReplayFault) (script : Script) (player : Player D) (applier : ApplierView) (b m a : SinkState) → applier ≡ player.applier → IsEnded view ended player.desk
+    → PlayedTo view (setting script.setup b) script.steps.items player m
+    → OnOk r (Delivers m a (log_text applier.records (outcomes_of applier.table applier.records))) → IfErr r (IsWriteEnd m a) → EndsPlaying (IsShown ended) script b a (fault_in r)
+log_ends view ended (Ok x) script player applier b m a is e h ok err =
+    finished view ended script player b m a e h (subst (λ (v : ApplierView). Delivers m a (log_text v.records (outcomes_of v.table v.records))) is ok)
+log_ends view ended (Err fault) script player applier b m a is e h ok err = unwritten (IsShown ended) script b m a fault h.shows.printed.none_failed err
 
 fault_is : (rules : Limits → Run → Type 0) (result : Result (Unit {0}) ReplayFault) (fault : ReplayFault) (script : Script) (b a : SinkState) → result ≡ Err fault → EndsPlaying rules script b a (Some fault) → EndsPlaying rules script b a (fault_in result)
 fault_is rules result fault script b a is ends = rw is ends
 
 -- the log page after a full log ends the replay
-pub full_ends : {D : Type 0} (view : DeskView D) (printed result : Result (Unit {0}) ReplayFault) (script : Script) (kept : ApplierView) (b m a : SinkState) → PlayedFull view (setting script.setup b) script.steps.items kept m
+pub full_ends : {E : Type 0} (ended : DeskView E) (printed result : Result (Unit {0}) ReplayFault) (script : Script) (kept : ApplierView) (b m a : SinkState) → PlayedFull ended (setting script.setup b) script.steps.items kept m
     → OnOk printed (Delivers m a (log_text kept.records (outcomes_of kept.table kept.records))) → IfErr printed (IsWriteEnd m a)
-    → OnOk printed (result ≡ Err LogFull) → IfErr printed (λ other. result ≡ Err other) → EndsPlaying (IsShown view) script b a (fault_in result)
-full_ends view (Ok done) result script kept b m a h ok err is other = fault_is (IsShown view) result LogFull script b a is (finished_full view script kept b m a h ok)
-full_ends view (Err fault) result script kept b m a h ok err is other = fault_is (IsShown view) result fault script b a other (unwritten (IsShown view) script b m a fault h.ends.printed.none_failed err)
+    → OnOk printed (result ≡ Err LogFull) → IfErr printed (λ other. result ≡ Err other) → EndsPlaying (IsShown ended) script b a (fault_in result)
+full_ends ended (Ok done) result script kept b m a h ok err is other = fault_is (IsShown ended) result LogFull script b a is (finished_full ended script kept b m a h ok)
+full_ends ended (Err fault) result script kept b m a h ok err is other = fault_is (IsShown ended) result fault script b a other (unwritten (IsShown ended) script b m a fault h.ends.printed.none_failed err)
 
 -- the log page after memory ran out ends the replay
 pub memory_ends : (rules : Limits → Run → Type 0) (printed result : Result (Unit {0}) ReplayFault) (script : Script) (b m a : SinkState) → Fails b.failures m.failures 0
@@ -101,7 +104,7 @@ memory_ends rules (Err fault) result script b m a none_failed err is other = fau
 kept_too : (rules others : Limits → Run → Type 0) (script : Script) (b a : SinkState) (full : Bool) → ((limits : Limits) (run : Run) → rules limits run → others limits run) → IsPrinted rules script b a full → IsPrinted others script b a full
 kept_too rules others script b a full weaker h = record {
   gateway = h.gateway;
-  played = record { done = h.played.done; steps_are = h.played.steps_are; whole = h.played.whole; is = h.played.is; kept = weaker _ h.gateway.run h.played.kept };
+  played = record { done = h.played.done; steps_are = h.played.steps_are; whole = h.played.whole; is = h.played.is; kept = weaker _ (with_ends h.gateway.run) h.played.kept };
   full_is = h.full_is;
   printed = h.printed;
 }

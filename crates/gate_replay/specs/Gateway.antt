@@ -20,6 +20,7 @@ use Rattle.gate_core.specs.declared.submit.Refused.{Refused}
 use Rattle.gate_core.specs.Limits.{Limits, limits_of, default_quota}
 use Rattle.gate_core.specs.Legal.{Run, queued, close_reply}
 use Rattle.gate_core.specs.LocalClient.{submitted}
+use Rattle.gate_desk.specs.Ending.{with_ends}
 use Rattle.gate_reader.specs.declared.report.Answer.TheVariants.{Stale, Bad, Down}
 use Rattle.gate_reader.specs.Report.{answer_to, answer_line}
 use Rattle.gate_pages.specs.StatusPage.{status_text_at}
@@ -173,11 +174,11 @@ IsWhole setup ((step, heard) ∷ before) = IsWholeStep setup step heard (gateway
 abbrev pub steps_of : List (Step × Heard) → List Step
 steps_of done = map (λ pair. pair.0) done
 
--- the gateway played the whole script, over a queue of two clients whose answers keep these rules: those of the machine of
--- all interleavings, or those that a gate keeps whatever other threads do
+-- the gateway played the whole script, over a queue of two clients, which then ended and were taken in. The queue's answers
+-- keep these rules: those of the machine of all interleavings, or those that a gate keeps whatever other threads do
 pub record IsPlayed (rules : Limits → Run → Type 0) (script : Script) (g : Gateway) : Type 0 where
   pub done : List (Step × Heard)
   pub steps_are : steps_of done ≡ reverse script.steps.items
   pub whole : IsWhole script.setup done
   pub is : g ≡ gateway_after script.setup done
-  pub kept : rules (limits_of 2 default_quota script.setup.capacity) g.run
+  pub kept : rules (limits_of 2 default_quota script.setup.capacity) (with_ends g.run)

@@ -7,7 +7,7 @@ ghost use Rattle.gate_replay.specs.declared.script.Step.TheVariants as step;
 ghost use Rattle.gate_replay.specs.declared.script.Setup.{Setup};
 ghost use Rattle.gate_replay.specs.Gateway.{Gateway, is_session};
 ghost use Rattle.gate_replay.specs.inner.Sessions.{queued_in};
-ghost use Rattle.gate_replay.specs.inner.Playing.{desk_view, Setting, setting, Shows, IsNew, IsUnderWay, IsReady, Takes, Serves, Drains, DrainsFull, Plays, PlaysFull, PlayedTo, PlayedFull, IsWriteEnd, StopsBy};
+ghost use Rattle.gate_replay.specs.inner.Playing.{desk_view, Setting, setting, Shows, IsNew, IsUnderWay, IsReady, Takes, Serves, Drains, DrainsFull, Plays, PlaysFull, PlayedTo, PlayedFull, IsEnded, FindsFull, IsWriteEnd, StopsBy};
 
 use crate::fault::ReplayFault;
 use crate::printing::{print, print_answer};
@@ -94,7 +94,10 @@ fn opens_session(step: &Step) -> bool
     matches!(step, Step::Packet(_) | Step::Line(_))
 }
 
-impl<D: Desk + Drop> Player<D> {
+impl<D: Desk + Drop> Player<D>
+where
+    D::Ended: Drop,
+{
     /// The replay over this desk that begins with this setup.
     pub(crate) fn open(alloc: Global, desk: D, setup: Setup) -> Result<Player<D>, ReplayFault>
         requires begun { D.after desk [] }
@@ -121,14 +124,26 @@ impl<D: Desk + Drop> Player<D> {
         }
     }
 
-    // Takes an item and records it. Without one there is nothing more to take.
+    /// Ends the desk, and leaves the applier.
+    pub(crate) fn end(self) -> Applier
+        requires { (run : Run) × D.after self.desk run }
+        ensures applier { result ≡ self.applier }
+        ensures ended { IsEnded (desk_view D.after D.limits)
+            (desk_view D.Ended.after D.Ended.limits) self.desk }
+    {
+        let _ended = self.desk.end();
+        self.applier
+    }
+
+    // Takes an item and records it. Without one there is nothing more to take. The desk is ended
+    // where the log is full.
     fn take_one(self) -> Result<(Player<D>, bool), Stopped>
         requires { (run : Run) × D.after self.desk run }
         ensures taken { IfOk result (λ turn.
             Takes (desk_view D.after D.limits) self turn.0 turn.1) }
-        ensures stopped { IfErr result (StopsBy
-            (λ kept. (kept ≡ self.applier) × (length self.applier.records ≡ self.applier.limit))
-            (Unit {0}) (λ _. ⊥)) }
+        ensures stopped { let view = desk_view D.after D.limits in
+            let ended = desk_view D.Ended.after D.Ended.limits in
+            IfErr result (StopsBy (FindsFull view ended self) (Unit {0}) (λ _. ⊥)) }
     {
         let Player {
             desk,
@@ -139,7 +154,10 @@ impl<D: Desk + Drop> Player<D> {
         } = self;
         let ready = match prepare(applier) {
             Ok(ready) => ready,
-            Err(stop) => return Err(stop),
+            Err(stop) => {
+                let _ended = desk.end();
+                return Err(stop);
+            }
         };
         let (desk, item) = desk.take();
         match item {
@@ -175,8 +193,9 @@ impl<D: Desk + Drop> Player<D> {
             IfOk result (λ now. (s : Setting) (output : SinkState) (g : Gateway)
             → Shows view s self output g → Drains view s now output g) }
         ensures stopped { let view = desk_view D.after D.limits in
+            let ended = desk_view D.Ended.after D.Ended.limits in
             IfErr result (StopsBy (λ kept. (s : Setting) (output : SinkState)
-            (g : Gateway) → Shows view s self output g → DrainsFull view s kept output g)
+            (g : Gateway) → Shows view s self output g → DrainsFull ended s kept output g)
             (Unit {0}) (λ _. ⊥)) }
     {
         let mut player = self;
@@ -342,10 +361,11 @@ impl<D: Desk + Drop> Player<D> {
             → Shows view s self (state output.old) g
             → Plays view s now (state output.new) step.now g) }
         ensures stopped { let view = desk_view D.after D.limits in
+            let ended = desk_view D.Ended.after D.Ended.limits in
             let state = sink_state W.contents W.pending W.failures in
             IfErr result (StopsBy (λ kept. (s : Setting) (g : Gateway)
             → Shows view s self (state output.old) g
-            → PlaysFull view s kept (state output.new) step.now g)
+            → PlaysFull ended s kept (state output.new) step.now g)
             (Fails (W.failures output.old) (W.failures output.new) 0)
             (IsWriteEnd (state output.old) (state output.new))) }
     {
@@ -375,9 +395,10 @@ impl<D: Desk + Drop> Player<D> {
             IfOk result (λ now. (setup : Setup) → IsNew view setup self
             → PlayedTo view (setting setup (state output.old)) steps.now now (state output.new)) }
         ensures stopped { let view = desk_view D.after D.limits in
+            let ended = desk_view D.Ended.after D.Ended.limits in
             let state = sink_state W.contents W.pending W.failures in
             IfErr result (StopsBy (λ kept. (setup : Setup) → IsNew view setup self
-            → PlayedFull view (setting setup (state output.old)) steps.now kept (state output.new))
+            → PlayedFull ended (setting setup (state output.old)) steps.now kept (state output.new))
             (Fails (W.failures output.old) (W.failures output.new) 0)
             (IsWriteEnd (state output.old) (state output.new))) }
     {

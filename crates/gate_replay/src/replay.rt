@@ -80,16 +80,21 @@ fn play_over<D: Desk + Drop, W: Sink>(
     script: Script,
     output: &mut W,
 ) -> Result<(), ReplayFault>
+where
+    D::Ended: Drop,
     requires begun { D.after desk [] }
     requires limits { D.limits desk ≡ limits_of 2 default_quota script.setup.capacity }
     ensures { let state = sink_state W.contents W.pending W.failures in
-        EndsPlaying (IsShown (desk_view D.after D.limits)) script
+        EndsPlaying (IsShown (desk_view D.Ended.after D.Ended.limits)) script
         (state output.old) (state output.new) (fault_in result) }
 {
     let Script { setup, steps } = script;
     let player = Player::open(alloc, desk, setup)?;
     match player.play(alloc, &steps, output) {
-        Ok(player) => print_log(alloc, &player.applier, output),
+        Ok(player) => {
+            let applier = player.end();
+            print_log(alloc, &applier, output)
+        }
         Err(Stopped::Full(applier)) => {
             let printed = print_log(alloc, &applier, output);
             fault_after(printed, ReplayFault::LogFull)
@@ -140,12 +145,12 @@ fn play_over_gate<R: Wait, W: Sink>(
 
 /// Reads a script, checks it whole and plays it over a gate of two clients: it prints an answer for
 /// each packet and each line that arrives, the status page where it is asked for, and in the end the
-/// log page, also where the log was full with an item left.
+/// log page, also where the log was full with an item left. Both clients have ended by then.
 ///
 /// The queue's answers keep the rules that a gate keeps whatever other threads do. Those leave open
-/// that it answers full although there is room, that a take finds nothing although items wait, and
-/// which body a taken item has before its client has ended. All else that is printed follows from
-/// the script and these answers.
+/// whether there is room for an item, whether somebody else has closed, and whether a take finds
+/// the items that wait. What is recorded of a client begins what was queued for it. All else that
+/// is printed follows from the script and these answers.
 ///
 /// TooLong and Line are faults of the input, before anything is printed: it has more than 1,048,576
 /// bytes, or a first faulty line. LogFull is an item that finds the log full. ReadFault is a failed

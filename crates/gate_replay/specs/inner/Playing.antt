@@ -9,6 +9,7 @@ use Rattle.gate_core.specs.declared.event.Event.{Event}
 use Rattle.gate_core.specs.declared.event.Event.TheVariants.{Take}
 use Rattle.gate_core.specs.declared.event.Reply.{Reply}
 use Rattle.gate_core.specs.declared.event.Reply.TheVariants.{Taken, Empty}
+use Rattle.gate_desk.specs.Ending.{with_ends}
 use Rattle.gate_applier.specs.Applier.{ApplierView, opened}
 use Rattle.gate_reader.specs.Sink.{SinkState, FailsOnce, Writes, Delivers}
 use Rattle.gate_replay.specs.declared.fault.ReplayFault.{ReplayFault}
@@ -48,6 +49,12 @@ pub record IsShown {D : Type 0} (view : DeskView D) (limits : Limits) (run : Run
   pub after : view.after desk run
   pub limits_are : view.limits desk ≡ limits
 
+-- what is left of the desk after its end shows whatever run the desk did, with the ends
+pub record IsEnded {D E : Type 0} (view : DeskView D) (ended : DeskView E) (desk : D) : Type 0 where
+  pub rest : E
+  pub after : (run : Run) → view.after desk run → ended.after rest (with_ends run)
+  pub limits_are : ended.limits rest ≡ view.limits desk
+
 -- ---- a player
 
 -- what stays the same while a script is played: its setup, and the output before it
@@ -83,6 +90,12 @@ pub record IsNew {D : Type 0} (view : DeskView D) (setup : Setup) (player : Play
   pub clock : player.clock ≡ setup.moment
   pub age : player.age ≡ setup.age
   pub queued : player.queued ≡ 0
+
+-- a player found the log full, and ended its desk
+pub record FindsFull {D E : Type 0} (view : DeskView D) (ended : DeskView E) (player : Player D) (kept : ApplierView) : Type 0 where
+  pub applier : kept ≡ player.applier
+  pub full : length player.applier.records ≡ player.applier.limit
+  pub is_ended : IsEnded view ended player.desk
 
 -- a player took an item and recorded it
 pub record TakesItem {D : Type 0} (view : DeskView D) (was now : Player D) (item : Numbered) : Type 0 where
@@ -132,18 +145,18 @@ pub record Drains {D : Type 0} (view : DeskView D) (s : Setting) (player : Playe
   pub finishes : Finishes s.setup.limit takes g
   pub shows : Shows view s player output (drains takes g)
 
--- the log was full with an item left
-pub record Ends {D : Type 0} (view : DeskView D) (s : Setting) (applier : ApplierView) (output : SinkState) (g : Gateway) : Type 0 where
-  pub kept : IsShown view (limits_of 2 default_quota s.setup.capacity) g.run
+-- the log was full with an item left, and the desk has ended
+pub record Ends {E : Type 0} (ended : DeskView E) (s : Setting) (applier : ApplierView) (output : SinkState) (g : Gateway) : Type 0 where
+  pub kept : IsShown ended (limits_of 2 default_quota s.setup.capacity) (with_ends g.run)
   pub shown : ShowsRecords s.setup applier g
   pub printed : Writes s.base output g.printed
   pub full : g.full ≡ true
 
 -- a drain from this state met a full log with an item left
-pub record DrainsFull {D : Type 0} (view : DeskView D) (s : Setting) (applier : ApplierView) (output : SinkState) (g : Gateway) : Type 0 where
+pub record DrainsFull {E : Type 0} (ended : DeskView E) (s : Setting) (applier : ApplierView) (output : SinkState) (g : Gateway) : Type 0 where
   pub takes : List (Option Numbered)
   pub finishes : Finishes s.setup.limit takes g
-  pub ends : Ends view s applier output (drains takes g)
+  pub ends : Ends ended s applier output (drains takes g)
 
 -- the step was played
 pub record Plays {D : Type 0} (view : DeskView D) (s : Setting) (player : Player D) (output : SinkState) (step : Step) (g : Gateway) : Type 0 where
@@ -152,10 +165,10 @@ pub record Plays {D : Type 0} (view : DeskView D) (s : Setting) (player : Player
   pub shows : Shows view s player output (plays s.setup step heard g)
 
 -- the step was played, and the log was full with an item left
-pub record PlaysFull {D : Type 0} (view : DeskView D) (s : Setting) (applier : ApplierView) (output : SinkState) (step : Step) (g : Gateway) : Type 0 where
+pub record PlaysFull {E : Type 0} (ended : DeskView E) (s : Setting) (applier : ApplierView) (output : SinkState) (step : Step) (g : Gateway) : Type 0 where
   pub heard : Heard
   pub whole : IsWholeStep s.setup step heard g
-  pub ends : Ends view s applier output (plays s.setup step heard g)
+  pub ends : Ends ended s applier output (plays s.setup step heard g)
 
 -- the steps so far were played
 pub record PlayedTo {D : Type 0} (view : DeskView D) (s : Setting) (steps : List Step) (player : Player D) (output : SinkState) : Type 0 where
@@ -165,11 +178,11 @@ pub record PlayedTo {D : Type 0} (view : DeskView D) (s : Setting) (steps : List
   pub shows : Shows view s player output (gateway_after s.setup done)
 
 -- the steps were played, and at one of them the log was full with an item left
-pub record PlayedFull {D : Type 0} (view : DeskView D) (s : Setting) (steps : List Step) (applier : ApplierView) (output : SinkState) : Type 0 where
+pub record PlayedFull {E : Type 0} (ended : DeskView E) (s : Setting) (steps : List Step) (applier : ApplierView) (output : SinkState) : Type 0 where
   pub done : List (Step × Heard)
   pub steps_are : steps_of done ≡ reverse steps
   pub whole : IsWhole s.setup done
-  pub ends : Ends view s applier output (gateway_after s.setup done)
+  pub ends : Ends ended s applier output (gateway_after s.setup done)
 
 -- ---- ends
 
