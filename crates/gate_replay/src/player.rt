@@ -1,4 +1,4 @@
-ghost use Rattle.std.specs.Prelude.{◌≡◌, ◌≢◌, ◌+◌, ◌<◌, ◌^◌, [], length, IfOk, IfErr, OnOk};
+ghost use Rattle.std.specs.Prelude.{◌≡◌, ◌≢◌, ◌⊎◌, ◌+◌, ◌<◌, ◌^◌, [], length, IfOk, IfErr, OnOk};
 ghost use Rattle.gate_core.specs.Limits.{limits_of, default_quota};
 ghost use Rattle.gate_core.specs.Legal.{Run};
 ghost use Rattle.gate_reader.specs.Sink.{SinkState, sink_state, Fails};
@@ -7,7 +7,7 @@ ghost use Rattle.gate_replay.specs.declared.script.Step.TheVariants as step;
 ghost use Rattle.gate_replay.specs.declared.script.Setup.{Setup};
 ghost use Rattle.gate_replay.specs.Gateway.{Gateway, is_session};
 ghost use Rattle.gate_replay.specs.inner.Sessions.{queued_in};
-ghost use Rattle.gate_replay.specs.inner.Playing.{desk_view, Setting, setting, Shows, IsNew, IsUnderWay, IsReady, Takes, Serves, Drains, DrainsFull, Plays, PlaysFull, PlayedTo, PlayedFull, IsEnded, FindsFull, IsWriteEnd, StopsBy};
+ghost use Rattle.gate_replay.specs.inner.Playing.{desk_view, Setting, setting, Shows, IsNew, IsUnderWay, IsReady, Takes, Serves, Drains, DrainsFull, DrainsPart, Plays, PlaysFull, PlaysPart, PlayedTo, PlayedFull, PlayedPart, Stays, IsEnded, FindsFull, IsWriteEnd, StopsBy};
 
 use crate::fault::ReplayFault;
 use crate::printing::{print, print_answer};
@@ -59,7 +59,8 @@ fn queued_after(queued: u64, answer: &Answer) -> u64
 fn prepare(applier: Applier) -> Result<Ready, Stopped>
     ensures ready { IfOk result (λ ready. ready ≡ record applier { room = ready.room }) }
     ensures stopped { IfErr result (StopsBy
-        (λ kept. (kept ≡ applier) × (length applier.records ≡ applier.limit)) (Unit {0}) (λ _. ⊥)) }
+        (λ kept. (kept ≡ applier) × (length applier.records ≡ applier.limit))
+        (λ kept. kept ≡ applier) (λ _. ⊥)) }
     ensures room { OnOk result (length applier.records ≢ applier.limit) }
 {
     match applier.prepare() {
@@ -143,7 +144,8 @@ where
             Takes (desk_view D.after D.limits) self turn.0 turn.1) }
         ensures stopped { let view = desk_view D.after D.limits in
             let ended = desk_view D.Ended.after D.Ended.limits in
-            IfErr result (StopsBy (FindsFull view ended self) (Unit {0}) (λ _. ⊥)) }
+            IfErr result (StopsBy (FindsFull view ended self) (λ kept. kept ≡ self.applier)
+            (λ _. ⊥)) }
     {
         let Player {
             desk,
@@ -196,7 +198,9 @@ where
             let ended = desk_view D.Ended.after D.Ended.limits in
             IfErr result (StopsBy (λ kept. (s : Setting) (output : SinkState)
             (g : Gateway) → Shows view s self output g → DrainsFull ended s kept output g)
-            (Unit {0}) (λ _. ⊥)) }
+            (λ kept. (s : Setting) (output : SinkState) (g : Gateway)
+            → Shows view s self output g → DrainsPart view s kept output g)
+            (λ _. ⊥)) }
     {
         let mut player = self;
         while (player.applier.records().len() as u64) < player.queued {
@@ -228,8 +232,10 @@ where
             → Shows view s self (state output.old) g
             → Serves view s now (state output.new) (step.Packet packet.now) g) }
         ensures none_failed { OnOk result (Fails (W.failures output.old) (W.failures output.new) 0) }
-        ensures stopped { let state = sink_state W.contents W.pending W.failures in
-            IfErr result (StopsBy (λ _. ⊥) (Fails (W.failures output.old) (W.failures output.new) 0)
+        ensures stopped { let view = desk_view D.after D.limits in
+            let state = sink_state W.contents W.pending W.failures in
+            IfErr result (StopsBy (λ _. ⊥) (λ kept. (s : Setting) (g : Gateway)
+            → Shows view s self (state output.old) g → Stays view s kept (state output.new) g)
             (IsWriteEnd (state output.old) (state output.new))) }
     {
         let Player {
@@ -266,8 +272,10 @@ where
             → Shows view s self (state output.old) g
             → Serves view s now (state output.new) (step.Line text.now) g) }
         ensures none_failed { OnOk result (Fails (W.failures output.old) (W.failures output.new) 0) }
-        ensures stopped { let state = sink_state W.contents W.pending W.failures in
-            IfErr result (StopsBy (λ _. ⊥) (Fails (W.failures output.old) (W.failures output.new) 0)
+        ensures stopped { let view = desk_view D.after D.limits in
+            let state = sink_state W.contents W.pending W.failures in
+            IfErr result (StopsBy (λ _. ⊥) (λ kept. (s : Setting) (g : Gateway)
+            → Shows view s self (state output.old) g → Stays view s kept (state output.new) g)
             (IsWriteEnd (state output.old) (state output.new))) }
     {
         let Player {
@@ -306,8 +314,10 @@ where
             → Shows view s self (state output.old) g
             → Serves view s now (state output.new) step.Page g) }
         ensures none_failed { OnOk result (Fails (W.failures output.old) (W.failures output.new) 0) }
-        ensures stopped { let state = sink_state W.contents W.pending W.failures in
-            IfErr result (StopsBy (λ _. ⊥) (Fails (W.failures output.old) (W.failures output.new) 0)
+        ensures stopped { let view = desk_view D.after D.limits in
+            let state = sink_state W.contents W.pending W.failures in
+            IfErr result (StopsBy (λ _. ⊥) (λ kept. (s : Setting) (g : Gateway)
+            → Shows view s self (state output.old) g → Stays view s kept (state output.new) g)
             (IsWriteEnd (state output.old) (state output.new))) }
     {
         let mut player = self;
@@ -336,8 +346,10 @@ where
             → Shows view s self (state output.old) g
             → Serves view s now (state output.new) step.now g) }
         ensures none_failed { OnOk result (Fails (W.failures output.old) (W.failures output.new) 0) }
-        ensures stopped { let state = sink_state W.contents W.pending W.failures in
-            IfErr result (StopsBy (λ _. ⊥) (Fails (W.failures output.old) (W.failures output.new) 0)
+        ensures stopped { let view = desk_view D.after D.limits in
+            let state = sink_state W.contents W.pending W.failures in
+            IfErr result (StopsBy (λ _. ⊥) (λ kept. (s : Setting) (g : Gateway)
+            → Shows view s self (state output.old) g → Stays view s kept (state output.new) g)
             (IsWriteEnd (state output.old) (state output.new))) }
     {
         match step {
@@ -366,7 +378,9 @@ where
             IfErr result (StopsBy (λ kept. (s : Setting) (g : Gateway)
             → Shows view s self (state output.old) g
             → PlaysFull ended s kept (state output.new) step.now g)
-            (Fails (W.failures output.old) (W.failures output.new) 0)
+            (λ kept. (s : Setting) (g : Gateway) → Shows view s self (state output.old) g
+            → Stays view s kept (state output.new) g
+            ⊎ PlaysPart view s kept (state output.new) step.now g)
             (IsWriteEnd (state output.old) (state output.new))) }
     {
         match self.serve(alloc, step, output) {
@@ -399,7 +413,8 @@ where
             let state = sink_state W.contents W.pending W.failures in
             IfErr result (StopsBy (λ kept. (setup : Setup) → IsNew view setup self
             → PlayedFull ended (setting setup (state output.old)) steps.now kept (state output.new))
-            (Fails (W.failures output.old) (W.failures output.new) 0)
+            (λ kept. (setup : Setup) → IsNew view setup self
+            → PlayedPart view (setting setup (state output.old)) steps.now kept (state output.new))
             (IsWriteEnd (state output.old) (state output.new))) }
     {
         let mut player = self;
