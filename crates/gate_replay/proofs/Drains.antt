@@ -12,25 +12,26 @@ use Rattle.gate_reader.specs.Sink.{SinkState}
 use Rattle.gate_replay.specs.declared.player.Player.{Player}
 use Rattle.gate_replay.specs.declared.player.Stopped.{Stopped}
 use Rattle.gate_replay.specs.declared.player.Stopped.TheVariants as stopped
-use Rattle.gate_replay.specs.Gateway.{Gateway, records_item, drains, number_queued, Finishes}
-use Rattle.gate_replay.specs.inner.Playing.{DeskView, Extends, Setting, Shows, Takes, TakesItem, TakesNothing, Drains, DrainsFull, Ends, StopsBy}
+use Rattle.gate_replay.specs.Gateway.{Gateway, records_item, drains, number_queued, Finishes, BeginsDrain}
+use Rattle.gate_replay.specs.inner.Playing.{DeskView, Extends, IsEnded, Setting, Shows, FindsFull, Takes, TakesItem, TakesNothing, Drains, DrainsFull, DrainsPart, Stays, Ends, StopsBy}
 
--- whatever ends a drain from g ends it from start
-abbrev pub Leads : ℕ → Gateway → Gateway → Type 0
-Leads limit start g = (takes : List (Option Numbered)) → Finishes limit takes g
-    → (more : List (Option Numbered)) × Finishes limit more start × (drains more start ≡ drains takes g)
+-- whatever is so of a drain from g is so of one from start
+abbrev pub Leads : (List (Option Numbered) → Gateway → Type 0) → Gateway → Gateway → Type 0
+Leads P start g = (takes : List (Option Numbered)) → P takes g
+    → (more : List (Option Numbered)) × P more start × (drains more start ≡ drains takes g)
 
 -- a player has come this far in a drain
 pub record Reaches {D : Type 0} (view : DeskView D) (s : Setting) (player : Player D) (output : SinkState) (start : Gateway) : Type 0 where
   pub g : Gateway
   pub shows : Shows view s player output g
-  pub leads : Leads s.setup.limit start g
+  pub leads : Leads (Finishes s.setup.limit) start g
+  pub begins : Leads (BeginsDrain s.setup.limit) start g
 
 abbrev pub DrainsOn : {D : Type 0} → DeskView D → Player D → Player D → Type 0
 DrainsOn view was now = (s : Setting) (output : SinkState) (g : Gateway) → Shows view s was output g → Reaches view s now output g
 
 pub drains_self : {D : Type 0} (view : DeskView D) (player : Player D) → DrainsOn view player player
-drains_self view player s output g h = record { g = g; shows = h; leads = λ takes f. (takes, f, refl) }
+drains_self view player s output g h = record { g = g; shows = h; leads = λ takes f. (takes, f, refl); begins = λ takes f. (takes, f, refl) }
 
 not_left : (m n : ℕ) → n ≤ m → nat_lt m n ≡ false
 not_left m n h = grind arith
@@ -70,24 +71,24 @@ drains_none {D} view was now none on s output g h =
     }
 
 -- the log is full, and an item is left
-pub drains_full : {D : Type 0} (view : DeskView D) (was now : Player D) (kept : ApplierView) → length now.applier.records < now.queued → kept ≡ now.applier → length now.applier.records ≡ now.applier.limit → DrainsOn view was now
-    → (s : Setting) (output : SinkState) (g : Gateway) → Shows view s was output g → DrainsFull view s kept output g
-drains_full {D} view was now kept some is full on s output g h =
+pub drains_full : {D E : Type 0} (view : DeskView D) (ended : DeskView E) (was now : Player D) (kept : ApplierView) → length now.applier.records < now.queued → FindsFull view ended now kept → DrainsOn view was now
+    → (s : Setting) (output : SinkState) (g : Gateway) → Shows view s was output g → DrainsFull ended s kept output g
+drains_full {D} view ended was now kept some found on s output g h =
     let r : Reaches view s now output g = on s output g h in
     let left : length r.g.records < number_queued r.g.run = left_in view s now output r.g r.shows some in
-    let at_limit : s.setup.limit ≤ length r.g.records = omega (arith, full, r.shows.applier.limit, ap length r.shows.applier.records) in
+    let at_limit : s.setup.limit ≤ length r.g.records = omega (arith, found.full, r.shows.applier.limit, ap length r.shows.applier.records) in
     let more = r.leads [] (λ _. at_limit) in
     let same : drains [] r.g ≡ record r.g { full = true } = ap (λ b. record r.g { full = b }) (is_left (length r.g.records) (number_queued r.g.run) left) in
     record {
       takes = more.0;
       finishes = more.1;
-      ends = subst (λ (x : Gateway). Ends view s kept output x) (sym (more.2 ∙ same)) (record {
-        kept = record { desk = now.desk; after = r.shows.holds.after; limits_are = r.shows.holds.limits };
+      ends = subst (λ (x : Gateway). Ends ended s kept output x) (sym (more.2 ∙ same)) (record {
+        kept = record { desk = found.is_ended.rest; after = found.is_ended.after r.g.run r.shows.holds.after; limits_are = found.is_ended.limits_are ∙ r.shows.holds.limits };
         shown = record {
-          table = ap (λ (a : ApplierView). a.table) is ∙ r.shows.applier.table;
-          opening = ap (λ (a : ApplierView). a.opening) is ∙ r.shows.applier.opening;
-          limit = ap (λ (a : ApplierView). a.limit) is ∙ r.shows.applier.limit;
-          records = ap (λ (a : ApplierView). a.records) is ∙ r.shows.applier.records;
+          table = ap (λ (a : ApplierView). a.table) found.applier ∙ r.shows.applier.table;
+          opening = ap (λ (a : ApplierView). a.opening) found.applier ∙ r.shows.applier.opening;
+          limit = ap (λ (a : ApplierView). a.limit) found.applier ∙ r.shows.applier.limit;
+          records = ap (λ (a : ApplierView). a.records) found.applier ∙ r.shows.applier.records;
         };
         printed = r.shows.printed;
         full = refl;
@@ -155,6 +156,7 @@ drains_more {D} view was now next some few t on s output g h =
         running = r.shows.running;
       };
       leads = λ takes f. r.leads (Some item ∷ takes) (left_in view s now output r.g r.shows some, below_limit view s now output r.g r.shows few t.room, f);
+      begins = λ takes f. r.begins (Some item ∷ takes) (left_in view s now output r.g r.shows some, below_limit view s now output r.g r.shows few t.room, f);
     }
 
 -- ---- one turn
@@ -217,9 +219,36 @@ takes_true {D} view was now found e t = subst (λ (b : Bool). Takes view was now
 pub takes_false : {D : Type 0} (view : DeskView D) (was now : Player D) (found : Bool) → found ≡ false → Takes view was now found → Takes view was now false
 takes_false {D} view was now found e t = subst (λ (b : Bool). Takes view was now b) e t
 
+-- memory ran out for a take
+drains_part : {D : Type 0} (view : DeskView D) (was now : Player D) (kept : ApplierView) → kept ≡ now.applier → DrainsOn view was now → (s : Setting) (output : SinkState) (g : Gateway) → Shows view s was output g → DrainsPart view s kept output g
+drains_part {D} view was now kept is on s output g h =
+    let r : Reaches view s now output g = on s output g h in
+    let more = r.begins [] tt in
+    record {
+      takes = more.0;
+      begins = more.1;
+      stays = subst (λ (x : Gateway). Stays view s kept output x) (sym more.2) (record {
+        stood = record { desk = now.desk; after = r.shows.holds.after; limits_are = r.shows.holds.limits };
+        shown = record {
+          table = ap (λ (a : ApplierView). a.table) is ∙ r.shows.applier.table;
+          opening = ap (λ (a : ApplierView). a.opening) is ∙ r.shows.applier.opening;
+          limit = ap (λ (a : ApplierView). a.limit) is ∙ r.shows.applier.limit;
+          records = ap (λ (a : ApplierView). a.records) is ∙ r.shows.applier.records;
+        };
+        printed = r.shows.printed;
+      });
+    }
+
+-- a take that found no room met a full log, or memory ran out
+pub take_stopped : {D E : Type 0} (view : DeskView D) (ended : DeskView E) (player : Player D) (stop : Stopped) → IsEnded view ended player.desk → StopsBy (λ kept. (kept ≡ player.applier) × (length player.applier.records ≡ player.applier.limit)) (λ kept. kept ≡ player.applier) (λ _. ⊥) stop
+    → StopsBy (FindsFull view ended player) (λ kept. kept ≡ player.applier) (λ _. ⊥) stop
+take_stopped view ended player (stopped.Full kept) is_ended h = record { applier = h.0; full = h.1; is_ended = is_ended }
+take_stopped view ended player (stopped.OutOfMemory kept) is_ended h = h
+take_stopped view ended player (stopped.Unwritten fault) is_ended h = absurd h
+
 -- a drain that stops met a full log, or memory ran out
-pub drain_stopped : {D : Type 0} (view : DeskView D) (was now : Player D) (stop : Stopped) → length now.applier.records < now.queued → DrainsOn view was now → StopsBy (λ kept. (kept ≡ now.applier) × (length now.applier.records ≡ now.applier.limit)) (Unit {0}) (λ _. ⊥) stop
-    → StopsBy (λ kept. (s : Setting) (output : SinkState) (g : Gateway) → Shows view s was output g → DrainsFull view s kept output g) (Unit {0}) (λ _. ⊥) stop
-drain_stopped view was now (stopped.Full kept) some on h = drains_full view was now kept some h.0 h.1 on
-drain_stopped view was now (stopped.OutOfMemory kept) some on h = tt
-drain_stopped view was now (stopped.Unwritten fault) some on h = absurd h
+pub drain_stopped : {D E : Type 0} (view : DeskView D) (ended : DeskView E) (was now : Player D) (stop : Stopped) → length now.applier.records < now.queued → DrainsOn view was now → StopsBy (FindsFull view ended now) (λ kept. kept ≡ now.applier) (λ _. ⊥) stop
+    → StopsBy (λ kept. (s : Setting) (output : SinkState) (g : Gateway) → Shows view s was output g → DrainsFull ended s kept output g) (λ kept. (s : Setting) (output : SinkState) (g : Gateway) → Shows view s was output g → DrainsPart view s kept output g) (λ _. ⊥) stop
+drain_stopped view ended was now (stopped.Full kept) some on h = drains_full view ended was now kept some h on
+drain_stopped view ended was now (stopped.OutOfMemory kept) some on h = drains_part view was now kept h on
+drain_stopped view ended was now (stopped.Unwritten fault) some on h = absurd h

@@ -2,6 +2,9 @@
 use Rattle.std.proofs.Common.{◌≡◌, ◌≢◌, ℕ, ◌<◌, ◌≤◌, List, [], ◌∷◌, ◌++◌, length, Option, Some, None, Result, Ok, Err, Bool, true, false, cond, eqb, eq-eqb, ne_eqb, refl, sym, ap, ◌∙◌, subst, arith, append_assoc, length-append}
 use Rattle.std.specs.Prelude.{map}
 use Rattle.std.proofs.lemmas.List.{map-append}
+use mathlib.Core.List.{IsPrefix}
+use mathlib.Core.Logic.{dite}
+use native.Mathlib.Decide.{ℕ_discrete}
 use Rattle.gate_model.specs.declared.record.Moment.{Moment}
 use Rattle.gate_model.specs.declared.record.Record.{Record}
 use Rattle.gate_model.specs.declared.submission.Body.{Body}
@@ -16,8 +19,10 @@ use Rattle.gate_core.specs.declared.event.Reply.TheVariants as reply
 use Rattle.gate_core.specs.declared.submit.Refused.{Refused}
 use Rattle.gate_core.specs.declared.submit.Refused.TheVariants as refused
 use Rattle.gate_core.specs.Limits.{Limits, limits_of, default_quota}
-use Rattle.gate_core.specs.Legal.{Run, taken, reply_after, close_reply, IsLegal}
+use Rattle.gate_core.specs.Merge.{IsClient, of_client}
+use Rattle.gate_core.specs.Legal.{Run, queued, taken, has_joined, reply_after, close_reply, IsLegal}
 use Rattle.gate_desk.specs.Allowed.{IsAllowed}
+use Rattle.gate_desk.specs.Ending.{with_ends}
 use Rattle.gate_desk.specs.inner.Allowing.{legal_allowed}
 use Rattle.gate_reader.specs.declared.report.Answer.TheVariants as answer
 use Rattle.gate_reader.specs.Report.{answer_line}
@@ -231,13 +236,31 @@ one_run setup done other e v w same =
     let run : Run = (gateway_after setup done).run in
     one_gateway (told_by run) setup done other e v w (obeys_itself [] run) (subst (λ (r : Run). Obeys (told_by run) r) same (obeys_itself [] run))
 
+-- a run was legal before the ends
+before_ends : (limits : Limits) (run : Run) → IsLegal limits (with_ends run) → IsLegal limits run
+before_ends limits run h = h.1.1.1.1
+
 -- a script leads to one gateway
 pub one_played : (script : Script) (one other : Gateway) → IsPlayed IsLegal script one → IsPlayed IsLegal script other → one ≡ other
 one_played script one other p q =
     let limits : Limits = limits_of 2 default_quota script.setup.capacity in
     p.is ∙ one_gateway (reply_after limits) script.setup p.done q.done (p.steps_are ∙ sym q.steps_are) p.whole q.whole
-    (legal_obeys limits (gateway_after script.setup p.done).run (subst (λ (u : Gateway). IsLegal limits u.run) p.is p.kept)) (legal_obeys limits (gateway_after script.setup q.done).run (subst (λ (u : Gateway). IsLegal limits u.run) q.is q.kept)) ∙ sym q.is
+    (legal_obeys limits (gateway_after script.setup p.done).run (subst (λ (u : Gateway). IsLegal limits u.run) p.is (before_ends limits one.run p.kept))) (legal_obeys limits (gateway_after script.setup q.done).run (subst (λ (u : Gateway). IsLegal limits u.run) q.is (before_ends limits other.run q.kept))) ∙ sym q.is
 
 -- a World's replay is one that a gate may answer
 pub played_allowed : (script : Script) (g : Gateway) → IsPlayed IsLegal script g → IsPlayed IsAllowed script g
-played_allowed script g h = record { done = h.done; steps_are = h.steps_are; whole = h.whole; is = h.is; kept = legal_allowed (limits_of 2 default_quota script.setup.capacity) g.run h.kept }
+played_allowed script g h = record { done = h.done; steps_are = h.steps_are; whole = h.whole; is = h.is; kept = legal_allowed (limits_of 2 default_quota script.setup.capacity) (with_ends g.run) h.kept }
+
+-- both clients are taken in at the end
+both_joined : (run : Run) (client : ℕ) → IsClient 2 client → has_joined client (with_ends run) ≡ true
+both_joined run client i =
+    let low = i.0 in
+    let high = i.1 in
+    dite (ℕ_discrete client 1) (λ (e : client ≡ 1). subst (λ c. has_joined c (with_ends run) ≡ true) (sym e) refl)
+    (λ ne. let two : client ≡ 2 = omega (arith, low, high, ne) in subst (λ c. has_joined c (with_ends run) ≡ true) (sym two) refl)
+
+-- what was recorded of a client begins what was queued for it
+pub records_begin : (script : Script) (g : Gateway) (client : ℕ) → IsPlayed IsAllowed script g → IsClient 2 client → IsPrefix (of_client client (map (λ (r : Record). r.item) g.records)) (queued client g.run)
+records_begin script g client h i =
+    let items : map (λ (r : Record). r.item) g.records ≡ taken g.run = subst (λ (u : Gateway). map (λ (r : Record). r.item) u.records ≡ taken u.run) (sym h.is) (items_are_taken script.setup h.done) in
+    subst (λ (l : List Numbered). IsPrefix (of_client client l) (queued client g.run)) (sym items) (h.kept.1 client (both_joined g.run client i))

@@ -1,5 +1,5 @@
 -- The steps of a replay.
-use Rattle.std.proofs.Common.{◌≡◌, ℕ, ◌+◌, ◌^◌, ◌<◌, List, [], ◌∷◌, ◌++◌, length, take, drop, get_or, Option, None, Result, Ok, Err, Bool, true, false, cond, refl, sym, ap, ◌∙◌, subst, arith, append_assoc}
+use Rattle.std.proofs.Common.{◌≡◌, ◌⊎◌, inl, inr, ⊎_elim, ℕ, ◌+◌, ◌^◌, ◌<◌, List, [], ◌∷◌, ◌++◌, length, take, drop, get_or, Option, Some, None, Result, Ok, Err, Bool, true, false, cond, refl, sym, ap, ◌∙◌, subst, arith, append_assoc}
 use Rattle.std.specs.Prelude.{IfOk, IfErr, reverse}
 use Rattle.std.proofs.lemmas.List.{reverse-append, take-append-drop, take_more}
 use Rattle.gate_model.specs.declared.record.Moment.{Moment}
@@ -24,9 +24,9 @@ use Rattle.gate_replay.specs.declared.player.Stopped.TheVariants as stopped
 use Rattle.gate_replay.specs.declared.script.Step.{Step}
 use Rattle.gate_replay.specs.declared.script.Step.TheVariants as step
 use Rattle.gate_replay.specs.declared.script.Setup.{Setup}
-use Rattle.gate_replay.specs.Gateway.{Gateway, Heard, body_of_line, carries_out, is_session, serves, drains, plays, gateway_after, steps_of, IsWhole}
+use Rattle.gate_replay.specs.Gateway.{Gateway, Heard, body_of_line, carries_out, is_session, serves, drains, plays, gateway_after, steps_of, records_item, Finishes, IsWhole, BeginsDrain, IsWholeSoFar}
 use Rattle.gate_replay.specs.inner.Sessions.{queued_in, Answers, AnswersStep}
-use Rattle.gate_replay.specs.inner.Playing.{DeskView, Setting, setting, Shows, IsNew, IsUnderWay, IsReady, Serves, Drains, DrainsFull, Ends, Plays, PlaysFull, PlayedTo, PlayedFull, IsWriteEnd, StopsBy}
+use Rattle.gate_replay.specs.inner.Playing.{DeskView, Setting, setting, Shows, IsNew, IsUnderWay, IsReady, Serves, Drains, DrainsFull, Ends, Stays, DrainsPart, Plays, PlaysFull, PlaysPart, PlayedTo, PlayedFull, PlayedPart, IsWriteEnd, StopsBy}
 use Rattle.gate_replay.proofs.Outputs.{fails_then, writes_none, writes_on}
 use Rattle.gate_replay.proofs.DeskSteps.{queued_few, holds_same}
 
@@ -141,15 +141,15 @@ drains_plays {D} view s now step after g heard running session d =
       shows = subst (λ (x : Gateway). Shows view s now after x) (sym is) d.shows;
     }
 
-drains_plays_full : {D : Type 0} (view : DeskView D) (s : Setting) (kept : ApplierView) (step : Step) (after : SinkState) (g : Gateway) (heard : Heard) → g.full ≡ false → is_session step ≡ true → DrainsFull view s kept after (serves s.setup step heard g) → PlaysFull view s kept after step g
-drains_plays_full {D} view s kept step after g heard running session d =
+drains_plays_full : {E : Type 0} (ended : DeskView E) (s : Setting) (kept : ApplierView) (step : Step) (after : SinkState) (g : Gateway) (heard : Heard) → g.full ≡ false → is_session step ≡ true → DrainsFull ended s kept after (serves s.setup step heard g) → PlaysFull ended s kept after step g
+drains_plays_full {E} ended s kept step after g heard running session d =
     let with_takes : Heard = record heard { takes = d.takes } in
     let same : serves s.setup step with_takes g ≡ serves s.setup step heard g = serves_with s.setup step heard d.takes g in
     let is : plays s.setup step with_takes g ≡ drains d.takes (serves s.setup step heard g) = session_is s.setup step with_takes g running session ∙ ap (λ (v : Gateway). drains d.takes v) same in
     record {
       heard = with_takes;
       whole = λ _ _. rw same d.finishes;
-      ends = subst (λ (x : Gateway). Ends view s kept after x) (sym is) d.ends;
+      ends = subst (λ (x : Gateway). Ends ended s kept after x) (sym is) d.ends;
     }
 
 -- the step's service, whatever its takes
@@ -163,36 +163,74 @@ plays_session view (Ok now) was mid step before after served session drained = �
     let v = served s g h in drains_plays view s now step after g v.heard h.running session (drained s after (serves s.setup step v.heard g) (served_shows view s mid after step g v))
 plays_session view (Err stop) was mid step before after served session drained = tt
 
-stops : (stop : Stopped) (P Q : ApplierView → Type 0) (M N : Type 0) (F G : ReplayFault → Type 0) → ((kept : ApplierView) → P kept → Q kept) → (M → N) → ((fault : ReplayFault) → F fault → G fault) → StopsBy P M F stop → StopsBy Q N G stop
+stops : (stop : Stopped) (P Q M N : ApplierView → Type 0) (F G : ReplayFault → Type 0) → ((kept : ApplierView) → P kept → Q kept) → ((kept : ApplierView) → M kept → N kept) → ((fault : ReplayFault) → F fault → G fault) → StopsBy P M F stop → StopsBy Q N G stop
 stops (stopped.Full kept) P Q M N F G f m n h = f kept h
-stops (stopped.OutOfMemory kept) P Q M N F G f m n h = m h
+stops (stopped.OutOfMemory kept) P Q M N F G f m n h = m kept h
 stops (stopped.Unwritten fault) P Q M N F G f m n h = n fault h
 
 write_end_on : (a b c : SinkState) (fault : ReplayFault) → Fails a.failures b.failures 0 → IsWriteEnd b c fault → IsWriteEnd a c fault
 write_end_on a b c replay_fault.TooLong h k = k
 write_end_on a b c (replay_fault.Line number) h k = k
 write_end_on a b c replay_fault.LogFull h k = k
-write_end_on a b c replay_fault.OutOfMemory h k = k
+write_end_on a b c replay_fault.OutOfMemory h k = fails_then a.failures b.failures c.failures 1 h k
 write_end_on a b c replay_fault.ReadFault h k = k
 write_end_on a b c replay_fault.WriteFault h k = fails_then a.failures b.failures c.failures 1 h k
 
+-- what stays where memory runs out before a step is printed
+pub stays_as : {D : Type 0} (view : DeskView D) (was : Player D) (kept : ApplierView) (before after : SinkState) → kept.table ≡ was.applier.table → kept.opening ≡ was.applier.opening → kept.limit ≡ was.applier.limit → kept.records ≡ was.applier.records → after ≡ before
+    → (s : Setting) (g : Gateway) → Shows view s was before g → Stays view s kept after g
+stays_as {D} view was kept before after table opening limit records same s g h = record {
+  stood = record { desk = was.desk; after = h.holds.after; limits_are = h.holds.limits };
+  shown = record {
+    table = table ∙ h.applier.table;
+    opening = opening ∙ h.applier.opening;
+    limit = limit ∙ h.applier.limit;
+    records = records ∙ h.applier.records;
+  };
+  printed = subst (λ (v : SinkState). Writes s.base v g.printed) (sym same) h.printed;
+}
+
+pub stays_same : {D : Type 0} (view : DeskView D) (was : Player D) (before : SinkState) (s : Setting) (g : Gateway) → Shows view s was before g → Stays view s was.applier before g
+stays_same {D} view was before s g h = stays_as view was was.applier before before refl refl refl refl refl s g h
+
+-- a full log met at a step
+abbrev pub FullAt : {D E : Type 0} (view : DeskView D) (ended : DeskView E) (was : Player D) (step : Step) (before after : SinkState) (kept : ApplierView) → Type 0
+FullAt view ended was step before after kept = (s : Setting) (g : Gateway) → Shows view s was before g → PlaysFull ended s kept after step g
+
+-- memory ran out before the step or amid its drain
+abbrev pub PartAt : {D : Type 0} (view : DeskView D) (was : Player D) (step : Step) (before after : SinkState) (kept : ApplierView) → Type 0
+PartAt view was step before after kept = (s : Setting) (g : Gateway) → Shows view s was before g → Stays view s kept after g ⊎ PlaysPart view s kept after step g
+
 -- the service of a session stopped
-pub served_stops : {D : Type 0} (view : DeskView D) (stop : Stopped) (was : Player D) (step : Step) (before after : SinkState) → StopsBy (λ _. ⊥) (Fails before.failures after.failures 0) (IsWriteEnd before after) stop
-    → StopsBy (λ kept. (s : Setting) (g : Gateway) → Shows view s was before g → PlaysFull view s kept after step g) (Fails before.failures after.failures 0) (IsWriteEnd before after) stop
-served_stops {D} view stop was step before after h =
-    stops stop (λ _. ⊥) (λ kept. (s : Setting) (g : Gateway) → Shows view s was before g → PlaysFull view s kept after step g) (Fails before.failures after.failures 0) (Fails before.failures after.failures 0) (IsWriteEnd before after) (IsWriteEnd before after)
-    (λ kept no. absurd no) (λ m. m) (λ fault f. f) h
+pub served_stops : {D E : Type 0} (view : DeskView D) (ended : DeskView E) (stop : Stopped) (was : Player D) (step : Step) (before after : SinkState)
+    → StopsBy (λ _. ⊥) (λ kept. (s : Setting) (g : Gateway) → Shows view s was before g → Stays view s kept after g) (IsWriteEnd before after) stop
+    → StopsBy (FullAt view ended was step before after) (PartAt view was step before after) (IsWriteEnd before after) stop
+served_stops {D} view ended stop was step before after h =
+    stops stop (λ _. ⊥) (FullAt view ended was step before after) (λ kept. (s : Setting) (g : Gateway) → Shows view s was before g → Stays view s kept after g) (PartAt view was step before after) (IsWriteEnd before after) (IsWriteEnd before after)
+    (λ kept no. absurd no) (λ kept m s g shows. inl (m s g shows)) (λ fault f. f) h
+
+drains_plays_part : {D : Type 0} (view : DeskView D) (s : Setting) (kept : ApplierView) (step : Step) (after : SinkState) (g : Gateway) (heard : Heard) → g.full ≡ false → is_session step ≡ true → DrainsPart view s kept after (serves s.setup step heard g) → PlaysPart view s kept after step g
+drains_plays_part {D} view s kept step after g heard running session d =
+    let with_takes : Heard = record heard { takes = d.takes } in
+    let same : serves s.setup step with_takes g ≡ serves s.setup step heard g = serves_with s.setup step heard d.takes g in
+    let is : plays s.setup step with_takes g ≡ drains d.takes (serves s.setup step heard g) = session_is s.setup step with_takes g running session ∙ ap (λ (v : Gateway). drains d.takes v) same in
+    record {
+      heard = with_takes;
+      begins = λ _ _. rw same d.begins;
+      stays = subst (λ (x : Gateway). Stays view s kept after x) (sym is) d.stays;
+    }
 
 -- the drain of a session stopped
-pub drain_stops : {D : Type 0} (view : DeskView D) (r : Result (Player D) Stopped) (was mid : Player D) (step : Step) (before after : SinkState) → ((s : Setting) (g : Gateway) → Shows view s was before g → Serves view s mid after step g) → is_session step ≡ true → Fails before.failures after.failures 0
-    → IfErr r (StopsBy (λ kept. (s : Setting) (output : SinkState) (g : Gateway) → Shows view s mid output g → DrainsFull view s kept output g) (Unit {0}) (λ _. ⊥))
-    → IfErr r (StopsBy (λ kept. (s : Setting) (g : Gateway) → Shows view s was before g → PlaysFull view s kept after step g) (Fails before.failures after.failures 0) (IsWriteEnd before after))
-drain_stops view (Ok now) was mid step before after served session none h = tt
-drain_stops {D} view (Err stop) was mid step before after served session none h =
-    stops stop (λ kept. (s : Setting) (output : SinkState) (g : Gateway) → Shows view s mid output g → DrainsFull view s kept output g) (λ kept. (s : Setting) (g : Gateway) → Shows view s was before g → PlaysFull view s kept after step g)
-    (Unit {0}) (Fails before.failures after.failures 0) (λ _. ⊥) (IsWriteEnd before after)
-    (λ kept full s g shows. let v = served s g shows in drains_plays_full view s kept step after g v.heard shows.running session (full s after (serves s.setup step v.heard g) (served_shows view s mid after step g v)))
-    (λ m. none) (λ fault no. absurd no) h
+pub drain_stops : {D E : Type 0} (view : DeskView D) (ended : DeskView E) (r : Result (Player D) Stopped) (was mid : Player D) (step : Step) (before after : SinkState) → ((s : Setting) (g : Gateway) → Shows view s was before g → Serves view s mid after step g) → is_session step ≡ true
+    → IfErr r (StopsBy (λ kept. (s : Setting) (output : SinkState) (g : Gateway) → Shows view s mid output g → DrainsFull ended s kept output g) (λ kept. (s : Setting) (output : SinkState) (g : Gateway) → Shows view s mid output g → DrainsPart view s kept output g) (λ _. ⊥))
+    → IfErr r (StopsBy (FullAt view ended was step before after) (PartAt view was step before after) (IsWriteEnd before after))
+drain_stops view ended (Ok now) was mid step before after served session h = tt
+drain_stops {D} view ended (Err stop) was mid step before after served session h =
+    stops stop (λ kept. (s : Setting) (output : SinkState) (g : Gateway) → Shows view s mid output g → DrainsFull ended s kept output g) (FullAt view ended was step before after)
+    (λ kept. (s : Setting) (output : SinkState) (g : Gateway) → Shows view s mid output g → DrainsPart view s kept output g) (PartAt view was step before after) (λ _. ⊥) (IsWriteEnd before after)
+    (λ kept full s g shows. let v = served s g shows in drains_plays_full ended s kept step after g v.heard shows.running session (full s after (serves s.setup step v.heard g) (served_shows view s mid after step g v)))
+    (λ kept part s g shows. let v = served s g shows in inr (drains_plays_part view s kept step after g v.heard shows.running session (part s after (serves s.setup step v.heard g) (served_shows view s mid after step g v))))
+    (λ fault no. absurd no) h
 
 pub plays_other : {D : Type 0} (view : DeskView D) (was now : Player D) (step : Step) (before after : SinkState) → ((s : Setting) (g : Gateway) → Shows view s was before g → Serves view s now after step g) → is_session step ≡ false
     → (s : Setting) (g : Gateway) → Shows view s was before g → Plays view s now after step g
@@ -283,9 +321,9 @@ idle_whole setup (step ∷ more) done full whole =
     let same : gateway_after setup ((step, nothing_heard []) ∷ done) ≡ gateway_after setup done = stays_full setup step (nothing_heard []) (gateway_after setup done) full in
     idle_whole setup more ((step, nothing_heard []) ∷ done) (ap (λ (g : Gateway). g.full) same ∙ full) ((λ running _. let no : true ≡ false = sym full ∙ running in absurd (cc)), whole)
 
-full_after : {D : Type 0} (view : DeskView D) (s : Setting) (steps first rest : List Step) (step : Step) (was : Player D) (kept : ApplierView) (before after : SinkState) → first ++ step ∷ [] ++ rest ≡ steps → PlayedTo view s first was before
-    → ((t : Setting) (g : Gateway) → Shows view t was before g → PlaysFull view t kept after step g) → PlayedFull view s steps kept after
-full_after {D} view s steps first rest step was kept before after parts h played =
+full_after : {D E : Type 0} (view : DeskView D) (ended : DeskView E) (s : Setting) (steps first rest : List Step) (step : Step) (was : Player D) (kept : ApplierView) (before after : SinkState) → first ++ step ∷ [] ++ rest ≡ steps → PlayedTo view s first was before
+    → ((t : Setting) (g : Gateway) → Shows view t was before g → PlaysFull ended t kept after step g) → PlayedFull ended s steps kept after
+full_after {D} view ended s steps first rest step was kept before after parts h played =
     let p = played s (gateway_after s.setup h.done) h.shows in
     let done : List (Step × Heard) = (step, p.heard) ∷ h.done in
     let all : steps_of done ≡ reverse (first ++ step ∷ []) = more_steps first step (steps_of h.done) h.steps_are in
@@ -293,16 +331,52 @@ full_after {D} view s steps first rest step was kept before after parts h played
       done = idle rest done;
       steps_are = idle_steps rest done ∙ ap (λ l. reverse rest ++ l) all ∙ sym (reverse-append (first ++ step ∷ []) rest) ∙ ap reverse parts;
       whole = idle_whole s.setup rest done p.ends.full (p.whole, h.whole);
-      ends = subst (λ (x : Gateway). Ends view s kept after x) (sym (idle_gateway s.setup rest done p.ends.full)) p.ends;
+      ends = subst (λ (x : Gateway). Ends ended s kept after x) (sym (idle_gateway s.setup rest done p.ends.full)) p.ends;
     }
 
+-- ---- where memory ran out
+
+begins_whole : (limit : ℕ) (takes : List (Option Numbered)) (g : Gateway) → Finishes limit takes g → BeginsDrain limit takes g
+begins_whole limit [] g h = tt
+begins_whole limit (Some item ∷ takes) g h = (h.0, h.1, begins_whole limit takes (records_item item g) h.2)
+begins_whole limit (None ∷ takes) g h = h
+
+-- what is whole is whole so far
+pub whole_so_far : (setup : Setup) (done : List (Step × Heard)) → IsWhole setup done → IsWholeSoFar setup done
+whole_so_far setup [] h = tt
+whole_so_far setup ((step, heard) ∷ before) h =
+    ((λ running session. begins_whole setup.limit heard.takes (serves setup step heard (gateway_after setup before)) (h.0 running session)), h.1)
+
+part_after : {D : Type 0} (view : DeskView D) (s : Setting) (steps : List Step) (i : ℕ) (step : Step) (was : Player D) (kept : ApplierView) (before after : SinkState) → take (i + 1) steps ≡ take i steps ++ step ∷ [] → PlayedTo view s (take i steps) was before
+    → PartAt view was step before after kept → PlayedPart view s steps kept after
+part_after {D} view s steps i step was kept before after is h part =
+    ⊎_elim
+    (λ (stays : Stays view s kept after (gateway_after s.setup h.done)). record {
+      front = take i steps;
+      front_begins = (drop i steps, take-append-drop i steps);
+      done = h.done;
+      steps_are = h.steps_are;
+      whole = whole_so_far s.setup h.done h.whole;
+      stays = stays;
+    })
+    (λ (p : PlaysPart view s kept after step (gateway_after s.setup h.done)). record {
+      front = take (i + 1) steps;
+      front_begins = (drop (i + 1) steps, take-append-drop (i + 1) steps);
+      done = (step, p.heard) ∷ h.done;
+      steps_are = more_steps (take i steps) step (steps_of h.done) h.steps_are ∙ ap reverse (sym is);
+      whole = (p.begins, h.whole);
+      stays = p.stays;
+    })
+    (part s (gateway_after s.setup h.done) h.shows)
+
 -- the replay stopped at a step, after steps of which none failed a call
-pub played_stops : {D : Type 0} (view : DeskView D) (stop : Stopped) (player : Player D) (base : SinkState) (steps : List Step) (i : ℕ) (step : Step) (was : Player D) (before after : SinkState) → take (i + 1) steps ≡ take i steps ++ step ∷ []
+pub played_stops : {D E : Type 0} (view : DeskView D) (ended : DeskView E) (stop : Stopped) (player : Player D) (base : SinkState) (steps : List Step) (i : ℕ) (step : Step) (was : Player D) (before after : SinkState) → take (i + 1) steps ≡ take i steps ++ step ∷ []
     → Fails base.failures before.failures 0 → ((setup : Setup) → IsNew view setup player → PlayedTo view (setting setup base) (take i steps) was before)
-    → StopsBy (λ kept. (s : Setting) (g : Gateway) → Shows view s was before g → PlaysFull view s kept after step g) (Fails before.failures after.failures 0) (IsWriteEnd before after) stop
-    → StopsBy (λ kept. (setup : Setup) → IsNew view setup player → PlayedFull view (setting setup base) steps kept after) (Fails base.failures after.failures 0) (IsWriteEnd base after) stop
-played_stops {D} view stop player base steps i step was before after is none so_far h =
-    stops stop (λ kept. (s : Setting) (g : Gateway) → Shows view s was before g → PlaysFull view s kept after step g) (λ kept. (setup : Setup) → IsNew view setup player → PlayedFull view (setting setup base) steps kept after)
-    (Fails before.failures after.failures 0) (Fails base.failures after.failures 0) (IsWriteEnd before after) (IsWriteEnd base after)
-    (λ kept full setup new. full_after view (setting setup base) steps (take i steps) (drop (i + 1) steps) step was kept before after (ap (λ l. l ++ drop (i + 1) steps) (sym is) ∙ take-append-drop (i + 1) steps) (so_far setup new) full)
-    (λ m. fails_then base.failures before.failures after.failures 0 none m) (λ fault f. write_end_on base before after fault none f) h
+    → StopsBy (FullAt view ended was step before after) (PartAt view was step before after) (IsWriteEnd before after) stop
+    → StopsBy (λ kept. (setup : Setup) → IsNew view setup player → PlayedFull ended (setting setup base) steps kept after) (λ kept. (setup : Setup) → IsNew view setup player → PlayedPart view (setting setup base) steps kept after) (IsWriteEnd base after) stop
+played_stops {D} view ended stop player base steps i step was before after is none so_far h =
+    stops stop (FullAt view ended was step before after) (λ kept. (setup : Setup) → IsNew view setup player → PlayedFull ended (setting setup base) steps kept after)
+    (PartAt view was step before after) (λ kept. (setup : Setup) → IsNew view setup player → PlayedPart view (setting setup base) steps kept after) (IsWriteEnd before after) (IsWriteEnd base after)
+    (λ kept full setup new. full_after view ended (setting setup base) steps (take i steps) (drop (i + 1) steps) step was kept before after (ap (λ l. l ++ drop (i + 1) steps) (sym is) ∙ take-append-drop (i + 1) steps) (so_far setup new) full)
+    (λ kept part setup new. part_after view (setting setup base) steps i step was kept before after is (so_far setup new) part)
+    (λ fault f. write_end_on base before after fault none f) h

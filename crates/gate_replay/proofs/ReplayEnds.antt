@@ -1,29 +1,32 @@
 -- The ends of a replay.
-use Rattle.std.proofs.Common.{◌≡◌, ℕ, List, Option, Some, None, Bool, true, false, refl, subst}
+use Rattle.std.proofs.Common.{◌≡◌, ◌⊎◌, inl, inr, ⊎_elim, ℕ, List, [], Option, Some, None, Bool, true, false, refl, ◌∙◌, subst}
 use Rattle.std.specs.Prelude.{Result, Ok, Err, OnOk, IfErr}
+use Rattle.std.proofs.lemmas.List.{append-nil}
 use Rattle.gate_model.specs.declared.object.ObjectLine.{ObjectLine}
 use Rattle.gate_model.specs.declared.record.Record.{Record}
 use Rattle.gate_model.specs.Meaning.{outcomes_of}
 use Rattle.gate_core.specs.Limits.{Limits}
 use Rattle.gate_core.specs.Legal.{Run}
+use Rattle.gate_desk.specs.Ending.{with_ends}
 use Rattle.gate_applier.specs.Applier.{ApplierView}
 use Rattle.gate_pages.specs.LogPage.{log_text}
-use Rattle.gate_reader.specs.Sink.{SinkState, Fails, Delivers}
+use Rattle.gate_reader.specs.Sink.{SinkState, Fails, Writes, Delivers, FailsOnce}
 use Rattle.gate_replay.specs.declared.fault.ReplayFault.{ReplayFault}
 use Rattle.gate_replay.specs.declared.fault.ReplayFault.TheVariants.{TooLong, Line, LogFull, OutOfMemory, ReadFault, WriteFault}
 use Rattle.gate_replay.specs.declared.player.Player.{Player}
 use Rattle.gate_replay.specs.declared.script.Script.{Script}
-use Rattle.gate_replay.specs.Gateway.{Gateway, gateway_after}
+use Rattle.gate_replay.specs.Gateway.{Gateway, gateway_after, IsPlayedSoFar}
 use Rattle.gate_replay.specs.Replay.{fault_in}
-use Rattle.gate_replay.specs.inner.Playing.{DeskView, setting, IsShown, PlayedTo, PlayedFull, IsWriteEnd, IsPrinted, EndsPlaying}
+use Rattle.gate_replay.specs.inner.Playing.{DeskView, setting, IsShown, IsShownSoFar, IsEnded, PlayedTo, PlayedFull, PlayedPart, IsWriteEnd, IsLogEnd, IsPrinted, IsPrintedSoFar, EndsPlaying}
 use Rattle.gate_replay.proofs.Outputs.{fails_then, delivers_on}
+use Rattle.gate_replay.proofs.PlaySteps.{whole_so_far}
 
 page_again : (table other : List ObjectLine) (records more : List Record) → records ≡ more → table ≡ other → log_text records (outcomes_of table records) ≡ log_text more (outcomes_of other more)
 page_again table other records more e f = rw (e, f) refl
 
 -- the log page is delivered after the answers and the status pages
-finished : {D : Type 0} (view : DeskView D) (script : Script) (player : Player D) (b m a : SinkState) → PlayedTo view (setting script.setup b) script.steps.items player m → Delivers m a (log_text player.applier.records (outcomes_of player.applier.table player.applier.records)) → EndsPlaying (IsShown view) script b a None
-finished {D} view script player b m a h printed =
+finished : {D E : Type 0} (view : DeskView D) (ended : DeskView E) (script : Script) (player : Player D) (b m a : SinkState) → IsEnded view ended player.desk → PlayedTo view (setting script.setup b) script.steps.items player m → Delivers m a (log_text player.applier.records (outcomes_of player.applier.table player.applier.records)) → IsPrinted (IsShown ended) script b a false
+finished {D} view ended script player b m a e h printed =
     let g : Gateway = gateway_after script.setup h.done in
     let page = page_again player.applier.table script.setup.table player.applier.records g.records h.shows.applier.records h.shows.applier.table in
     record {
@@ -33,14 +36,14 @@ finished {D} view script player b m a h printed =
         steps_are = h.steps_are;
         whole = h.whole;
         is = refl;
-        kept = record { desk = player.desk; after = h.shows.holds.after; limits_are = h.shows.holds.limits };
+        kept = record { desk = e.rest; after = e.after g.run h.shows.holds.after; limits_are = e.limits_are ∙ h.shows.holds.limits };
       };
       full_is = h.shows.running;
       printed = delivers_on b m a g.printed _ h.shows.printed (subst (λ (t : List ℕ). Delivers m a t) page printed);
     }
 
-finished_full : {D : Type 0} (view : DeskView D) (script : Script) (kept : ApplierView) (b m a : SinkState) → PlayedFull view (setting script.setup b) script.steps.items kept m → Delivers m a (log_text kept.records (outcomes_of kept.table kept.records)) → EndsPlaying (IsShown view) script b a (Some LogFull)
-finished_full {D} view script kept b m a h printed =
+finished_full : {E : Type 0} (ended : DeskView E) (script : Script) (kept : ApplierView) (b m a : SinkState) → PlayedFull ended (setting script.setup b) script.steps.items kept m → Delivers m a (log_text kept.records (outcomes_of kept.table kept.records)) → IsPrinted (IsShown ended) script b a true
+finished_full {E} ended script kept b m a h printed =
     let g : Gateway = gateway_after script.setup h.done in
     let page = page_again kept.table script.setup.table kept.records g.records h.ends.shown.records h.ends.shown.table in
     record {
@@ -56,62 +59,155 @@ finished_full {D} view script kept b m a h printed =
       printed = delivers_on b m a g.printed _ h.ends.printed (subst (λ (t : List ℕ). Delivers m a t) page printed);
     }
 
+finished_part : {D : Type 0} (view : DeskView D) (so_far : Limits → Run → Type 0) (script : Script) (kept : ApplierView) (b m a : SinkState) (h : PlayedPart view (setting script.setup b) script.steps.items kept m) → IsPlayedSoFar so_far script (gateway_after script.setup h.done)
+    → Delivers m a (log_text kept.records (outcomes_of kept.table kept.records)) → IsPrintedSoFar so_far script b a
+finished_part {D} view so_far script kept b m a h played printed =
+    let g : Gateway = gateway_after script.setup h.done in
+    let page = page_again kept.table script.setup.table kept.records g.records h.stays.shown.records h.stays.shown.table in
+    record {
+      gateway = g;
+      played = played;
+      printed = inr (delivers_on b m a g.printed _ h.stays.printed (subst (λ (t : List ℕ). Delivers m a t) page printed));
+    }
+
+-- ---- what was played so far
+
+all_so_far : {D E : Type 0} (view : DeskView D) (ended : DeskView E) (script : Script) (player : Player D) (b m : SinkState) (h : PlayedTo view (setting script.setup b) script.steps.items player m) → IsPlayedSoFar (IsShownSoFar view ended) script (gateway_after script.setup h.done)
+all_so_far view ended script player b m h = record {
+  steps = script.steps.items;
+  steps_begin = ([], append-nil script.steps.items);
+  done = h.done;
+  steps_are = h.steps_are;
+  whole = whole_so_far script.setup h.done h.whole;
+  is = refl;
+  kept = inl (record { desk = player.desk; after = h.shows.holds.after; limits_are = h.shows.holds.limits });
+}
+
+full_so_far : {D E : Type 0} (view : DeskView D) (ended : DeskView E) (script : Script) (kept : ApplierView) (b m : SinkState) (h : PlayedFull ended (setting script.setup b) script.steps.items kept m) → IsPlayedSoFar (IsShownSoFar view ended) script (gateway_after script.setup h.done)
+full_so_far view ended script kept b m h = record {
+  steps = script.steps.items;
+  steps_begin = ([], append-nil script.steps.items);
+  done = h.done;
+  steps_are = h.steps_are;
+  whole = whole_so_far script.setup h.done h.whole;
+  is = refl;
+  kept = inr h.ends.kept;
+}
+
+part_so_far : {D E : Type 0} (view : DeskView D) (ended : DeskView E) (script : Script) (kept : ApplierView) (b m : SinkState) (h : PlayedPart view (setting script.setup b) script.steps.items kept m) → IsPlayedSoFar (IsShownSoFar view ended) script (gateway_after script.setup h.done)
+part_so_far view ended script kept b m h = record {
+  steps = h.front;
+  steps_begin = h.front_begins;
+  done = h.done;
+  steps_are = h.steps_are;
+  whole = h.whole;
+  is = refl;
+  kept = inl h.stays.stood;
+}
+
+-- ---- failed calls
+
 -- a write ends the replay, after calls of which none failed
-pub unwritten : (rules : Limits → Run → Type 0) (script : Script) (b m a : SinkState) (fault : ReplayFault) → Fails b.failures m.failures 0 → IsWriteEnd m a fault → EndsPlaying rules script b a (Some fault)
-unwritten rules script b m a TooLong h k = k
-unwritten rules script b m a (Line number) h k = k
-unwritten rules script b m a LogFull h k = absurd k
-unwritten rules script b m a OutOfMemory h k = k
-unwritten rules script b m a ReadFault h k = k
-unwritten rules script b m a WriteFault h k = fails_then b.failures m.failures a.failures 1 h k
+pub unwritten : (rules so_far : Limits → Run → Type 0) (script : Script) (b m a : SinkState) (fault : ReplayFault) → Fails b.failures m.failures 0 → IsWriteEnd m a fault → EndsPlaying rules so_far script b a (Some fault)
+unwritten rules so_far script b m a TooLong h k = k
+unwritten rules so_far script b m a (Line number) h k = k
+unwritten rules so_far script b m a LogFull h k = absurd k
+unwritten rules so_far script b m a OutOfMemory h k = inr (inl (fails_then b.failures m.failures a.failures 1 h k))
+unwritten rules so_far script b m a ReadFault h k = k
+unwritten rules so_far script b m a WriteFault h k = fails_then b.failures m.failures a.failures 1 h k
 
 -- a write ends the replay, the first one to fail
-pub ends_unwritten : (rules : Limits → Run → Type 0) (script : Script) (b a : SinkState) (fault : ReplayFault) → IsWriteEnd b a fault → EndsPlaying rules script b a (Some fault)
-ends_unwritten rules script b a TooLong k = k
-ends_unwritten rules script b a (Line number) k = k
-ends_unwritten rules script b a LogFull k = absurd k
-ends_unwritten rules script b a OutOfMemory k = k
-ends_unwritten rules script b a ReadFault k = k
-ends_unwritten rules script b a WriteFault k = k
+pub ends_unwritten : (rules so_far : Limits → Run → Type 0) (script : Script) (b a : SinkState) (fault : ReplayFault) → IsWriteEnd b a fault → EndsPlaying rules so_far script b a (Some fault)
+ends_unwritten rules so_far script b a TooLong k = k
+ends_unwritten rules so_far script b a (Line number) k = k
+ends_unwritten rules so_far script b a LogFull k = absurd k
+ends_unwritten rules so_far script b a OutOfMemory k = inr (inl k)
+ends_unwritten rules so_far script b a ReadFault k = k
+ends_unwritten rules so_far script b a WriteFault k = k
+
+-- the log page wasn't delivered
+unlogged : (rules so_far : Limits → Run → Type 0) (script : Script) (g : Gateway) (b m a : SinkState) (fault : ReplayFault) → IsPlayedSoFar so_far script g → Writes b m g.printed → IsLogEnd m a fault → EndsPlaying rules so_far script b a (Some fault)
+unlogged rules so_far script g b m a TooLong played w k = k
+unlogged rules so_far script g b m a (Line number) played w k = k
+unlogged rules so_far script g b m a LogFull played w k = absurd k
+unlogged rules so_far script g b m a OutOfMemory played w k =
+    ⊎_elim
+    (λ (f : FailsOnce m a). inr (inl (fails_then b.failures m.failures a.failures 1 w.none_failed f)))
+    (λ (d : Delivers m a []). inr (inr (record { gateway = g; played = played; printed = inl (subst (λ (t : List ℕ). Delivers b a t) (append-nil g.printed) (delivers_on b m a g.printed [] w d)) })))
+    k
+unlogged rules so_far script g b m a ReadFault played w k = k
+unlogged rules so_far script g b m a WriteFault played w k = fails_then b.failures m.failures a.failures 1 w.none_failed k
+
+-- ---- the log page
 
 -- the log page ends the replay
-pub log_ends : {D : Type 0} (view : DeskView D) (r : Result (Unit {0}) ReplayFault) (script : Script) (player : Player D) (b m a : SinkState) → PlayedTo view (setting script.setup b) script.steps.items player m
-    → OnOk r (Delivers m a (log_text player.applier.records (outcomes_of player.applier.table player.applier.records))) → IfErr r (IsWriteEnd m a) → EndsPlaying (IsShown view) script b a (fault_in r)
-log_ends view (Ok x) script player b m a h ok err = finished view script player b m a h ok
-log_ends view (Err fault) script player b m a h ok err = unwritten (IsShown view) script b m a fault h.shows.printed.none_failed err
+pub log_ends : {D E : Type 0} (view : DeskView D) (ended : DeskView E) (r : Result (Unit {0}) ReplayFault) (script : Script) (player : Player D) (applier : ApplierView) (b m a : SinkState) → applier ≡ player.applier → IsEnded view ended player.desk
+    → PlayedTo view (setting script.setup b) script.steps.items player m
+    → OnOk r (Delivers m a (log_text applier.records (outcomes_of applier.table applier.records))) → IfErr r (IsLogEnd m a) → EndsPlaying (IsShown ended) (IsShownSoFar view ended) script b a (fault_in r)
+log_ends view ended (Ok x) script player applier b m a is e h ok err =
+    finished view ended script player b m a e h (subst (λ (v : ApplierView). Delivers m a (log_text v.records (outcomes_of v.table v.records))) is ok)
+log_ends view ended (Err fault) script player applier b m a is e h ok err =
+    unlogged (IsShown ended) (IsShownSoFar view ended) script (gateway_after script.setup h.done) b m a fault (all_so_far view ended script player b m h) h.shows.printed err
 
-fault_is : (rules : Limits → Run → Type 0) (result : Result (Unit {0}) ReplayFault) (fault : ReplayFault) (script : Script) (b a : SinkState) → result ≡ Err fault → EndsPlaying rules script b a (Some fault) → EndsPlaying rules script b a (fault_in result)
-fault_is rules result fault script b a is ends = rw is ends
+fault_is : (rules so_far : Limits → Run → Type 0) (result : Result (Unit {0}) ReplayFault) (fault : ReplayFault) (script : Script) (b a : SinkState) → result ≡ Err fault → EndsPlaying rules so_far script b a (Some fault) → EndsPlaying rules so_far script b a (fault_in result)
+fault_is rules so_far result fault script b a is ends = rw is ends
 
 -- the log page after a full log ends the replay
-pub full_ends : {D : Type 0} (view : DeskView D) (printed result : Result (Unit {0}) ReplayFault) (script : Script) (kept : ApplierView) (b m a : SinkState) → PlayedFull view (setting script.setup b) script.steps.items kept m
-    → OnOk printed (Delivers m a (log_text kept.records (outcomes_of kept.table kept.records))) → IfErr printed (IsWriteEnd m a)
-    → OnOk printed (result ≡ Err LogFull) → IfErr printed (λ other. result ≡ Err other) → EndsPlaying (IsShown view) script b a (fault_in result)
-full_ends view (Ok done) result script kept b m a h ok err is other = fault_is (IsShown view) result LogFull script b a is (finished_full view script kept b m a h ok)
-full_ends view (Err fault) result script kept b m a h ok err is other = fault_is (IsShown view) result fault script b a other (unwritten (IsShown view) script b m a fault h.ends.printed.none_failed err)
+pub full_ends : {D E : Type 0} (view : DeskView D) (ended : DeskView E) (printed result : Result (Unit {0}) ReplayFault) (script : Script) (kept : ApplierView) (b m a : SinkState) → PlayedFull ended (setting script.setup b) script.steps.items kept m
+    → OnOk printed (Delivers m a (log_text kept.records (outcomes_of kept.table kept.records))) → IfErr printed (IsLogEnd m a)
+    → OnOk printed (result ≡ Err LogFull) → IfErr printed (λ other. result ≡ Err other) → EndsPlaying (IsShown ended) (IsShownSoFar view ended) script b a (fault_in result)
+full_ends view ended (Ok done) result script kept b m a h ok err is other = fault_is (IsShown ended) (IsShownSoFar view ended) result LogFull script b a is (finished_full ended script kept b m a h ok)
+full_ends view ended (Err fault) result script kept b m a h ok err is other =
+    fault_is (IsShown ended) (IsShownSoFar view ended) result fault script b a other
+    (unlogged (IsShown ended) (IsShownSoFar view ended) script (gateway_after script.setup h.done) b m a fault (full_so_far view ended script kept b m h) h.ends.printed err)
 
 -- the log page after memory ran out ends the replay
-pub memory_ends : (rules : Limits → Run → Type 0) (printed result : Result (Unit {0}) ReplayFault) (script : Script) (b m a : SinkState) → Fails b.failures m.failures 0
-    → IfErr printed (IsWriteEnd m a) → OnOk printed (result ≡ Err OutOfMemory) → IfErr printed (λ other. result ≡ Err other) → EndsPlaying rules script b a (fault_in result)
-memory_ends rules (Ok done) result script b m a none_failed err is other = fault_is rules result OutOfMemory script b a is tt
-memory_ends rules (Err fault) result script b m a none_failed err is other = fault_is rules result fault script b a other (unwritten rules script b m a fault none_failed err)
+pub memory_ends : {D E : Type 0} (view : DeskView D) (ended : DeskView E) (printed result : Result (Unit {0}) ReplayFault) (script : Script) (kept : ApplierView) (b m a : SinkState) → PlayedPart view (setting script.setup b) script.steps.items kept m
+    → OnOk printed (Delivers m a (log_text kept.records (outcomes_of kept.table kept.records))) → IfErr printed (IsLogEnd m a)
+    → OnOk printed (result ≡ Err OutOfMemory) → IfErr printed (λ other. result ≡ Err other) → EndsPlaying (IsShown ended) (IsShownSoFar view ended) script b a (fault_in result)
+memory_ends view ended (Ok done) result script kept b m a h ok err is other =
+    fault_is (IsShown ended) (IsShownSoFar view ended) result OutOfMemory script b a is
+    (inr (inr (finished_part view (IsShownSoFar view ended) script kept b m a h (part_so_far view ended script kept b m h) ok)))
+memory_ends view ended (Err fault) result script kept b m a h ok err is other =
+    fault_is (IsShown ended) (IsShownSoFar view ended) result fault script b a other
+    (unlogged (IsShown ended) (IsShownSoFar view ended) script (gateway_after script.setup h.done) b m a fault (part_so_far view ended script kept b m h) h.stays.printed err)
 
 -- ---- the rules that the queue kept
 
 kept_too : (rules others : Limits → Run → Type 0) (script : Script) (b a : SinkState) (full : Bool) → ((limits : Limits) (run : Run) → rules limits run → others limits run) → IsPrinted rules script b a full → IsPrinted others script b a full
 kept_too rules others script b a full weaker h = record {
   gateway = h.gateway;
-  played = record { done = h.played.done; steps_are = h.played.steps_are; whole = h.played.whole; is = h.played.is; kept = weaker _ h.gateway.run h.played.kept };
+  played = record { done = h.played.done; steps_are = h.played.steps_are; whole = h.played.whole; is = h.played.is; kept = weaker _ (with_ends h.gateway.run) h.played.kept };
   full_is = h.full_is;
   printed = h.printed;
 }
 
+kept_so_far : (rules others : Limits → Run → Type 0) (script : Script) (b a : SinkState) → ((limits : Limits) (run : Run) → rules limits run → others limits run) → IsPrintedSoFar rules script b a → IsPrintedSoFar others script b a
+kept_so_far rules others script b a weaker h = record {
+  gateway = h.gateway;
+  played = record {
+    steps = h.played.steps;
+    steps_begin = h.played.steps_begin;
+    done = h.played.done;
+    steps_are = h.played.steps_are;
+    whole = h.played.whole;
+    is = h.played.is;
+    kept = weaker _ h.gateway.run h.played.kept;
+  };
+  printed = h.printed;
+}
+
 -- a queue that keeps some rules keeps those that follow from them
-pub ends_too : (rules others : Limits → Run → Type 0) (script : Script) (b a : SinkState) (end : Option ReplayFault) → ((limits : Limits) (run : Run) → rules limits run → others limits run) → EndsPlaying rules script b a end → EndsPlaying others script b a end
-ends_too rules others script b a None weaker h = kept_too rules others script b a false weaker h
-ends_too rules others script b a (Some TooLong) weaker h = h
-ends_too rules others script b a (Some (Line number)) weaker h = h
-ends_too rules others script b a (Some LogFull) weaker h = kept_too rules others script b a true weaker h
-ends_too rules others script b a (Some OutOfMemory) weaker h = h
-ends_too rules others script b a (Some ReadFault) weaker h = h
-ends_too rules others script b a (Some WriteFault) weaker h = h
+pub ends_too : (rules so_far others : Limits → Run → Type 0) (script : Script) (b a : SinkState) (end : Option ReplayFault) → ((limits : Limits) (run : Run) → rules limits run → others limits run) → ((limits : Limits) (run : Run) → so_far limits run → others limits run)
+    → EndsPlaying rules so_far script b a end → EndsPlaying others others script b a end
+ends_too rules so_far others script b a None weaker weaker_too h = kept_too rules others script b a false weaker h
+ends_too rules so_far others script b a (Some TooLong) weaker weaker_too h = h
+ends_too rules so_far others script b a (Some (Line number)) weaker weaker_too h = h
+ends_too rules so_far others script b a (Some LogFull) weaker weaker_too h = kept_too rules others script b a true weaker h
+ends_too rules so_far others script b a (Some OutOfMemory) weaker weaker_too h =
+    ⊎_elim (λ (same : a ≡ b). inl same)
+    (λ (rest : FailsOnce b a ⊎ IsPrintedSoFar so_far script b a).
+    ⊎_elim (λ (f : FailsOnce b a). inr (inl f)) (λ (p : IsPrintedSoFar so_far script b a). inr (inr (kept_so_far so_far others script b a weaker_too p))) rest)
+    h
+ends_too rules so_far others script b a (Some ReadFault) weaker weaker_too h = h
+ends_too rules so_far others script b a (Some WriteFault) weaker weaker_too h = h

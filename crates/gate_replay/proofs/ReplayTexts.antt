@@ -1,5 +1,5 @@
 -- What was read of the input, and how a replay of it ends.
-use Rattle.std.proofs.Common.{◌≡◌, ℕ, ◌<◌, ◌≤◌, ◌++◌, List, [], length, take, Option, Some, None, refl, ap, ◌∙◌, arith, take_all}
+use Rattle.std.proofs.Common.{◌≡◌, ◌⊎◌, inl, inr, ⊎_elim, ℕ, ◌<◌, ◌≤◌, ◌++◌, List, [], length, take, Option, Some, None, refl, ap, ◌∙◌, arith, take_all}
 use Rattle.std.specs.Prelude.{IfSome, option_map}
 use Rattle.std.proofs.lemmas.List.{length-take}
 use Rattle.gate_core.specs.Limits.{Limits}
@@ -10,10 +10,10 @@ use Rattle.gate_replay.specs.declared.script.Script.{Script}
 use Rattle.gate_replay.specs.declared.script.ScriptFault.{ScriptFault}
 use Rattle.gate_replay.specs.declared.script.ScriptFault.TheVariants as script
 use Rattle.gate_replay.specs.Script.{parsed_lines, IsScript, IsFaultOf}
-use Rattle.gate_reader.specs.Sink.{SinkState}
+use Rattle.gate_reader.specs.Sink.{SinkState, FailsOnce}
 use Rattle.gate_replay.specs.Fault.{replay_fault}
 use Rattle.gate_replay.specs.Replay.{IsWholeInput, EndsWith}
-use Rattle.gate_replay.specs.inner.Playing.{EndsPlaying, IsInputFault}
+use Rattle.gate_replay.specs.inner.Playing.{IsPrintedSoFar, EndsPlaying, IsInputFault}
 
 -- what was read is all, where it is less than the most
 pub whole_text : (known : Option (List ℕ)) (front items : List ℕ) (most : ℕ) → front ≡ [] → IfSome (option_map (take most) known) (λ xs. items ≡ front ++ xs) → length items < most → IsWholeInput known items
@@ -24,25 +24,31 @@ whole_text (Some bytes) front items most e h few =
     k ∙ take_all most bytes short
 
 -- an input that was read and is a script
-pub played_input : (rules : Limits → Run → Type 0) (input : Option (List ℕ)) (text : List ℕ) (played : Script) (fault : Option ReplayFault) (b a : SinkState) → IsWholeInput input text → length text ≤ 1048576 → IsScript (parsed_lines text) played → EndsPlaying rules played b a fault → EndsWith rules input b a fault
+pub played_input : (rules : Limits → Run → Type 0) (input : Option (List ℕ)) (text : List ℕ) (played : Script) (fault : Option ReplayFault) (b a : SinkState) → IsWholeInput input text → length text ≤ 1048576 → IsScript (parsed_lines text) played → EndsPlaying rules rules played b a fault → EndsWith rules input b a fault
 played_input rules input text played None b a whole short parsed h = record { text = text; whole = whole; short = short; script = played; parsed = parsed; gateway = h.gateway; played = h.played; full_is = h.full_is; printed = h.printed }
 played_input rules input text played (Some TooLong) b a whole short parsed h = absurd h
 played_input rules input text played (Some (Line number)) b a whole short parsed h = absurd h
 played_input rules input text played (Some LogFull) b a whole short parsed h = record { text = text; whole = whole; short = short; script = played; parsed = parsed; gateway = h.gateway; played = h.played; full_is = h.full_is; printed = h.printed }
-played_input rules input text played (Some OutOfMemory) b a whole short parsed h = h
+played_input rules input text played (Some OutOfMemory) b a whole short parsed h =
+    ⊎_elim (λ (same : a ≡ b). inl same)
+    (λ (rest : FailsOnce b a ⊎ IsPrintedSoFar rules played b a).
+    ⊎_elim (λ (f : FailsOnce b a). inr (inl f))
+    (λ (p : IsPrintedSoFar rules played b a). inr (inr (record { text = text; whole = whole; short = short; script = played; parsed = parsed; gateway = p.gateway; played = p.played; printed = p.printed })))
+    rest)
+    h
 played_input rules input text played (Some ReadFault) b a whole short parsed h = absurd h
 played_input rules input text played (Some WriteFault) b a whole short parsed h = h
 
 -- an input that was read and is no script
 pub faulty_input : (rules : Limits → Run → Type 0) (input : Option (List ℕ)) (text : List ℕ) (fault : ScriptFault) (a : SinkState) → IsWholeInput input text → length text ≤ 1048576 → IsFaultOf (parsed_lines text) fault → EndsWith rules input a a (Some (replay_fault fault))
 faulty_input rules input text (script.Line number) a whole short h = (record { text = text; whole = whole; short = short; faulty = h }, refl)
-faulty_input rules input text script.OutOfMemory a whole short h = tt
+faulty_input rules input text script.OutOfMemory a whole short h = inl refl
 
 -- an input that wasn't read
 pub unread_input : (rules : Limits → Run → Type 0) (input : Option (List ℕ)) (fault : ReplayFault) (a : SinkState) → IsInputFault input fault → EndsWith rules input a a (Some fault)
 unread_input rules input TooLong a h = (h, refl)
 unread_input rules input (Line number) a h = absurd h
 unread_input rules input LogFull a h = absurd h
-unread_input rules input OutOfMemory a h = h
+unread_input rules input OutOfMemory a h = inl refl
 unread_input rules input ReadFault a h = refl
 unread_input rules input WriteFault a h = absurd h

@@ -1,8 +1,9 @@
 -- What a script does to a gateway in one thread: its state after some steps, by what its queue answered. The main
--- definitions are `gateway_after`, `IsWhole` and `IsPlayed`.
+-- definitions are `gateway_after`, `IsWhole`, `IsPlayed` and `IsPlayedSoFar`.
 -- Own rules: a packet is a session of client 1, and an operator's line one of client 2. After each session the queue is
 -- drained into the applier. An item that finds the log full is still answered, and nothing happens after it.
 use Rattle.std.specs.Prelude.{◌≡◌, ℕ, ◌+◌, ◌<◌, ◌≤◌, nat_lt, if◌then◌else◌, List, [], ◌∷◌, ◌++◌, length, map, reverse, Option, Some, None, unwrap_or, Result, Ok, Err, Bool, true, false}
+use mathlib.Core.List.{IsPrefix}
 use Rattle.gate_model.specs.declared.record.Moment.{Moment}
 use Rattle.gate_model.specs.declared.record.Record.{Record}
 use Rattle.gate_model.specs.declared.submission.Body.{Body}
@@ -20,6 +21,7 @@ use Rattle.gate_core.specs.declared.submit.Refused.{Refused}
 use Rattle.gate_core.specs.Limits.{Limits, limits_of, default_quota}
 use Rattle.gate_core.specs.Legal.{Run, queued, close_reply}
 use Rattle.gate_core.specs.LocalClient.{submitted}
+use Rattle.gate_desk.specs.Ending.{with_ends}
 use Rattle.gate_reader.specs.declared.report.Answer.TheVariants.{Stale, Bad, Down}
 use Rattle.gate_reader.specs.Report.{answer_to, answer_line}
 use Rattle.gate_pages.specs.StatusPage.{status_text_at}
@@ -173,11 +175,41 @@ IsWhole setup ((step, heard) ∷ before) = IsWholeStep setup step heard (gateway
 abbrev pub steps_of : List (Step × Heard) → List Step
 steps_of done = map (λ pair. pair.0) done
 
--- the gateway played the whole script, over a queue of two clients whose answers keep these rules: those of the machine of
--- all interleavings, or those that a gate keeps whatever other threads do
+-- the gateway played the whole script, over a queue of two clients, which then ended and were taken in. The queue's answers
+-- keep these rules: those of the machine of all interleavings, or those that a gate keeps whatever other threads do
 pub record IsPlayed (rules : Limits → Run → Type 0) (script : Script) (g : Gateway) : Type 0 where
   pub done : List (Step × Heard)
   pub steps_are : steps_of done ≡ reverse script.steps.items
   pub whole : IsWhole script.setup done
+  pub is : g ≡ gateway_after script.setup done
+  pub kept : rules (limits_of 2 default_quota script.setup.capacity) (with_ends g.run)
+
+-- ---- replays that memory stops
+
+-- the answers are those of a drain so far: each take came while an item was left and the log wasn't full
+abbrev pub BeginsDrain : ℕ → List (Option Numbered) → Gateway → Type 0
+BeginsDrain limit [] g = Unit {0}
+BeginsDrain limit (Some item ∷ takes) g =
+    (length g.records < number_queued g.run) × (length g.records < limit) × BeginsDrain limit takes (records_item item g)
+BeginsDrain limit (None ∷ takes) g = (length g.records < number_queued g.run) × (length g.records < limit) × (takes ≡ [])
+
+-- the step's drain has begun, if it has one
+abbrev pub IsBegunStep : Setup → Step → Heard → Gateway → Type 0
+IsBegunStep setup step heard g =
+    g.full ≡ false → is_session step ≡ true → BeginsDrain setup.limit heard.takes (serves setup step heard g)
+
+-- each step's drain is whole, but for the newest one's, which has begun
+abbrev pub IsWholeSoFar : Setup → List (Step × Heard) → Type 0
+IsWholeSoFar setup [] = Unit {0}
+IsWholeSoFar setup ((step, heard) ∷ before) = IsBegunStep setup step heard (gateway_after setup before) × IsWhole setup before
+
+-- the gateway played the first steps of the script, the last of them perhaps without the rest of its drain, over a queue of
+-- two clients whose answers keep these rules. (Where the drain was cut short, `full` is true if an item was left.)
+pub record IsPlayedSoFar (rules : Limits → Run → Type 0) (script : Script) (g : Gateway) : Type 0 where
+  pub steps : List Step
+  pub steps_begin : IsPrefix steps script.steps.items
+  pub done : List (Step × Heard)
+  pub steps_are : steps_of done ≡ reverse steps
+  pub whole : IsWholeSoFar script.setup done
   pub is : g ≡ gateway_after script.setup done
   pub kept : rules (limits_of 2 default_quota script.setup.capacity) g.run

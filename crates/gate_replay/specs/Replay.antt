@@ -12,7 +12,7 @@ use Rattle.gate_replay.specs.declared.script.Script.{Script}
 use Rattle.gate_replay.specs.declared.fault.ReplayFault.{ReplayFault}
 use Rattle.gate_replay.specs.declared.fault.ReplayFault.TheVariants.{TooLong, Line, LogFull, OutOfMemory, ReadFault, WriteFault}
 use Rattle.gate_replay.specs.Script.{parsed_lines, IsScript, IsFirstFaultyLine}
-use Rattle.gate_replay.specs.Gateway.{Gateway, IsPlayed}
+use Rattle.gate_replay.specs.Gateway.{Gateway, IsPlayed, IsPlayedSoFar}
 use Rattle.gate_replay.specs.Fault.{status_at_end, message_of}
 
 -- what a script prints that leads to this gateway: the answers and the status pages, and then the log page
@@ -36,6 +36,21 @@ pub record IsReplay (rules : Limits → Run → Type 0) (input : Option (List �
   pub full_is : gateway.full ≡ full
   pub printed : Delivers before after (printed_by script gateway)
 
+-- these first steps were printed and delivered, with the log page after them or without it
+abbrev pub PrintsSoFar : Script → Gateway → SinkState → SinkState → Type 0
+PrintsSoFar script g before after = Delivers before after g.printed ⊎ Delivers before after (printed_by script g)
+
+-- the input is a script, a gateway played the first of its steps, and the output grew by what these print
+pub record IsCutShort (rules : Limits → Run → Type 0) (input : Option (List ℕ)) (before after : SinkState) : Type 0 where
+  pub text : List ℕ
+  pub whole : IsWholeInput input text
+  pub short : length text ≤ 1048576
+  pub script : Script
+  pub parsed : IsScript (parsed_lines text) script
+  pub gateway : Gateway
+  pub played : IsPlayedSoFar rules script gateway
+  pub printed : PrintsSoFar script gateway before after
+
 -- the input is no longer than a script may be, and its first faulty line has this number
 pub record HasFaultyLine (input : Option (List ℕ)) (number : ℕ) : Type 0 where
   pub text : List ℕ
@@ -48,13 +63,14 @@ abbrev pub IsTooLong : Option (List ℕ) → Type 0
 IsTooLong input = IfSome input (λ bytes. 1048576 < length bytes)
 
 -- what is true of the input and of how the output grew, where a replay ends without a fault or with this
--- one. At OutOfMemory nothing is claimed
+-- one. At OutOfMemory nothing was printed, or a call of the output failed, or the replay was cut short
 abbrev pub EndsWith : (Limits → Run → Type 0) → Option (List ℕ) → SinkState → SinkState → Option ReplayFault → Type 0
 EndsWith rules input before after None = IsReplay rules input before after false
 EndsWith rules input before after (Some TooLong) = IsTooLong input × (after ≡ before)
 EndsWith rules input before after (Some (Line number)) = HasFaultyLine input number × (after ≡ before)
 EndsWith rules input before after (Some LogFull) = IsReplay rules input before after true
-EndsWith rules input before after (Some OutOfMemory) = Unit {0}
+EndsWith rules input before after (Some OutOfMemory) =
+    (after ≡ before) ⊎ FailsOnce before after ⊎ IsCutShort rules input before after
 EndsWith rules input before after (Some ReadFault) = after ≡ before
 EndsWith rules input before after (Some WriteFault) = FailsOnce before after
 

@@ -1,6 +1,8 @@
-ghost use Rattle.std.specs.Prelude.{◌≡◌, List, map};
+ghost use Rattle.std.specs.Prelude.{◌≡◌, ℕ, List, map};
 ghost use Rattle.gate_model.specs.declared.record.Record.{Record};
-ghost use Rattle.gate_core.specs.Legal.{taken, IsLegal};
+ghost use mathlib.Core.List.{IsPrefix};
+ghost use Rattle.gate_core.specs.Merge.{IsClient, of_client};
+ghost use Rattle.gate_core.specs.Legal.{taken, queued, IsLegal};
 ghost use Rattle.gate_desk.specs.Allowed.{IsAllowed};
 ghost use Rattle.gate_replay.specs.declared.script.Step.{Step};
 ghost use Rattle.gate_replay.specs.declared.script.Setup.{Setup};
@@ -13,6 +15,11 @@ pub fn replay_laws()
     ensures items { (setup : Setup) (done : List (Step × Heard))
         → map (λ (one : Record). one.item) (gateway_after setup done).records
         ≡ taken (gateway_after setup done).run }
+    // What was recorded of a client begins what was queued for it, in its order and with its bodies.
+    ensures begun { (script : Script) (g : Gateway) (client : ℕ)
+        → IsPlayed IsAllowed script g → IsClient 2 client
+        → IsPrefix (of_client client (map (λ (one : Record). one.item) g.records))
+        (queued client g.run) }
     // Its steps and what the queue answered make one gateway, whatever the queue is.
     ensures function { (setup : Setup) (done other : List (Step × Heard))
         → steps_of done ≡ steps_of other → IsWhole setup done → IsWhole setup other

@@ -1,4 +1,4 @@
-ghost use Rattle.std.specs.Prelude.{◌≡◌, ◌≢◌, ◌+◌, ◌<◌, ◌^◌, [], length, IfOk, IfErr, OnOk};
+ghost use Rattle.std.specs.Prelude.{◌≡◌, ◌≢◌, ◌⊎◌, ◌+◌, ◌<◌, ◌^◌, [], length, IfOk, IfErr, OnOk};
 ghost use Rattle.gate_core.specs.Limits.{limits_of, default_quota};
 ghost use Rattle.gate_core.specs.Legal.{Run};
 ghost use Rattle.gate_reader.specs.Sink.{SinkState, sink_state, Fails};
@@ -7,7 +7,7 @@ ghost use Rattle.gate_replay.specs.declared.script.Step.TheVariants as step;
 ghost use Rattle.gate_replay.specs.declared.script.Setup.{Setup};
 ghost use Rattle.gate_replay.specs.Gateway.{Gateway, is_session};
 ghost use Rattle.gate_replay.specs.inner.Sessions.{queued_in};
-ghost use Rattle.gate_replay.specs.inner.Playing.{desk_view, Setting, setting, Shows, IsNew, IsUnderWay, IsReady, Takes, Serves, Drains, DrainsFull, Plays, PlaysFull, PlayedTo, PlayedFull, IsWriteEnd, StopsBy};
+ghost use Rattle.gate_replay.specs.inner.Playing.{desk_view, Setting, setting, Shows, IsNew, IsUnderWay, IsReady, Takes, Serves, Drains, DrainsFull, DrainsPart, Plays, PlaysFull, PlaysPart, PlayedTo, PlayedFull, PlayedPart, Stays, IsEnded, FindsFull, IsWriteEnd, StopsBy};
 
 use crate::fault::ReplayFault;
 use crate::printing::{print, print_answer};
@@ -59,7 +59,8 @@ fn queued_after(queued: u64, answer: &Answer) -> u64
 fn prepare(applier: Applier) -> Result<Ready, Stopped>
     ensures ready { IfOk result (λ ready. ready ≡ record applier { room = ready.room }) }
     ensures stopped { IfErr result (StopsBy
-        (λ kept. (kept ≡ applier) × (length applier.records ≡ applier.limit)) (Unit {0}) (λ _. ⊥)) }
+        (λ kept. (kept ≡ applier) × (length applier.records ≡ applier.limit))
+        (λ kept. kept ≡ applier) (λ _. ⊥)) }
     ensures room { OnOk result (length applier.records ≢ applier.limit) }
 {
     match applier.prepare() {
@@ -94,7 +95,10 @@ fn opens_session(step: &Step) -> bool
     matches!(step, Step::Packet(_) | Step::Line(_))
 }
 
-impl<D: Desk + Drop> Player<D> {
+impl<D: Desk + Drop> Player<D>
+where
+    D::Ended: Drop,
+{
     /// The replay over this desk that begins with this setup.
     pub(crate) fn open(alloc: Global, desk: D, setup: Setup) -> Result<Player<D>, ReplayFault>
         requires begun { D.after desk [] }
@@ -121,14 +125,27 @@ impl<D: Desk + Drop> Player<D> {
         }
     }
 
-    // Takes an item and records it. Without one there is nothing more to take.
+    /// Ends the desk, and leaves the applier.
+    pub(crate) fn end(self) -> Applier
+        requires { (run : Run) × D.after self.desk run }
+        ensures applier { result ≡ self.applier }
+        ensures ended { IsEnded (desk_view D.after D.limits)
+            (desk_view D.Ended.after D.Ended.limits) self.desk }
+    {
+        let _ended = self.desk.end();
+        self.applier
+    }
+
+    // Takes an item and records it. Without one there is nothing more to take. The desk is ended
+    // where the log is full.
     fn take_one(self) -> Result<(Player<D>, bool), Stopped>
         requires { (run : Run) × D.after self.desk run }
         ensures taken { IfOk result (λ turn.
             Takes (desk_view D.after D.limits) self turn.0 turn.1) }
-        ensures stopped { IfErr result (StopsBy
-            (λ kept. (kept ≡ self.applier) × (length self.applier.records ≡ self.applier.limit))
-            (Unit {0}) (λ _. ⊥)) }
+        ensures stopped { let view = desk_view D.after D.limits in
+            let ended = desk_view D.Ended.after D.Ended.limits in
+            IfErr result (StopsBy (FindsFull view ended self) (λ kept. kept ≡ self.applier)
+            (λ _. ⊥)) }
     {
         let Player {
             desk,
@@ -139,7 +156,10 @@ impl<D: Desk + Drop> Player<D> {
         } = self;
         let ready = match prepare(applier) {
             Ok(ready) => ready,
-            Err(stop) => return Err(stop),
+            Err(stop) => {
+                let _ended = desk.end();
+                return Err(stop);
+            }
         };
         let (desk, item) = desk.take();
         match item {
@@ -175,9 +195,12 @@ impl<D: Desk + Drop> Player<D> {
             IfOk result (λ now. (s : Setting) (output : SinkState) (g : Gateway)
             → Shows view s self output g → Drains view s now output g) }
         ensures stopped { let view = desk_view D.after D.limits in
+            let ended = desk_view D.Ended.after D.Ended.limits in
             IfErr result (StopsBy (λ kept. (s : Setting) (output : SinkState)
-            (g : Gateway) → Shows view s self output g → DrainsFull view s kept output g)
-            (Unit {0}) (λ _. ⊥)) }
+            (g : Gateway) → Shows view s self output g → DrainsFull ended s kept output g)
+            (λ kept. (s : Setting) (output : SinkState) (g : Gateway)
+            → Shows view s self output g → DrainsPart view s kept output g)
+            (λ _. ⊥)) }
     {
         let mut player = self;
         while (player.applier.records().len() as u64) < player.queued {
@@ -209,8 +232,10 @@ impl<D: Desk + Drop> Player<D> {
             → Shows view s self (state output.old) g
             → Serves view s now (state output.new) (step.Packet packet.now) g) }
         ensures none_failed { OnOk result (Fails (W.failures output.old) (W.failures output.new) 0) }
-        ensures stopped { let state = sink_state W.contents W.pending W.failures in
-            IfErr result (StopsBy (λ _. ⊥) (Fails (W.failures output.old) (W.failures output.new) 0)
+        ensures stopped { let view = desk_view D.after D.limits in
+            let state = sink_state W.contents W.pending W.failures in
+            IfErr result (StopsBy (λ _. ⊥) (λ kept. (s : Setting) (g : Gateway)
+            → Shows view s self (state output.old) g → Stays view s kept (state output.new) g)
             (IsWriteEnd (state output.old) (state output.new))) }
     {
         let Player {
@@ -247,8 +272,10 @@ impl<D: Desk + Drop> Player<D> {
             → Shows view s self (state output.old) g
             → Serves view s now (state output.new) (step.Line text.now) g) }
         ensures none_failed { OnOk result (Fails (W.failures output.old) (W.failures output.new) 0) }
-        ensures stopped { let state = sink_state W.contents W.pending W.failures in
-            IfErr result (StopsBy (λ _. ⊥) (Fails (W.failures output.old) (W.failures output.new) 0)
+        ensures stopped { let view = desk_view D.after D.limits in
+            let state = sink_state W.contents W.pending W.failures in
+            IfErr result (StopsBy (λ _. ⊥) (λ kept. (s : Setting) (g : Gateway)
+            → Shows view s self (state output.old) g → Stays view s kept (state output.new) g)
             (IsWriteEnd (state output.old) (state output.new))) }
     {
         let Player {
@@ -287,8 +314,10 @@ impl<D: Desk + Drop> Player<D> {
             → Shows view s self (state output.old) g
             → Serves view s now (state output.new) step.Page g) }
         ensures none_failed { OnOk result (Fails (W.failures output.old) (W.failures output.new) 0) }
-        ensures stopped { let state = sink_state W.contents W.pending W.failures in
-            IfErr result (StopsBy (λ _. ⊥) (Fails (W.failures output.old) (W.failures output.new) 0)
+        ensures stopped { let view = desk_view D.after D.limits in
+            let state = sink_state W.contents W.pending W.failures in
+            IfErr result (StopsBy (λ _. ⊥) (λ kept. (s : Setting) (g : Gateway)
+            → Shows view s self (state output.old) g → Stays view s kept (state output.new) g)
             (IsWriteEnd (state output.old) (state output.new))) }
     {
         let mut player = self;
@@ -317,8 +346,10 @@ impl<D: Desk + Drop> Player<D> {
             → Shows view s self (state output.old) g
             → Serves view s now (state output.new) step.now g) }
         ensures none_failed { OnOk result (Fails (W.failures output.old) (W.failures output.new) 0) }
-        ensures stopped { let state = sink_state W.contents W.pending W.failures in
-            IfErr result (StopsBy (λ _. ⊥) (Fails (W.failures output.old) (W.failures output.new) 0)
+        ensures stopped { let view = desk_view D.after D.limits in
+            let state = sink_state W.contents W.pending W.failures in
+            IfErr result (StopsBy (λ _. ⊥) (λ kept. (s : Setting) (g : Gateway)
+            → Shows view s self (state output.old) g → Stays view s kept (state output.new) g)
             (IsWriteEnd (state output.old) (state output.new))) }
     {
         match step {
@@ -342,11 +373,14 @@ impl<D: Desk + Drop> Player<D> {
             → Shows view s self (state output.old) g
             → Plays view s now (state output.new) step.now g) }
         ensures stopped { let view = desk_view D.after D.limits in
+            let ended = desk_view D.Ended.after D.Ended.limits in
             let state = sink_state W.contents W.pending W.failures in
             IfErr result (StopsBy (λ kept. (s : Setting) (g : Gateway)
             → Shows view s self (state output.old) g
-            → PlaysFull view s kept (state output.new) step.now g)
-            (Fails (W.failures output.old) (W.failures output.new) 0)
+            → PlaysFull ended s kept (state output.new) step.now g)
+            (λ kept. (s : Setting) (g : Gateway) → Shows view s self (state output.old) g
+            → Stays view s kept (state output.new) g
+            ⊎ PlaysPart view s kept (state output.new) step.now g)
             (IsWriteEnd (state output.old) (state output.new))) }
     {
         match self.serve(alloc, step, output) {
@@ -375,10 +409,12 @@ impl<D: Desk + Drop> Player<D> {
             IfOk result (λ now. (setup : Setup) → IsNew view setup self
             → PlayedTo view (setting setup (state output.old)) steps.now now (state output.new)) }
         ensures stopped { let view = desk_view D.after D.limits in
+            let ended = desk_view D.Ended.after D.Ended.limits in
             let state = sink_state W.contents W.pending W.failures in
             IfErr result (StopsBy (λ kept. (setup : Setup) → IsNew view setup self
-            → PlayedFull view (setting setup (state output.old)) steps.now kept (state output.new))
-            (Fails (W.failures output.old) (W.failures output.new) 0)
+            → PlayedFull ended (setting setup (state output.old)) steps.now kept (state output.new))
+            (λ kept. (setup : Setup) → IsNew view setup self
+            → PlayedPart view (setting setup (state output.old)) steps.now kept (state output.new))
             (IsWriteEnd (state output.old) (state output.new))) }
     {
         let mut player = self;

@@ -6,7 +6,7 @@ ghost use Rattle.gate_desk.specs.Allowed.{IsAllowed};
 ghost use Rattle.gate_pages.specs.LogPage.{log_text};
 ghost use Rattle.gate_reader.specs.Sink.{sink_state, Delivers};
 ghost use Rattle.gate_replay.specs.Replay.{IsWholeInput, fault_in, EndsWith, IsReplayRun};
-ghost use Rattle.gate_replay.specs.inner.Playing.{desk_view, IsShown, IsWriteEnd, EndsPlaying, IsInputFault};
+ghost use Rattle.gate_replay.specs.inner.Playing.{desk_view, IsShown, IsShownSoFar, IsLogEnd, EndsPlaying, IsInputFault};
 
 use crate::fault::{ReplayFault, read_fault};
 use crate::player::{Player, Stopped};
@@ -49,7 +49,7 @@ fn print_log<W: Sink>(alloc: Global, applier: &Applier, output: &mut W) -> Resul
         (log_text applier.now.records (outcomes_of applier.now.table applier.now.records))) }
     ensures few { length applier.now.records ≤ applier.now.limit }
     ensures err { let state = sink_state W.contents W.pending W.failures in
-        IfErr result (IsWriteEnd (state output.old) (state output.new)) }
+        IfErr result (IsLogEnd (state output.old) (state output.new)) }
 {
     match log_page(alloc, applier.records(), applier.outcomes()) {
         Ok(page) => {
@@ -80,16 +80,24 @@ fn play_over<D: Desk + Drop, W: Sink>(
     script: Script,
     output: &mut W,
 ) -> Result<(), ReplayFault>
+where
+    D::Ended: Drop,
     requires begun { D.after desk [] }
     requires limits { D.limits desk ≡ limits_of 2 default_quota script.setup.capacity }
     ensures { let state = sink_state W.contents W.pending W.failures in
-        EndsPlaying (IsShown (desk_view D.after D.limits)) script
+        let ended = desk_view D.Ended.after D.Ended.limits in
+        EndsPlaying (IsShown ended) (IsShownSoFar (desk_view D.after D.limits) ended) script
         (state output.old) (state output.new) (fault_in result) }
 {
     let Script { setup, steps } = script;
-    let player = Player::open(alloc, desk, setup)?;
+    let Ok(player) = Player::open(alloc, desk, setup) else {
+        return Err(ReplayFault::OutOfMemory);
+    };
     match player.play(alloc, &steps, output) {
-        Ok(player) => print_log(alloc, &player.applier, output),
+        Ok(player) => {
+            let applier = player.end();
+            print_log(alloc, &applier, output)
+        }
         Err(Stopped::Full(applier)) => {
             let printed = print_log(alloc, &applier, output);
             fault_after(printed, ReplayFault::LogFull)
@@ -109,7 +117,7 @@ fn play_over_world<W: Sink>(
     output: &mut W,
 ) -> Result<(), ReplayFault>
     ensures { let state = sink_state W.contents W.pending W.failures in
-        EndsPlaying IsLegal script (state output.old) (state output.new) (fault_in result) }
+        EndsPlaying IsLegal IsLegal script (state output.old) (state output.new) (fault_in result) }
 {
     let Ok(world) = World::open(alloc, 2, script.setup.capacity as usize) else {
         return Err(ReplayFault::OutOfMemory);
@@ -126,7 +134,8 @@ fn play_over_gate<R: Wait, W: Sink>(
     output: &mut W,
 ) -> Result<(), ReplayFault>
     ensures { let state = sink_state W.contents W.pending W.failures in
-        EndsPlaying IsAllowed script (state output.old) (state output.new) (fault_in result) }
+        EndsPlaying IsAllowed IsAllowed script (state output.old) (state output.new)
+        (fault_in result) }
 {
     let Ok((gate, taker, closer, mut clients)) = open(alloc, 2, script.setup.capacity as usize)
     else {
@@ -140,18 +149,19 @@ fn play_over_gate<R: Wait, W: Sink>(
 
 /// Reads a script, checks it whole and plays it over a gate of two clients: it prints an answer for
 /// each packet and each line that arrives, the status page where it is asked for, and in the end the
-/// log page, also where the log was full with an item left.
+/// log page, also where the log was full with an item left. Both clients have ended by then.
 ///
 /// The queue's answers keep the rules that a gate keeps whatever other threads do. Those leave open
-/// that it answers full although there is room, that a take finds nothing although items wait, and
-/// which body a taken item has before its client has ended. All else that is printed follows from
-/// the script and these answers.
+/// whether there is room for an item, whether somebody else has closed, and whether a take finds
+/// the items that wait. What is recorded of a client begins what was queued for it. All else that
+/// is printed follows from the script and these answers.
 ///
 /// TooLong and Line are faults of the input, before anything is printed: it has more than 1,048,576
 /// bytes, or a first faulty line. LogFull is an item that finds the log full. ReadFault is a failed
 /// call of `input` and WriteFault one of `output`, unless its error is out of memory. After a failed
-/// call of `output` no other is made. OutOfMemory may come instead of any other answer, and the log
-/// page is printed then too, if it can be made. Own rules.
+/// call of `output` no other is made. OutOfMemory may come instead of any other answer: then nothing
+/// was printed, or a call of `output` failed, or what the first steps print was delivered, with the
+/// log page if it can be made. Own rules.
 pub fn replay_script<R: Wait, I: Read, W: Sink>(
     rt: &R,
     alloc: Global,

@@ -1,6 +1,7 @@
 -- Only proofs and private functions use this: how a player shows the gateway that it plays, and how it stops.
-use Rattle.std.specs.Prelude.{◌≡◌, ◌≢◌, ℕ, ◌<◌, ◌^◌, List, [], ◌∷◌, ◌++◌, length, Option, Some, None, Bool, true, false, reverse}
+use Rattle.std.specs.Prelude.{◌≡◌, ◌≢◌, ◌⊎◌, ℕ, ◌<◌, ◌^◌, List, [], ◌∷◌, ◌++◌, length, Option, Some, None, Bool, true, false, reverse}
 use Rattle.std.specs.Bool.{MatchBool}
+use mathlib.Core.List.{IsPrefix}
 use Rattle.gate_model.specs.declared.submission.Numbered.{Numbered}
 use Rattle.gate_model.specs.Record.{later}
 use Rattle.gate_core.specs.Limits.{Limits, limits_of, default_quota}
@@ -9,6 +10,7 @@ use Rattle.gate_core.specs.declared.event.Event.{Event}
 use Rattle.gate_core.specs.declared.event.Event.TheVariants.{Take}
 use Rattle.gate_core.specs.declared.event.Reply.{Reply}
 use Rattle.gate_core.specs.declared.event.Reply.TheVariants.{Taken, Empty}
+use Rattle.gate_desk.specs.Ending.{with_ends}
 use Rattle.gate_applier.specs.Applier.{ApplierView, opened}
 use Rattle.gate_reader.specs.Sink.{SinkState, FailsOnce, Writes, Delivers}
 use Rattle.gate_replay.specs.declared.fault.ReplayFault.{ReplayFault}
@@ -19,8 +21,8 @@ use Rattle.gate_replay.specs.declared.player.Stopped.TheVariants as stopped
 use Rattle.gate_replay.specs.declared.script.Step.{Step}
 use Rattle.gate_replay.specs.declared.script.Setup.{Setup}
 use Rattle.gate_replay.specs.declared.script.Script.{Script}
-use Rattle.gate_replay.specs.Gateway.{Gateway, Heard, number_queued, serves, drains, plays, gateway_after, steps_of, Finishes, IsWholeStep, IsWhole, IsPlayed}
-use Rattle.gate_replay.specs.Replay.{IsTooLong, printed_by}
+use Rattle.gate_replay.specs.Gateway.{Gateway, Heard, number_queued, serves, drains, plays, gateway_after, steps_of, Finishes, IsWholeStep, IsWhole, IsPlayed, BeginsDrain, IsBegunStep, IsWholeSoFar, IsPlayedSoFar}
+use Rattle.gate_replay.specs.Replay.{IsTooLong, printed_by, PrintsSoFar}
 
 -- ---- a desk
 
@@ -47,6 +49,16 @@ pub record IsShown {D : Type 0} (view : DeskView D) (limits : Limits) (run : Run
   pub desk : D
   pub after : view.after desk run
   pub limits_are : view.limits desk ≡ limits
+
+-- a desk of these limits shows this run, or what is left of one after its end shows it with the ends
+abbrev pub IsShownSoFar : {D E : Type 0} → DeskView D → DeskView E → Limits → Run → Type 0
+IsShownSoFar view ended limits run = IsShown view limits run ⊎ IsShown ended limits (with_ends run)
+
+-- what is left of the desk after its end shows whatever run the desk did, with the ends
+pub record IsEnded {D E : Type 0} (view : DeskView D) (ended : DeskView E) (desk : D) : Type 0 where
+  pub rest : E
+  pub after : (run : Run) → view.after desk run → ended.after rest (with_ends run)
+  pub limits_are : ended.limits rest ≡ view.limits desk
 
 -- ---- a player
 
@@ -76,6 +88,12 @@ pub record Shows {D : Type 0} (view : DeskView D) (s : Setting) (player : Player
   pub printed : Writes s.base output g.printed
   pub running : g.full ≡ false
 
+-- the gateway has come to this state, as some desk, this applier and the output show
+pub record Stays {D : Type 0} (view : DeskView D) (s : Setting) (applier : ApplierView) (output : SinkState) (g : Gateway) : Type 0 where
+  pub stood : IsShown view (limits_of 2 default_quota s.setup.capacity) g.run
+  pub shown : ShowsRecords s.setup applier g
+  pub printed : Writes s.base output g.printed
+
 -- a player that has done nothing yet
 pub record IsNew {D : Type 0} (view : DeskView D) (setup : Setup) (player : Player D) : Type 0 where
   pub holds : HoldsRun view setup player.desk []
@@ -83,6 +101,12 @@ pub record IsNew {D : Type 0} (view : DeskView D) (setup : Setup) (player : Play
   pub clock : player.clock ≡ setup.moment
   pub age : player.age ≡ setup.age
   pub queued : player.queued ≡ 0
+
+-- a player found the log full, and ended its desk
+pub record FindsFull {D E : Type 0} (view : DeskView D) (ended : DeskView E) (player : Player D) (kept : ApplierView) : Type 0 where
+  pub applier : kept ≡ player.applier
+  pub full : length player.applier.records ≡ player.applier.limit
+  pub is_ended : IsEnded view ended player.desk
 
 -- a player took an item and recorded it
 pub record TakesItem {D : Type 0} (view : DeskView D) (was now : Player D) (item : Numbered) : Type 0 where
@@ -132,18 +156,24 @@ pub record Drains {D : Type 0} (view : DeskView D) (s : Setting) (player : Playe
   pub finishes : Finishes s.setup.limit takes g
   pub shows : Shows view s player output (drains takes g)
 
--- the log was full with an item left
-pub record Ends {D : Type 0} (view : DeskView D) (s : Setting) (applier : ApplierView) (output : SinkState) (g : Gateway) : Type 0 where
-  pub kept : IsShown view (limits_of 2 default_quota s.setup.capacity) g.run
+-- the log was full with an item left, and the desk has ended
+pub record Ends {E : Type 0} (ended : DeskView E) (s : Setting) (applier : ApplierView) (output : SinkState) (g : Gateway) : Type 0 where
+  pub kept : IsShown ended (limits_of 2 default_quota s.setup.capacity) (with_ends g.run)
   pub shown : ShowsRecords s.setup applier g
   pub printed : Writes s.base output g.printed
   pub full : g.full ≡ true
 
 -- a drain from this state met a full log with an item left
-pub record DrainsFull {D : Type 0} (view : DeskView D) (s : Setting) (applier : ApplierView) (output : SinkState) (g : Gateway) : Type 0 where
+pub record DrainsFull {E : Type 0} (ended : DeskView E) (s : Setting) (applier : ApplierView) (output : SinkState) (g : Gateway) : Type 0 where
   pub takes : List (Option Numbered)
   pub finishes : Finishes s.setup.limit takes g
-  pub ends : Ends view s applier output (drains takes g)
+  pub ends : Ends ended s applier output (drains takes g)
+
+-- memory ran out amid a drain from this state
+pub record DrainsPart {D : Type 0} (view : DeskView D) (s : Setting) (applier : ApplierView) (output : SinkState) (g : Gateway) : Type 0 where
+  pub takes : List (Option Numbered)
+  pub begins : BeginsDrain s.setup.limit takes g
+  pub stays : Stays view s applier output (drains takes g)
 
 -- the step was played
 pub record Plays {D : Type 0} (view : DeskView D) (s : Setting) (player : Player D) (output : SinkState) (step : Step) (g : Gateway) : Type 0 where
@@ -152,10 +182,16 @@ pub record Plays {D : Type 0} (view : DeskView D) (s : Setting) (player : Player
   pub shows : Shows view s player output (plays s.setup step heard g)
 
 -- the step was played, and the log was full with an item left
-pub record PlaysFull {D : Type 0} (view : DeskView D) (s : Setting) (applier : ApplierView) (output : SinkState) (step : Step) (g : Gateway) : Type 0 where
+pub record PlaysFull {E : Type 0} (ended : DeskView E) (s : Setting) (applier : ApplierView) (output : SinkState) (step : Step) (g : Gateway) : Type 0 where
   pub heard : Heard
   pub whole : IsWholeStep s.setup step heard g
-  pub ends : Ends view s applier output (plays s.setup step heard g)
+  pub ends : Ends ended s applier output (plays s.setup step heard g)
+
+-- memory ran out amid the drain of the step
+pub record PlaysPart {D : Type 0} (view : DeskView D) (s : Setting) (applier : ApplierView) (output : SinkState) (step : Step) (g : Gateway) : Type 0 where
+  pub heard : Heard
+  pub begins : IsBegunStep s.setup step heard g
+  pub stays : Stays view s applier output (plays s.setup step heard g)
 
 -- the steps so far were played
 pub record PlayedTo {D : Type 0} (view : DeskView D) (s : Setting) (steps : List Step) (player : Player D) (output : SinkState) : Type 0 where
@@ -165,28 +201,46 @@ pub record PlayedTo {D : Type 0} (view : DeskView D) (s : Setting) (steps : List
   pub shows : Shows view s player output (gateway_after s.setup done)
 
 -- the steps were played, and at one of them the log was full with an item left
-pub record PlayedFull {D : Type 0} (view : DeskView D) (s : Setting) (steps : List Step) (applier : ApplierView) (output : SinkState) : Type 0 where
+pub record PlayedFull {E : Type 0} (ended : DeskView E) (s : Setting) (steps : List Step) (applier : ApplierView) (output : SinkState) : Type 0 where
   pub done : List (Step × Heard)
   pub steps_are : steps_of done ≡ reverse steps
   pub whole : IsWhole s.setup done
-  pub ends : Ends view s applier output (gateway_after s.setup done)
+  pub ends : Ends ended s applier output (gateway_after s.setup done)
+
+-- the first steps were played, and then memory ran out
+pub record PlayedPart {D : Type 0} (view : DeskView D) (s : Setting) (steps : List Step) (applier : ApplierView) (output : SinkState) : Type 0 where
+  pub front : List Step
+  pub front_begins : IsPrefix front steps
+  pub done : List (Step × Heard)
+  pub steps_are : steps_of done ≡ reverse front
+  pub whole : IsWholeSoFar s.setup done
+  pub stays : Stays view s applier output (gateway_after s.setup done)
 
 -- ---- ends
 
--- a write failed, which was the one failure, or memory ran out
+-- a call failed, and no other
 abbrev pub IsWriteEnd : SinkState → SinkState → ReplayFault → Type 0
 IsWriteEnd before after TooLong = ⊥
 IsWriteEnd before after (Line number) = ⊥
 IsWriteEnd before after LogFull = ⊥
-IsWriteEnd before after OutOfMemory = Unit {0}
+IsWriteEnd before after OutOfMemory = FailsOnce before after
 IsWriteEnd before after ReadFault = ⊥
 IsWriteEnd before after WriteFault = FailsOnce before after
 
+-- the log page wasn't delivered: a call failed, or there was no memory for the page and nothing is held back
+abbrev pub IsLogEnd : SinkState → SinkState → ReplayFault → Type 0
+IsLogEnd before after TooLong = ⊥
+IsLogEnd before after (Line number) = ⊥
+IsLogEnd before after LogFull = ⊥
+IsLogEnd before after OutOfMemory = FailsOnce before after ⊎ Delivers before after []
+IsLogEnd before after ReadFault = ⊥
+IsLogEnd before after WriteFault = FailsOnce before after
+
 -- a player stopped: with a full log, where the first fact holds of the applier; out of memory, where the
--- second holds; or at a write, where the third holds of the fault
-abbrev pub StopsBy : (ApplierView → Type 0) → Type 0 → (ReplayFault → Type 0) → Stopped → Type 0
+-- second does; or at a write, where the third holds of the fault
+abbrev pub StopsBy : (ApplierView → Type 0) → (ApplierView → Type 0) → (ReplayFault → Type 0) → Stopped → Type 0
 StopsBy P Q R (stopped.Full applier) = P applier
-StopsBy P Q R (stopped.OutOfMemory applier) = Q
+StopsBy P Q R (stopped.OutOfMemory applier) = Q applier
 StopsBy P Q R (stopped.Unwritten fault) = R fault
 
 -- a script was played, to a full log or to its end, and what it prints was delivered
@@ -196,15 +250,22 @@ pub record IsPrinted (rules : Limits → Run → Type 0) (script : Script) (befo
   pub full_is : gateway.full ≡ full
   pub printed : Delivers before after (printed_by script gateway)
 
--- a script was played to its end, or to this fault
-abbrev pub EndsPlaying : (Limits → Run → Type 0) → Script → SinkState → SinkState → Option ReplayFault → Type 0
-EndsPlaying rules script before after None = IsPrinted rules script before after false
-EndsPlaying rules script before after (Some TooLong) = ⊥
-EndsPlaying rules script before after (Some (Line number)) = ⊥
-EndsPlaying rules script before after (Some LogFull) = IsPrinted rules script before after true
-EndsPlaying rules script before after (Some OutOfMemory) = Unit {0}
-EndsPlaying rules script before after (Some ReadFault) = ⊥
-EndsPlaying rules script before after (Some WriteFault) = FailsOnce before after
+-- the first steps of a script were played, and what they print was delivered
+pub record IsPrintedSoFar (rules : Limits → Run → Type 0) (script : Script) (before after : SinkState) : Type 0 where
+  pub gateway : Gateway
+  pub played : IsPlayedSoFar rules script gateway
+  pub printed : PrintsSoFar script gateway before after
+
+-- a script was played to its end, or to this fault. The second rules are those of a queue before its end
+abbrev pub EndsPlaying : (rules so_far : Limits → Run → Type 0) → Script → SinkState → SinkState → Option ReplayFault → Type 0
+EndsPlaying rules so_far script before after None = IsPrinted rules script before after false
+EndsPlaying rules so_far script before after (Some TooLong) = ⊥
+EndsPlaying rules so_far script before after (Some (Line number)) = ⊥
+EndsPlaying rules so_far script before after (Some LogFull) = IsPrinted rules script before after true
+EndsPlaying rules so_far script before after (Some OutOfMemory) =
+    (after ≡ before) ⊎ FailsOnce before after ⊎ IsPrintedSoFar so_far script before after
+EndsPlaying rules so_far script before after (Some ReadFault) = ⊥
+EndsPlaying rules so_far script before after (Some WriteFault) = FailsOnce before after
 
 -- why an input wasn't read: it is too long, memory ran out, or a read failed
 abbrev pub IsInputFault : Option (List ℕ) → ReplayFault → Type 0

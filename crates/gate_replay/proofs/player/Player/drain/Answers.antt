@@ -11,7 +11,7 @@ returns-clause-drained g c = drains_none (desk_view g.D.Desk.after g.D.Desk.limi
 
 pub returns-in-Err-clause-stopped : goal.returns-in-Err-clause-stopped
 returns-in-Err-clause-stopped g c =
-    drain_stopped (desk_view g.D.Desk.after g.D.Desk.limits) c.args.self c.loop-player.player c.in-Err.stop (omega (arith, ap length c.records.ensures.records)) c.loop-player.invariant c.in-Err.ensures.stopped
+    drain_stopped (desk_view g.D.Desk.after g.D.Desk.limits) (desk_view g.D.Ended.EndedDesk.after g.D.Ended.EndedDesk.limits) c.args.self c.loop-player.player c.in-Err.stop (omega (arith, ap length c.records.ensures.records)) c.loop-player.invariant c.in-Err.ensures.stopped
 
 pub returns-then-not-turn-clause-drained : goal.returns-then-not-turn-clause-drained
 returns-then-not-turn-clause-drained g c =

@@ -18,7 +18,7 @@ step-requires g c =
 pub returns-in-Err-clause-stopped : goal.returns-in-Err-clause-stopped
 returns-in-Err-clause-stopped g c =
     let state = sink_state g.W.Write.contents g.W.Sink.pending g.W.Sink.failures in
-    played_stops (desk_view g.D.Desk.after g.D.Desk.limits) c.in-Err.stop c.args.self (state c.args.output.now) c.args.steps.now c.loop-step.step-index c.step-item.result c.loop-step.player (state c.loop-step.output) (state c.step.new.output)
+    played_stops (desk_view g.D.Desk.after g.D.Desk.limits) (desk_view g.D.Ended.EndedDesk.after g.D.Ended.EndedDesk.limits) c.in-Err.stop c.args.self (state c.args.output.now) c.args.steps.now c.loop-step.step-index c.step-item.result c.loop-step.player (state c.loop-step.output) (state c.step.new.output)
     (next_step c.args.steps.now c.loop-step.step-index c.step-item.result c.loop-step-test.true c.step-item.is) (c.loop-step.invariant c.requires.0 c.requires.1).shows.printed.none_failed c.loop-step.invariant c.in-Err.ensures.stopped
 
 pub loop-step-preserved : goal.loop-step-preserved

@@ -17,12 +17,12 @@ returns-else-opens_session-clause-played g c =
 pub returns-in-Err-clause-stopped : goal.returns-in-Err-clause-stopped
 returns-in-Err-clause-stopped g c =
     let state = sink_state g.W.Write.contents g.W.Sink.pending g.W.Sink.failures in
-    served_stops (desk_view g.D.Desk.after g.D.Desk.limits) c.in-Err.stop c.args.self c.args.step.now (state c.args.output.now) (state c.serve.new.output) c.in-Err.ensures.stopped
+    served_stops (desk_view g.D.Desk.after g.D.Desk.limits) (desk_view g.D.Ended.EndedDesk.after g.D.Ended.EndedDesk.limits) c.in-Err.stop c.args.self c.args.step.now (state c.args.output.now) (state c.serve.new.output) c.in-Err.ensures.stopped
 
 pub returns-then-opens_session-clause-stopped : goal.returns-then-opens_session-clause-stopped
 returns-then-opens_session-clause-stopped g c =
     let state = sink_state g.W.Write.contents g.W.Sink.pending g.W.Sink.failures in
-    drain_stops (desk_view g.D.Desk.after g.D.Desk.limits) c.drain.result c.args.self c.in-Ok.player c.args.step.now (state c.args.output.now) (state c.serve.new.output) c.in-Ok.ensures.served (sym c.opens_session.ensures ∙ c.if-opens_session.true) c.in-Ok.ensures.none_failed c.drain.ensures.stopped
+    drain_stops (desk_view g.D.Desk.after g.D.Desk.limits) (desk_view g.D.Ended.EndedDesk.after g.D.Ended.EndedDesk.limits) c.drain.result c.args.self c.in-Ok.player c.args.step.now (state c.args.output.now) (state c.serve.new.output) c.in-Ok.ensures.served (sym c.opens_session.ensures ∙ c.if-opens_session.true) c.drain.ensures.stopped
 
 pub drain-requires : goal.drain-requires
 drain-requires g c =
