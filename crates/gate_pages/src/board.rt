@@ -64,6 +64,13 @@ impl Board {
         board.closing = Some(moment);
         board
     }
+
+    /// The moment of the close, where the board is marked closing.
+    pub fn closes_at(&self) -> Option<Moment>
+        ensures { result ≡ self.now.closing }
+    {
+        self.closing
+    }
 }
 
 /// Replaces a board by the next one.

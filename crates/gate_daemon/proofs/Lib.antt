@@ -1,0 +1,4 @@
+pub mod Numbering
+pub mod Sessions
+pub mod Clients
+pub mod Joined

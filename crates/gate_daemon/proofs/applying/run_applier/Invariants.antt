@@ -1,0 +1,10 @@
+use Rattle.std.proofs.Common.{◌≡◌}
+use Rattle.gate_queue.specs.DrainedClose.{items_of_records}
+use Rattle.gate_daemon.specs.Applying.{IsSameLog}
+use Rattle.gate_daemon.proofs.applying.run_applier.Given as goal
+
+abbrev pub invariant-loop : goal.invariant-loop
+invariant-loop g l =
+    (goal.iterator-loop g).can_next l.iterator' × (goal.iterator-loop g).is_finite l.iterator'
+    × (l.taker.gate ≡ l.gate) × (items_of_records l.applier.records ≡ l.taker.taken) × (l.taker.ended ≡ l.initial.taker.ended)
+    × IsSameLog l.initial.applier l.applier

@@ -1,0 +1,8 @@
+use Rattle.std.proofs.Common.{sym, ap, ◌∙◌, subst}
+use Rattle.gate_daemon.proofs.Sessions.{lines_grow}
+use Rattle.gate_daemon.proofs.worker.serve_operator.Goals as goal
+
+pub returns-clause-queued : goal.returns-clause-queued
+returns-clause-queued g c =
+    let grown = lines_grow _ _ _ _ _ _ _ _ _ _ c.serve_lines-report.ensures.session c.args.client.queued c.new-lent.ensures.queued in
+    (grown.0, ap (λ x. x.queued) c.into_parts-client.ensures.client ∙ grown.1, grown.2, grown.3)

@@ -1,0 +1,181 @@
+ghost use Rattle.std.specs.Prelude.{◌≡◌, ◌≢◌, [], ◌∷◌, ◌++◌, IsSome, length};
+ghost use Rattle.gate_queue.specs.DrainedClose.{items_of_records};
+ghost use Rattle.gate_daemon.specs.declared.applying.ApplierStop.TheVariants.{Closing, LogFull};
+ghost use Rattle.gate_daemon.specs.Applying.{IsSameLog};
+ghost use Rattle.gate_daemon.specs.declared.applying.Step.TheVariants as step;
+
+use crate::connections::{Hold, Point, Watch};
+use crate::pausing::pause;
+use gate_applier::{Applier, PrepareCause, PrepareFault, Ready};
+use gate_model::{Moment, Numbered};
+use gate_pages::{Board, publish};
+use gate_queue::{Gate, Taker};
+use std::alloc::Global;
+use std::sync::{Mutex, Wait};
+use std::time::Clock;
+
+/// Why the applier stopped. Own rules.
+#[derive(Clone, Copy, Debug, PartialEq, Eq)]
+pub enum ApplierStop {
+    /// The queue was empty, and the gate is closing.
+    Closing,
+    /// The log is full.
+    LogFull,
+}
+
+// What one turn of the applier did.
+#[derive(Clone, Copy, Debug, PartialEq, Eq)]
+pub(crate) enum Step {
+    Applied,
+    Empty,
+    LogFull,
+    OutOfMemory,
+}
+
+// Why the applier can't apply one more record.
+fn step_of(cause: PrepareCause) -> Step
+    ensures { result ≡ step.LogFull → cause ≡ PrepareCause.LogFull }
+{
+    match cause {
+        PrepareCause::LogFull => Step::LogFull,
+        PrepareCause::OutOfMemory => Step::OutOfMemory,
+    }
+}
+
+// Applies an item that was taken.
+fn apply_item(ready: Ready, item: Numbered, now: Moment) -> Applier
+    ensures items { items_of_records result.records
+        ≡ items_of_records ready.records ++ item ∷ [] }
+    ensures same { IsSameLog ready result }
+{
+    let (applier, _) = ready.apply(item, now);
+    applier
+}
+
+// Takes an item and applies it.
+fn apply_next<R: Wait, K: Watch, H: Hold>(
+    rt: &R,
+    gate: &Gate,
+    taker: &mut Taker,
+    ready: Ready,
+    clock: &K,
+    hold: &mut H,
+) -> (Applier, Step)
+    requires gate { taker.old.gate ≡ gate.now }
+    requires applied { items_of_records ready.records ≡ taker.old.taken }
+    ensures gate { taker.new.gate ≡ taker.old.gate }
+    ensures ended { taker.new.ended ≡ taker.old.ended }
+    ensures applied { items_of_records result.0.records ≡ taker.new.taken }
+    ensures same { IsSameLog ready result.0 }
+    ensures not_full { result.1 ≢ step.LogFull }
+{
+    match taker.take(rt, gate) {
+        Some(item) => {
+            hold.pass(Point::BeforeApply);
+            (apply_item(ready, item, clock.read()), Step::Applied)
+        }
+        None => (ready.give_back(), Step::Empty),
+    }
+}
+
+// Takes an item and applies it, where there is room for it.
+fn turn<R: Wait, K: Watch, H: Hold>(
+    rt: &R,
+    gate: &Gate,
+    taker: &mut Taker,
+    applier: Applier,
+    clock: &K,
+    hold: &mut H,
+) -> (Applier, Step)
+    requires gate { taker.old.gate ≡ gate.now }
+    requires applied { items_of_records applier.records ≡ taker.old.taken }
+    ensures gate { taker.new.gate ≡ taker.old.gate }
+    ensures ended { taker.new.ended ≡ taker.old.ended }
+    ensures applied { items_of_records result.0.records ≡ taker.new.taken }
+    ensures same { IsSameLog applier result.0 }
+    ensures log_full { result.1 ≡ step.LogFull
+        → length result.0.records ≡ result.0.limit }
+{
+    match applier.prepare() {
+        Ok(ready) => apply_next(rt, gate, taker, ready, clock, hold),
+        Err(PrepareFault { cause, applier }) => (applier, step_of(cause)),
+    }
+}
+
+// Goes on to the clock's moment, and publishes a board where it would show something new. Returns
+// whether the board shows what the applier does: memory for it may be missing.
+fn show<R: Wait>(
+    rt: &R,
+    alloc: Global,
+    applier: &mut Applier,
+    now: Moment,
+    is_shown: bool,
+    board: &Mutex<Board>,
+) -> bool
+    ensures records { applier.new.records ≡ applier.old.records }
+    ensures same { IsSameLog applier.old applier.new }
+{
+    if is_shown && now.0 <= applier.moment().0 {
+        return true;
+    }
+    applier.advance(now);
+    match Board::of(alloc, applier) {
+        Ok(next) => {
+            publish(&mut board.lock(rt), next);
+            true
+        }
+        Err(_) => false,
+    }
+}
+
+/// Takes and applies the items of the queue, one by one, each at the clock's moment or the
+/// applier's, whichever is later. While the queue is empty it goes on to the clock's moment, and
+/// publishes a board where something was applied or a second has passed.
+///
+/// It stops where the queue is empty and the gate is closing, and where the log is full: the queue
+/// fills up then. Where memory is missing, it tries again. It waits for items, and for other
+/// threads at the queue and at the board. Own rule.
+pub fn run_applier<R: Wait + Clock, K: Watch, H: Hold + Drop>(
+    rt: &R,
+    alloc: Global,
+    gate: &Gate,
+    taker: Taker,
+    applier: Applier,
+    clock: &K,
+    mut hold: H,
+    board: &Mutex<Board>,
+) -> (Taker, Applier, ApplierStop)
+    requires gate { taker.gate ≡ gate.now }
+    requires applied { items_of_records applier.records ≡ taker.taken }
+
+    // What is in the log is what was taken, each item once and in that order.
+    ensures applied { items_of_records result.1.records ≡ result.0.taken }
+    ensures gate { result.0.gate ≡ gate.now }
+    ensures ended { result.0.ended ≡ taker.ended }
+    ensures same { IsSameLog applier result.1 }
+
+    ensures closing { result.2 ≡ Closing → IsSome result.0.known_close }
+    ensures log_full { result.2 ≡ LogFull → length result.1.records ≡ result.1.limit }
+{
+    let mut taker = taker;
+    let mut applier = applier;
+    let mut is_shown = false;
+    for _ in rt.forever() {
+        let (next, step) = turn(rt, gate, &mut taker, applier, clock, &mut hold);
+        applier = next;
+        match step {
+            Step::Applied => is_shown = false,
+            Step::LogFull => return (taker, applier, ApplierStop::LogFull),
+            Step::OutOfMemory => pause(rt),
+            Step::Empty => {
+                if taker.look(gate).is_some() {
+                    return (taker, applier, ApplierStop::Closing);
+                }
+                is_shown = show(rt, alloc, &mut applier, clock.read(), is_shown, board);
+                // No call waits for the queue to have an item, so the applier looks every 2 ms.
+                pause(rt);
+            }
+        }
+    }
+    unreachable!()
+}

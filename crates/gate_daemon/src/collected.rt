@@ -1,0 +1,50 @@
+ghost use Rattle.std.specs.Prelude.{◌≡◌, ◌≤◌, ◌<◌, ◌++◌, [], ◌∷◌, length, map, IfOk};
+ghost use Rattle.gate_daemon.specs.Numbers.{reported_numbers};
+ghost use Rattle.gate_daemon.specs.inner.Collecting.{queued_by_each};
+
+use crate::worker::WorkerEnd;
+use gate_queue::Ended;
+use gate_reader::Report;
+use std::alloc::{AllocError, Global};
+
+/// What joined workers returned: their clients, and the reports of each with its number. The items
+/// that were queued for each client are those that its reports answer with Queued.
+#[derive(Drop)]
+pub(crate) struct Collected {
+    pub(crate) ended: Vec<Ended>,
+    pub(crate) reports: Vec<(u32, Vec<Report>)>,
+    pub(crate) ghost reported: { queued_by_each ended.items
+        ≡ map (λ pair. (pair.0, reported_numbers pair.1.items)) reports.items },
+}
+
+impl Collected {
+    /// Room for so many workers' ends. It is taken before a thread starts, so that collecting them
+    /// needs no memory.
+    pub(crate) fn with_room(alloc: Global, count: usize) -> Result<Collected, AllocError>
+        ensures none { IfOk result (λ collected. collected.ended.items ≡ []) }
+        ensures room { IfOk result (λ collected.
+            (count ≤ collected.ended.cap) × (count ≤ collected.reports.cap)) }
+    {
+        let ended = Vec::with_capacity(alloc, count)?;
+        let reports = Vec::with_capacity(alloc, count)?;
+        Ok(Collected { ended, reports })
+    }
+
+    /// Adds a worker's end.
+    pub(crate) fn add(&mut self, end: WorkerEnd)
+        requires room { (length self.old.ended.items < self.old.ended.cap)
+            × (length self.old.ended.items < self.old.reports.cap) }
+        ensures ended { self.new.ended.items ≡ self.old.ended.items ++ end.ended ∷ [] }
+        ensures room { (self.new.ended.cap ≡ self.old.ended.cap)
+            × (self.new.reports.cap ≡ self.old.reports.cap) }
+    {
+        let WorkerEnd {
+            ended,
+            reports,
+            cause: _,
+        } = end;
+        let number = ended.number();
+        self.ended.push_reserved(ended);
+        self.reports.push_reserved((number, reports));
+    }
+}

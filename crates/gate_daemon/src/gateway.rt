@@ -1,0 +1,242 @@
+ghost use Rattle.std.specs.Prelude.{All, ◌≡◌, ◌+◌, ◌≤◌, [], ◌∷◌, length, map, vec_len, IfOk, None};
+ghost use Rattle.gate_core.specs.Merge.{IsClient, of_client};
+ghost use Rattle.gate_queue.specs.Client.{client_state};
+ghost use Rattle.gate_queue.specs.Opening.{new_clients};
+ghost use Rattle.gate_queue.specs.DrainedClose.{items_of_records};
+ghost use Rattle.gate_applier.specs.Applier.{opened};
+ghost use Rattle.gate_daemon.specs.Numbers.{item_numbers, numbers_after, reported_numbers};
+ghost use Rattle.gate_daemon.specs.Applying.{IsSameLog};
+ghost use Rattle.gate_daemon.specs.inner.Collecting.{numbers_of, AreOf};
+
+use crate::collected::Collected;
+use crate::connections::{Connections, Hold, Wake, Watch};
+use crate::settings::{Config, WorkerLimits};
+use crate::starting::{Post, Unstarted};
+use crate::threads::run_scoped;
+use gate_applier::{Applier, OpenCause};
+use gate_core::OpenFault;
+use gate_model::{Moment, ObjectTable};
+use gate_pages::Board;
+use gate_queue::{Client, CloseAllFault, Closed, Closer, Gate, Taker, close_all, open};
+use gate_reader::Report;
+use std::alloc::{AllocError, Global};
+use std::fmt;
+use std::sync::{Mutex, Wait};
+use std::thread::Threads;
+use std::time::Clock;
+use thiserror::Error;
+
+/// All that was queued, applied; and what each client was answered.
+#[derive(Drop)]
+pub struct Finished {
+    pub closed: Closed,
+    /// Each client's number with the reports of its connections: the operator's first, and then
+    /// those of the workers of packets, from 1.
+    pub reports: Vec<(u32, Vec<Report>)>,
+}
+
+/// Why a gateway did not finish. Own rules.
+#[derive(Drop, Error)]
+pub enum GatewayFault {
+    /// The queue can't be opened.
+    #[error("{0}")]
+    Queue(OpenFault),
+    /// The applier can't be opened.
+    #[error("{0}")]
+    Applier(OpenCause),
+    /// There is no memory for the first board, or for what the workers return.
+    #[error("out of memory")]
+    OutOfMemory,
+    /// A thread can't be started. Those that were have ended; what was queued and not applied is
+    /// lost.
+    #[error("a thread can't be started")]
+    Spawn,
+    /// Not all that was queued could be applied. With these parts and the gate, `close_all` can be
+    /// called again.
+    #[error("{fault}")]
+    CloseAll {
+        gate: Gate,
+        fault: CloseAllFault,
+        reports: Vec<(u32, Vec<Report>)>,
+    },
+}
+
+impl fmt::Debug for GatewayFault {
+    fn fmt<W: fmt::Write>(&self, f: &mut fmt::Formatter<W>) -> fmt::Result {
+        match self {
+            GatewayFault::Queue(fault) => f.debug_tuple("Queue").field(fault).finish(),
+            GatewayFault::Applier(cause) => f.debug_tuple("Applier").field(cause).finish(),
+            GatewayFault::OutOfMemory => f.write_str("OutOfMemory"),
+            GatewayFault::Spawn => f.write_str("Spawn"),
+            GatewayFault::CloseAll { fault, .. } => {
+                f.debug_tuple("CloseAll").field(fault).finish()
+            }
+        }
+    }
+}
+
+impl From<AllocError> for GatewayFault {
+    fn from(_: AllocError) -> GatewayFault {
+        GatewayFault::OutOfMemory
+    }
+}
+
+// Opens a gate for so many workers and the operator, whose client is the last.
+fn open_gate(
+    alloc: Global,
+    workers: u32,
+    capacity: usize,
+) -> Result<(Gate, Taker, Closer, Vec<Client>, Client), GatewayFault>
+    requires { workers ≤ 63 }
+    ensures gate { IfOk result (λ opened. opened.0.limits.clients ≡ workers + 1) }
+    ensures taker { IfOk result (λ opened. (opened.1.gate ≡ opened.0) × (opened.1.ended ≡ [])
+        × (opened.1.taken ≡ [])) }
+    ensures closer { IfOk result (λ opened. opened.2.cell ≡ opened.0.cell) }
+    ensures clients { IfOk result (λ opened. opened.3.items ≡ new_clients opened.0 workers) }
+    ensures count { IfOk result (λ opened. length opened.3.items ≡ workers) }
+    ensures last { IfOk result (λ opened.
+        opened.4 ≡ client_state opened.0 (workers + 1) [] None) }
+{
+    match open(alloc, workers + 1, capacity) {
+        Ok((gate, taker, closer, mut clients)) => match clients.pop() {
+            Some(last) => Ok((gate, taker, closer, clients, last)),
+            None => unreachable!(),
+        },
+        Err(fault) => Err(GatewayFault::Queue(fault)),
+    }
+}
+
+// Opens an applier.
+fn open_applier(
+    alloc: Global,
+    table: ObjectTable,
+    moment: Moment,
+    limit: u32,
+) -> Result<Applier, GatewayFault>
+    ensures { IfOk result (λ applier. applier ≡ opened table moment limit) }
+{
+    match Applier::open(alloc, table, moment, limit) {
+        Ok(applier) => Ok(applier),
+        Err(fault) => Err(GatewayFault::Applier(fault.cause)),
+    }
+}
+
+// Drains the gate, once all clients are collected.
+fn finish<R: Wait>(
+    rt: &R,
+    gate: Gate,
+    workers: u32,
+    taker: Taker,
+    applier: Applier,
+    collected: Collected,
+    now: Moment,
+) -> Result<Finished, GatewayFault>
+    requires workers { workers ≤ 63 }
+    requires gate { gate.limits.clients ≡ workers + 1 }
+    requires taker { (taker.gate ≡ gate) × (taker.ended ≡ [])
+        × (items_of_records applier.records ≡ taker.taken) }
+    requires all { numbers_of collected.ended.items ≡ (workers + 1) ∷ numbers_after 0 workers }
+    requires gates { AreOf gate collected.ended.items }
+    ensures clients { IfOk result (λ finished. map (λ pair. pair.0) finished.reports.items
+        ≡ (workers + 1) ∷ numbers_after 0 workers) }
+    ensures answered { IfOk result (λ finished. let log = items_of_records (
+        finished.closed.applier.records) in
+        map (λ pair. item_numbers (of_client pair.0 log)) finished.reports.items
+        ≡ map (λ pair. reported_numbers pair.1.items) finished.reports.items) }
+    ensures items { IfOk result (λ finished. All (λ item. IsClient (workers + 1) item.client)
+        (items_of_records finished.closed.applier.records)) }
+    ensures same { IfOk result (λ finished. IsSameLog applier finished.closed.applier) }
+{
+    let Collected { ended, reports } = collected;
+    match close_all(rt, &gate, taker, ended, applier, now) {
+        Ok(closed) => Ok(Finished { closed, reports }),
+        Err(fault) => Err(GatewayFault::CloseAll {
+            gate,
+            fault,
+            reports,
+        }),
+    }
+}
+
+/// Runs a gateway until it is closed: a thread for each worker of packets, one for the operator's
+/// lines, one that applies and one that serves pages, around one queue. `posts` has the connections
+/// and the hold of each worker of packets. Client 1 is the first of them, and the operator is the
+/// last client.
+///
+/// Once the operator's worker has ended, the workers of packets are woken where it closed the gate,
+/// and joined; the gate is closed where nobody has; the applier is joined, the pages end with a
+/// board that is marked closing, and what is left in the queue is applied. A close or a board for
+/// which memory is missing is tried again.
+///
+/// It fails where the queue or the applier can't be opened, where memory is missing at the start,
+/// where a thread can't be started (all others are ended then as above), and where `close_all`
+/// fails. It waits for all of its threads. Own rule.
+pub fn run_gateway<
+    R: Threads + Wait + Clock + Sync,
+    C: Connections + Send + Drop,
+    H: Hold + Send + Drop,
+    K: Watch + Sync,
+    W: Wake + Sync,
+>(
+    rt: &R,
+    alloc: Global,
+    config: Config,
+    posts: Vec<Post<C, H>>,
+    operator: Post<C, H>,
+    pages: C,
+    clock: &K,
+    hold: H,
+    wake: &W,
+) -> Result<Finished, GatewayFault>
+    requires workers { config.workers ≤ 63 }
+    requires posts { vec_len posts ≡ config.workers }
+
+    // Every client was joined.
+    ensures clients { IfOk result (λ finished. map (λ pair. pair.0) finished.reports.items
+        ≡ (config.workers + 1) ∷ numbers_after 0 config.workers) }
+    // The log holds for each client the items that its reports answer with Queued, in that order.
+    ensures answered { IfOk result (λ finished. let log = items_of_records (
+        finished.closed.applier.records) in
+        map (λ pair. item_numbers (of_client pair.0 log)) finished.reports.items
+        ≡ map (λ pair. reported_numbers pair.1.items) finished.reports.items) }
+    // It holds no others.
+    ensures items { IfOk result (λ finished. All
+        (λ item. IsClient (config.workers + 1) item.client)
+        (items_of_records finished.closed.applier.records)) }
+    // State and pages are what these records mean for the objects of the configuration.
+    ensures table { IfOk result (λ finished. finished.closed.applier.table ≡ config.table) }
+    ensures limit { IfOk result (λ finished. finished.closed.applier.limit ≡ config.limit) }
+{
+    let Config {
+        workers,
+        capacity,
+        limit,
+        worker,
+        table,
+    } = config;
+    let (gate, taker, closer, clients, last) = open_gate(alloc, workers, capacity)?;
+    let applier = open_applier(alloc, table, clock.read(), limit)?;
+    let collected = Collected::with_room(alloc, workers as usize + 1)?;
+    let board = Mutex::new(Board::of(alloc, &applier)?);
+    match run_scoped(
+        rt,
+        alloc,
+        &gate,
+        (taker, applier, closer),
+        clients,
+        posts,
+        (last, operator),
+        pages,
+        clock,
+        hold,
+        &board,
+        wake,
+        worker,
+        collected,
+    ) {
+        Ok((taker, applier, collected)) => {
+            finish(rt, gate, workers, taker, applier, collected, clock.read())
+        }
+        Err(Unstarted) => Err(GatewayFault::Spawn),
+    }
+}

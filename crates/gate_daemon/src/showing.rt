@@ -1,0 +1,61 @@
+ghost use Rattle.std.specs.Prelude.{◌≡◌};
+
+use crate::connections::Connections;
+use crate::pausing::pause;
+use gate_pages::{Board, status_page};
+use gate_reader::Sink;
+use std::alloc::{AllocError, Global};
+use std::sync::{Mutex, Wait};
+use std::time::Clock;
+
+// The status page of the board, and whether it is the last one: that of a closing board.
+fn page_of<R: Wait>(
+    rt: &R,
+    alloc: Global,
+    board: &Mutex<Board>,
+) -> Result<(Vec<u8>, bool), AllocError> {
+    let shown = board.lock(rt);
+    let page = status_page(alloc, &shown)?;
+    Ok((page, shown.closes_at().is_some()))
+}
+
+// The same, once there is memory for it.
+fn next_page<R: Wait + Clock>(rt: &R, alloc: Global, board: &Mutex<Board>) -> (Vec<u8>, bool) {
+    for _ in rt.forever() {
+        if let Ok(page) = page_of(rt, alloc, board) {
+            return page;
+        }
+        pause(rt);
+    }
+    unreachable!()
+}
+
+// Writes a page. A reader that has gone doesn't get it.
+fn write_page<O: Sink + Drop>(mut output: O, page: &[u8]) {
+    if output.put(page).is_ok() {
+        let _ = output.deliver();
+    }
+}
+
+/// Writes the status page to each connection. It ends after the first connection that is served
+/// with a closing board, and where there are no more connections.
+///
+/// What a connection sends isn't read. Where memory for a page is missing, it tries again. It waits
+/// for the connections and for the board. Own rule.
+pub fn run_pages<R: Wait + Clock, C: Connections + Drop>(
+    rt: &R,
+    alloc: Global,
+    mut connections: C,
+    board: &Mutex<Board>,
+) {
+    for _ in rt.forever() {
+        let Some((_input, output)) = connections.next() else {
+            return;
+        };
+        let (page, is_last) = next_page(rt, alloc, board);
+        write_page(output, &page);
+        if is_last {
+            return;
+        }
+    }
+}

@@ -1,0 +1,145 @@
+ghost use Rattle.std.specs.Prelude.{◌≡◌, [], IfOk, IfSome};
+ghost use Rattle.gate_queue.specs.DrainedClose.{items_of_records};
+ghost use Rattle.gate_daemon.specs.Applying.{IsSameLog};
+
+use crate::applying::{ApplierStop, run_applier};
+use crate::connections::{Connections, Hold, Watch};
+use crate::settings::WorkerLimits;
+use crate::worker::{WorkerEnd, run_worker};
+use gate_applier::Applier;
+use gate_pages::Board;
+use gate_queue::{Client, Closer, Gate, Taker};
+use std::alloc::Global;
+use std::snapshot::Snapshot;
+use std::sync::{Mutex, Wait};
+use std::thread::{Promise, PromisedHandle, Scope, Threads};
+use std::time::Clock;
+
+/// A worker's connections, and its hold.
+#[derive(Drop)]
+pub struct Post<C, H> {
+    pub connections: C,
+    pub hold: H,
+}
+
+// No thread could be started.
+#[derive(Clone, Copy, Debug, PartialEq, Eq)]
+pub(crate) struct Unstarted;
+
+// The worker returns the client of this number, of this gate.
+#[derive(Clone, Copy)]
+pub(crate) struct EndsClient<'a> {
+    gate: &'a Gate,
+    number: u32,
+}
+
+impl<'a> Promise<WorkerEnd> for EndsClient<'a> {
+    ghost use Rattle.std.specs.Prelude.{◌≡◌};
+
+    ghost kept_by = { λ promise end.
+        (end.ended.gate ≡ promise.gate.now) × (end.ended.number ≡ promise.number) };
+}
+
+// Starts a worker.
+pub(crate) fn start_worker<
+    's,
+    E,
+    R: Threads + Wait + Sync,
+    C: Connections + Send + Drop + 's,
+    K: Watch + Sync,
+    H: Hold + Send + Drop + 's,
+>(
+    rt: &'s R,
+    alloc: Global,
+    scope: &Scope<'s, E>,
+    gate: &'s Gate,
+    client: Client,
+    closer: Option<Closer>,
+    post: Post<C, H>,
+    clock: &'s K,
+    limits: WorkerLimits,
+) -> Result<PromisedHandle<WorkerEnd, EndsClient<'s>>, Unstarted>
+    requires gate { client.gate ≡ gate.now }
+    requires closer { IfSome closer (λ c. c.cell ≡ gate.now.cell) }
+    requires fresh { client.queued ≡ [] }
+    ensures { IfOk result (λ handle. (handle.promise.gate.now ≡ gate.now)
+        × (handle.promise.number ≡ client.number)) }
+{
+    let number = client.number();
+    let Post { connections, hold } = post;
+    let run = move || -> WorkerEnd
+        requires { (client.gate ≡ gate.now) × IfSome closer (λ c. c.cell ≡ gate.now.cell)
+            × (client.queued ≡ []) }
+        ensures { (result.ended.gate ≡ gate.entry.now) × (result.ended.number ≡ client.number) }
+    {
+        run_worker(
+            rt,
+            alloc,
+            gate,
+            client,
+            closer,
+            connections,
+            clock,
+            hold,
+            limits,
+        )
+    };
+    match scope.spawn_with(EndsClient { gate, number }, run) {
+        Ok(handle) => Ok(handle),
+        Err(_) => Err(Unstarted),
+    }
+}
+
+// The applier returns what it took from this gate, in a log of the same table, opening and limit,
+// and took no client in.
+#[derive(Drop)]
+pub(crate) struct KeepsLog<'a> {
+    gate: &'a Gate,
+    before: Snapshot<Applier>,
+}
+
+impl<'a> Promise<(Taker, Applier, ApplierStop)> for KeepsLog<'a> {
+    ghost use Rattle.std.specs.Prelude.{◌≡◌, []};
+    ghost use Rattle.gate_queue.specs.DrainedClose.{items_of_records};
+    ghost use Rattle.gate_daemon.specs.Applying.{IsSameLog};
+
+    ghost kept_by = { λ promise end. (end.0.gate ≡ promise.gate.now) × (end.0.ended ≡ [])
+        × (items_of_records end.1.records ≡ end.0.taken) × IsSameLog promise.before.value end.1 };
+}
+
+// Starts the applier.
+pub(crate) fn start_applier<
+    's,
+    E,
+    R: Threads + Wait + Clock + Sync,
+    K: Watch + Sync,
+    A: Hold + Send + Drop + 's,
+>(
+    rt: &'s R,
+    alloc: Global,
+    scope: &Scope<'s, E>,
+    gate: &'s Gate,
+    taker: Taker,
+    applier: Applier,
+    clock: &'s K,
+    hold: A,
+    board: &'s Mutex<Board>,
+) -> Result<PromisedHandle<(Taker, Applier, ApplierStop), KeepsLog<'s>>, Unstarted>
+    requires gate { taker.gate ≡ gate.now }
+    requires applied { items_of_records applier.records ≡ taker.taken }
+    requires fresh { taker.ended ≡ [] }
+    ensures { IfOk result (λ handle. (handle.promise.gate.now ≡ gate.now)
+        × (handle.promise.before.value ≡ applier)) }
+{
+    let before = Snapshot::of(&applier);
+    let run = move || -> (Taker, Applier, ApplierStop)
+        requires { (taker.gate ≡ gate.now) × (items_of_records applier.records ≡ taker.taken)
+            × (taker.ended ≡ []) }
+        ensures { (result.0.gate ≡ gate.entry.now) × (result.0.ended ≡ [])
+            × (items_of_records result.1.records ≡ result.0.taken) × IsSameLog applier result.1 }
+    { run_applier(rt, alloc, gate, taker, applier, clock, hold, board) };
+    match scope.spawn_with(KeepsLog { gate, before }, run) {
+        Ok(handle) => Ok(handle),
+        Err(_) => Err(Unstarted),
+    }
+}

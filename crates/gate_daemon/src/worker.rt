@@ -1,0 +1,201 @@
+ghost use Rattle.std.specs.Prelude.{◌≡◌, [], length, IfSome, IsSome, vec_len};
+ghost use Rattle.gate_daemon.specs.declared.worker.Cause.TheVariants.{Closing, TooManySessions};
+ghost use Rattle.gate_daemon.specs.Numbers.{item_numbers, numbers_after, reported_numbers};
+ghost use Rattle.gate_daemon.specs.inner.Serving.{Extends};
+
+use crate::connections::{Connections, Hold, Point, SharedClock, Watch};
+use crate::settings::WorkerLimits;
+use gate_queue::{Client, Closer, Ended, Gate, GateClient, GateOperator};
+use gate_reader::{Report, Sink, Source, serve_lines, serve_packets};
+use std::alloc::Global;
+use std::sync::Wait;
+
+/// Why a worker ended. They are tested in this order. Own rules.
+#[derive(Clone, Copy, Debug, PartialEq, Eq)]
+pub enum Cause {
+    /// The gate is closing.
+    Closing,
+    /// As many connections as allowed were served.
+    TooManySessions,
+    /// There is no room for the report of one more connection.
+    OutOfMemory,
+    /// There are no more connections.
+    NoMoreConnections,
+}
+
+/// What a worker returns: its client, which has ended, the report of each connection, and why it
+/// ended. The items that were queued for the client are those that the reports answer with Queued,
+/// numbered 1, 2 and so on.
+#[derive(Drop)]
+pub struct WorkerEnd {
+    pub ended: Ended,
+    pub reports: Vec<Report>,
+    pub cause: Cause,
+    pub ghost reported: { item_numbers ended.queued ≡ reported_numbers reports.items },
+    pub ghost counted: { reported_numbers reports.items ≡ numbers_after 0 (length ended.queued) },
+}
+
+// Serves one connection of a sender.
+fn serve_sender<R: Wait, I: Source + Drop, O: Sink + Drop, K: Watch>(
+    rt: &R,
+    alloc: Global,
+    gate: &Gate,
+    client: Client,
+    connection: (I, O),
+    clock: &K,
+    limits: WorkerLimits,
+) -> (Client, Report)
+    requires gate { client.gate ≡ gate.now }
+    ensures gate { result.0.gate ≡ client.gate }
+    ensures number { result.0.number ≡ client.number }
+    ensures queued { Extends client.queued result.0.queued result.1.answers }
+{
+    let (mut input, mut output) = connection;
+    let mut lent = GateClient::new(rt, gate, client);
+    let report = serve_packets(
+        alloc,
+        &mut input,
+        &mut output,
+        &mut SharedClock(clock),
+        &mut lent,
+        limits.session,
+        limits.greatest_age,
+    );
+    (lent.into_parts(), report)
+}
+
+// Serves one connection of an operator.
+fn serve_operator<R: Wait, I: Source + Drop, O: Sink + Drop, K: Watch>(
+    rt: &R,
+    alloc: Global,
+    gate: &Gate,
+    client: Client,
+    closer: Closer,
+    connection: (I, O),
+    clock: &K,
+    limits: WorkerLimits,
+) -> (Client, Closer, Report)
+    requires gate { client.gate ≡ gate.now }
+    requires closer { closer.cell ≡ gate.now.cell }
+    ensures gate { result.0.gate ≡ client.gate }
+    ensures closer { result.1.cell ≡ gate.now.cell }
+    ensures number { result.0.number ≡ client.number }
+    ensures queued { Extends client.queued result.0.queued result.2.answers }
+{
+    let (mut input, mut output) = connection;
+    let mut lent = GateOperator::new(rt, alloc, gate, client, closer);
+    let report = serve_lines(
+        alloc,
+        &mut input,
+        &mut output,
+        &mut SharedClock(clock),
+        &mut lent,
+        limits.session,
+    );
+    let (client, closer) = lent.into_parts();
+    (client, closer, report)
+}
+
+// Serves one connection: lines where there is a closer, else packets.
+fn serve_either<R: Wait, I: Source + Drop, O: Sink + Drop, K: Watch>(
+    rt: &R,
+    alloc: Global,
+    gate: &Gate,
+    client: Client,
+    closer: Option<Closer>,
+    connection: (I, O),
+    clock: &K,
+    limits: WorkerLimits,
+) -> (Client, Option<Closer>, Report)
+    requires gate { client.gate ≡ gate.now }
+    requires closer { IfSome closer (λ c. c.cell ≡ gate.now.cell) }
+    ensures gate { result.0.gate ≡ client.gate }
+    ensures closer { IfSome result.1 (λ c. c.cell ≡ gate.now.cell) }
+    ensures number { result.0.number ≡ client.number }
+    ensures queued { Extends client.queued result.0.queued result.2.answers }
+{
+    match closer {
+        Some(closer) => {
+            let (client, closer, report) = serve_operator(
+                rt, alloc, gate, client, closer, connection, clock, limits,
+            );
+            (client, Some(closer), report)
+        }
+        None => {
+            let (client, report) = serve_sender(rt, alloc, gate, client, connection, clock, limits);
+            (client, None, report)
+        }
+    }
+}
+
+// A worker's end, with what its type keeps.
+fn end_of(client: Client, reports: Vec<Report>, cause: Cause) -> WorkerEnd
+    requires reported { item_numbers client.queued ≡ reported_numbers reports.items }
+    requires counted { reported_numbers reports.items ≡ numbers_after 0 (length client.queued) }
+    ensures { (result.ended ≡ client) × (result.reports ≡ reports) × (result.cause ≡ cause) }
+{
+    WorkerEnd {
+        ended: client.end(),
+        reports,
+        cause,
+    }
+}
+
+/// Serves connections one after another: as lines of an operator where there is a closer, else as
+/// packets of a sender.
+///
+/// It ends where the gate is closing, where `limits.sessions` connections were served, where memory
+/// for one more report is missing, and where there are no more connections. It looks at the gate
+/// before it asks for a connection and after it; a connection that comes after the close isn't
+/// served. It waits for the connections, and for other threads at the queue. Own rule.
+pub fn run_worker<R: Wait, C: Connections + Drop, K: Watch, H: Hold + Drop>(
+    rt: &R,
+    alloc: Global,
+    gate: &Gate,
+    client: Client,
+    closer: Option<Closer>,
+    mut connections: C,
+    clock: &K,
+    mut hold: H,
+    limits: WorkerLimits,
+) -> WorkerEnd
+    requires gate { client.gate ≡ gate.now }
+    requires closer { IfSome closer (λ c. c.cell ≡ gate.now.cell) }
+    requires fresh { client.queued ≡ [] }
+    ensures gate { result.ended.gate ≡ gate.now }
+    ensures number { result.ended.number ≡ client.number }
+
+    ensures closing { result.cause ≡ Closing → IsSome result.ended.known_close }
+    ensures too_many { result.cause ≡ TooManySessions
+        → vec_len result.reports ≡ limits.sessions }
+{
+    let mut client = client;
+    let mut closer = closer;
+    let mut reports = Vec::new(alloc);
+    for _ in rt.forever() {
+        if client.look(gate).is_some() {
+            return end_of(client, reports, Cause::Closing);
+        }
+        if reports.len() == limits.sessions as usize {
+            return end_of(client, reports, Cause::TooManySessions);
+        }
+        if reports.reserve(1).is_err() {
+            return end_of(client, reports, Cause::OutOfMemory);
+        }
+        let Some(connection) = connections.next() else {
+            return end_of(client, reports, Cause::NoMoreConnections);
+        };
+        if client.look(gate).is_some() {
+            return end_of(client, reports, Cause::Closing);
+        }
+        hold.pass(Point::Session);
+        let (served, kept, report) = serve_either(
+            rt, alloc, gate, client, closer, connection, clock, limits,
+        );
+        client = served;
+        closer = kept;
+        reports.push_reserved(report);
+        hold.pass(Point::Answered);
+    }
+    unreachable!()
+}
