@@ -12,7 +12,6 @@ mod program;
 mod reporting;
 mod serving;
 
-pub use configuring::read_file;
 pub use fault::{ProgramFault, ServeFault};
-pub use program::run_program;
+pub use program::{run_program, run_serve};
 pub use serving::serve;

@@ -1,8 +1,12 @@
+ghost use Rattle.std.specs.Prelude.{◌≡◌, ◌⊎◌, IfErr};
+ghost use Rattle.gate_program.specs.inner.Serving.{IsBindEnd};
+
 use crate::fault::ServeFault;
 use gate_config::Address;
 use std::net::{Net, SocketAddr, TcpListener, TcpStream};
 
-/// A listener with the address that it is bound to: where port 0 was asked for, the system chose one.
+/// A listener with the address that it is bound to. Where a configuration has port 0, the system
+/// chose the port.
 #[derive(Drop)]
 pub(crate) struct Bound {
     pub(crate) listener: TcpListener,
@@ -20,7 +24,9 @@ pub(crate) struct Listeners {
 fn bind<R: Net<Listener = TcpListener, Stream = TcpStream>>(
     rt: &R,
     address: Address,
-) -> Result<Bound, ServeFault> {
+) -> Result<Bound, ServeFault>
+    ensures { IfErr result (IsBindEnd (λ text. text ≡ address.text)) }
+{
     let Ok(listener) = TcpListener::bind(rt, address.socket) else {
         return Err(ServeFault::Bind(address.text));
     };
@@ -39,7 +45,10 @@ pub(crate) fn listen<R: Net<Listener = TcpListener, Stream = TcpStream>>(
     agents: Address,
     operators: Address,
     pages: Address,
-) -> Result<Listeners, ServeFault> {
+) -> Result<Listeners, ServeFault>
+    ensures { IfErr result (IsBindEnd (λ text.
+        (text ≡ agents.text) ⊎ (text ≡ operators.text) ⊎ (text ≡ pages.text))) }
+{
     let agents = bind(rt, agents)?;
     let operators = bind(rt, operators)?;
     let pages = bind(rt, pages)?;
