@@ -1,0 +1,117 @@
+ghost use Rattle.std.specs.Prelude.{◌≡◌, IfSome};
+
+use gate_daemon::{Config, Connections, Hold, Point, Wake, Watch, WorkerLimits};
+use gate_model::{Moment, ObjectTable};
+use gate_packet::{PACKET_SIZE, Packet, encode};
+use gate_reader::SessionLimits;
+use std::alloc::Global;
+use std::sync::atomic::{AtomicU64, Ordering};
+use std::thread;
+
+// How often a held thread looks whether it may go on.
+const TURNS: u64 = 1_000_000;
+
+// Some connections, each of which sends these bytes. What is written to them is dropped.
+#[derive(Drop)]
+pub struct Sending<'a> {
+    pub alloc: Global,
+    pub connections: u32,
+    pub bytes: &'a [u8],
+}
+
+impl<'a> Connections for Sending<'a> {
+    type In = &'a [u8];
+
+    type Out = Vec<u8>;
+
+    fn next(&mut self) -> Option<(&'a [u8], Vec<u8>)> {
+        if self.connections == 0 {
+            return None;
+        }
+        self.connections -= 1;
+        Some((self.bytes, Vec::new(self.alloc)))
+    }
+}
+
+// Counts how often a thread comes to one point, and keeps it at another until a count is reached.
+#[derive(Clone, Copy)]
+pub struct Keeping<'a> {
+    pub counted: Point,
+    pub count: &'a AtomicU64,
+    pub kept: Point,
+    pub other: &'a AtomicU64,
+    pub least: u64,
+    // How often the count was not reached in time.
+    pub late: &'a AtomicU64,
+}
+
+impl<'a> Hold for Keeping<'a> {
+    fn pass(&mut self, point: Point) {
+        if point == self.counted {
+            self.count.fetch_add(1, Ordering::SeqCst);
+        }
+        if point == self.kept && !is_reached(self.other, self.least) {
+            self.late.fetch_add(1, Ordering::SeqCst);
+        }
+    }
+}
+
+fn is_reached(count: &AtomicU64, least: u64) -> bool {
+    for _ in 0..TURNS {
+        if count.load(Ordering::SeqCst) >= least {
+            return true;
+        }
+        thread::yield_now();
+    }
+    false
+}
+
+pub struct AlwaysAt(pub u32);
+
+impl Watch for AlwaysAt {
+    fn read(&self) -> Moment {
+        Moment(self.0)
+    }
+}
+
+pub struct NoWake;
+
+impl Wake for NoWake {
+    fn agents(&self) {}
+
+    fn pages(&self) {}
+}
+
+pub fn limits() -> WorkerLimits {
+    WorkerLimits {
+        sessions: 10,
+        session: SessionLimits {
+            items: 10,
+            reads: 100,
+        },
+        greatest_age: 0,
+    }
+}
+
+// No objects, so each record is refused as one of an object that isn't known.
+pub fn config(alloc: Global, workers: u32) -> Option<Config>
+    ensures { IfSome result (λ config. config.workers ≡ workers) }
+{
+    let table = ObjectTable::build(alloc, Vec::new(alloc)).ok()?;
+    Some(Config {
+        workers,
+        capacity: 16,
+        limit: 1000,
+        worker: limits(),
+        table,
+    })
+}
+
+// A packet that a sender may send.
+pub fn packet(alloc: Global) -> Option<[u8; PACKET_SIZE]> {
+    let host = b"web1".to_vec(alloc).ok()?;
+    let service = b"HTTP".to_vec(alloc).ok()?;
+    let output = b"timeout".to_vec(alloc).ok()?;
+    let packet = Packet::new(Moment(1000), 2, host, service, output).ok()?;
+    Some(encode(&packet))
+}

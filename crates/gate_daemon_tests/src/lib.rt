@@ -1,0 +1,11 @@
+//! Tests of the daemon on threads: what no contract states of it, and its happy path.
+#![tactic(auto)]
+
+#[cfg(test)]
+mod fakes;
+#[cfg(test)]
+mod gateways;
+#[cfg(test)]
+mod sockets;
+#[cfg(test)]
+mod workers;

@@ -1,0 +1,118 @@
+use crate::fakes::{config, packet};
+use gate_daemon::{
+    Accepted, Finished, GatewayFault, Knocks, NoHold, Post, SystemWatch, run_gateway,
+};
+use std::alloc::Global;
+use std::io::{Read, Write};
+use std::net::{Net, Shutdown, SocketAddr, TcpListener, TcpStream};
+use std::sync::Wait;
+use std::thread::Threads;
+use std::time::Clock;
+use std::{io, thread};
+
+// Sends these bytes, and reads as many as it wants of the answer.
+fn tell<R: Net<Listener = TcpListener, Stream = TcpStream>>(
+    rt: &R,
+    address: SocketAddr,
+    bytes: &[u8],
+    answer: &mut [u8],
+) -> io::Result<()> {
+    let mut stream = TcpStream::connect(rt, address)?;
+    stream.write_all(bytes)?;
+    stream.shutdown(Shutdown::Write)?;
+    stream.read_exact(answer)
+}
+
+// A sender's packet, an operator's comment, a page, and then the shutdown.
+fn talk<R: Net<Listener = TcpListener, Stream = TcpStream>>(
+    rt: &R,
+    addresses: (SocketAddr, SocketAddr, SocketAddr),
+    bytes: &[u8],
+) -> io::Result<bool> {
+    let mut greeting = [0; 132];
+    tell(rt, addresses.0, bytes, &mut greeting)?;
+    let mut queued = [0; 9];
+    tell(
+        rt,
+        addresses.1,
+        b"[1] ADD_HOST_COMMENT;web1;0;ann;hi\n",
+        &mut queued,
+    )?;
+    let mut page = [0; 7];
+    tell(rt, addresses.2, b"", &mut page)?;
+    let mut closing = [0; 8];
+    tell(rt, addresses.1, b"[1] SHUTDOWN_PROGRAM\n", &mut closing)?;
+    Ok(&queued == b"queued 1\n" && &page == b"status " && &closing == b"closing\n")
+}
+
+fn records(finished: Result<Finished, GatewayFault>) -> usize {
+    match finished {
+        Ok(finished) => finished.closed.applier.records().len(),
+        Err(_) => 0,
+    }
+}
+
+// Runs a gateway on these listeners.
+fn serve<R: Net<Listener = TcpListener, Stream = TcpStream> + Threads + Wait + Clock + Sync>(
+    rt: &R,
+    alloc: Global,
+    agents: &TcpListener,
+    operators: &TcpListener,
+    pages: &TcpListener,
+    knocks: &Knocks<'_, R>,
+) -> Option<usize> {
+    let config = config(alloc, 1)?;
+    let mut posts = Vec::with_capacity(alloc, 1).ok()?;
+    posts.push_reserved(Post {
+        connections: Accepted::of_senders(rt, agents),
+        hold: NoHold,
+    });
+    Some(records(run_gateway(
+        rt,
+        alloc,
+        config,
+        posts,
+        Post {
+            connections: Accepted::of_operators(rt, operators),
+            hold: NoHold,
+        },
+        Accepted::of_senders(rt, pages),
+        &SystemWatch { rt },
+        NoHold,
+        knocks,
+    )))
+}
+
+fn is_served<R: Net<Listener = TcpListener, Stream = TcpStream> + Threads + Wait + Clock + Sync>(
+    rt: &R,
+    alloc: Global,
+) -> io::Result<Option<bool>> {
+    let Some(bytes) = packet(alloc) else {
+        return Ok(None);
+    };
+    let agents = TcpListener::bind(rt, "127.0.0.1:0")?;
+    let operators = TcpListener::bind(rt, "127.0.0.1:0")?;
+    let pages = TcpListener::bind(rt, "127.0.0.1:0")?;
+    let addresses = (
+        agents.local_addr()?,
+        operators.local_addr()?,
+        pages.local_addr()?,
+    );
+    let knocks = Knocks {
+        rt,
+        agents: addresses.0,
+        pages: addresses.2,
+        workers: 1,
+    };
+    let (told, records) = thread::join(
+        rt,
+        || talk(rt, addresses, &bytes),
+        || serve(rt, alloc, &agents, &operators, &pages, &knocks),
+    );
+    Ok(Some(told? && records == Some(2)))
+}
+
+#[test]
+fn a_daemon_serves_real_sockets(rt: HostRuntime) {
+    assert!(rt; matches!(is_served(&rt, rt.alloc()), Ok(Some(true))));
+}
