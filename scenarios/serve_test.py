@@ -196,6 +196,18 @@ def play_a_burst(program, folder):
     check("a burst is logged whole", output.split("\n", 1)[0], f"log {count}")
 
 
+def play_a_full_log(program, folder):
+    """An item that finds the log full is reported, after the log page."""
+    daemon = Daemon(program, folder, CONFIGURATION.replace("limit = 100000", "limit = 1"))
+    send(daemon, [(b"web1", b"HTTP", 1, b"first"), (b"web1", b"HTTP", 2, b"second")])
+    check("a shutdown with a full log is answered", ask(daemon, "[1] SHUTDOWN_PROGRAM"), ["closing"])
+    status, output, errors = daemon.end()
+    check("the status of a full log", status, 3)
+    check("a full log is reported", errors, "nscagate: LogFull\n")
+    check("a full log is printed", without_moments(output),
+          "log 1\n[T] 1:1 PROCESS_SERVICE_CHECK_RESULT;web1;HTTP;1;first -> Accepted\n")
+
+
 def refuse(program, folder, configuration, expected_status, expected_error):
     path = os.path.join(folder, "faulty.toml")
     with open(path, "w", encoding="latin-1") as file:
@@ -210,6 +222,7 @@ def main():
     with tempfile.TemporaryDirectory() as folder:
         play_a_day(program, folder)
         play_a_burst(program, folder)
+        play_a_full_log(program, folder)
         refuse(program, folder, "colour = 1\n", 2, "config: UnknownKey colour")
         refuse(program, folder, "capacity = 0\n", 2, "config: BadValue capacity")
         with socket.create_server(("127.0.0.1", 0)) as other:
