@@ -56,11 +56,15 @@ abbrev pub IsAddress : List ℕ → Type 0
 IsAddress address =
     (text : List ℕ) × (config : Config) × Configures text config × IsAddressIn config address
 
+-- the line of an address
+abbrev pub address_line : List ℕ → SocketAddr → List ℕ
+address_line name address = name ++ socket_text address ++ codes "\n"
+
 -- the addresses that are printed
 abbrev pub address_lines : SocketAddr → SocketAddr → SocketAddr → List ℕ
 address_lines agents operators pages =
-    codes "agents " ++ socket_text agents ++ codes "\noperators " ++ socket_text operators
-    ++ codes "\npages " ++ socket_text pages ++ codes "\n"
+    address_line (codes "agents ") agents ++ address_line (codes "operators ") operators
+    ++ address_line (codes "pages ") pages
 
 -- the records hold for each client the items that its reports answer with Queued, in that order, and no others.
 -- Client 2 is the operator, client 1 the worker of packets

@@ -1,6 +1,6 @@
-ghost use Rattle.std.specs.Prelude.{◌≡◌, ◌⊎◌, IfOk, IfErr, OnOk, string_bytes};
+ghost use Rattle.std.specs.Prelude.{◌≡◌, ◌⊎◌, ◌++◌, IfOk, IfErr, OnOk};
 ghost use Rattle.gate_reader.specs.Sink.{sink_state, Delivers};
-ghost use Rattle.gate_program.specs.Serve.{address_lines};
+ghost use Rattle.gate_program.specs.Serve.{address_line, address_lines};
 ghost use Rattle.gate_program.specs.inner.Serving.{IsWriteEnd};
 
 use crate::fault::ServeFault;
@@ -34,15 +34,34 @@ pub(crate) fn print<W: Sink>(output: &mut W, text: &[u8]) -> Result<(), ServeFau
     }
 }
 
+// Appends a line of a name and an address.
+fn push_line(
+    alloc: Global,
+    out: &mut Vec<u8>,
+    name: &[u8],
+    address: SocketAddr,
+) -> Result<(), AllocError>
+    ensures { OnOk result (out.new.items ≡ out.old.items ++ address_line name.now address) }
+{
+    let shown = address.to_string(alloc)?;
+    out.extend_from_slice(name)?;
+    out.extend_from_slice(shown.as_bytes())?;
+    out.extend_from_slice(b"\n")
+}
+
 fn address_lines(
     alloc: Global,
     agents: SocketAddr,
     operators: SocketAddr,
     pages: SocketAddr,
-) -> Result<String, AllocError>
-    ensures { IfOk result (λ text. string_bytes text ≡ address_lines agents operators pages) }
+) -> Result<Vec<u8>, AllocError>
+    ensures { IfOk result (λ text. text.items ≡ address_lines agents operators pages) }
 {
-    format!(in alloc; "agents {agents}\noperators {operators}\npages {pages}\n")
+    let mut text = Vec::new(alloc);
+    push_line(alloc, &mut text, b"agents ", agents)?;
+    push_line(alloc, &mut text, b"operators ", operators)?;
+    push_line(alloc, &mut text, b"pages ", pages)?;
+    Ok(text)
 }
 
 /// Prints the three addresses, each on a line, and flushes.
@@ -60,5 +79,5 @@ pub(crate) fn announce<W: Sink>(
         IfErr result (IsWriteEnd (state output.old) (state output.new)) }
 {
     let text = address_lines(alloc, agents, operators, pages)?;
-    print(output, text.as_bytes())
+    print(output, &text)
 }
