@@ -31,7 +31,7 @@ IsNoDocument text = (document : Members) → ¬ (IsDocument text document)
 -- the text is a document that configures this
 pub record Configures (text : List ℕ) (config : Config) : Type 0 where
   pub not_large : ¬ (1048576 < length text)
-  pub is_document : ¬ (IsNoDocument text)
+  pub is_document : length text ≤ 1048576 → ¬ (IsNoDocument text)
   pub config_of : (document : Members) → IsDocument text document → IsConfigOf document config
 
 -- the fault, which isn't memory, is the first of this text
