@@ -14,6 +14,9 @@ use std::alloc::Global;
 use std::sync::{Mutex, Wait};
 use std::time::Clock;
 
+// Turns of 2 ms: a board is made at most every 50 ms, since it copies all that a page shows.
+const BOARD_TURNS: u32 = 25;
+
 /// Why the applier stopped. Own rules.
 #[derive(Clone, Copy, Debug, PartialEq, Eq)]
 pub enum ApplierStop {
@@ -102,23 +105,19 @@ fn turn<R: Wait, K: Watch, H: Hold>(
     }
 }
 
-// Goes on to the clock's moment, and publishes a board where it would show something new. Returns
-// whether the board shows what the applier does: memory for it may be missing.
-fn show<R: Wait>(
-    rt: &R,
-    alloc: Global,
-    applier: &mut Applier,
-    now: Moment,
-    is_shown: bool,
-    board: &Mutex<Board>,
-) -> bool
-    ensures records { applier.new.records ≡ applier.old.records }
-    ensures same { IsSameLog applier.old applier.new }
-{
-    if is_shown && now.0 <= applier.moment().0 {
-        return true;
-    }
-    applier.advance(now);
+// How the published board stands to what the applier shows.
+#[derive(Clone, Copy)]
+struct Shown {
+    // The board shows every record that was applied.
+    is_complete: bool,
+    // The board's moment, or that of the opening.
+    moment: Moment,
+    // In how many more turns without an item the next board may be made.
+    turns_left: u32,
+}
+
+// Publishes a board of what the applier shows, if there is memory for it.
+fn try_show<R: Wait>(rt: &R, alloc: Global, applier: &Applier, board: &Mutex<Board>) -> bool {
     match Board::of(alloc, applier) {
         Ok(next) => {
             publish(&mut board.lock(rt), next);
@@ -128,13 +127,71 @@ fn show<R: Wait>(
     }
 }
 
+// The same, where that is the first board of a second.
+fn show_busy<R: Wait>(
+    rt: &R,
+    alloc: Global,
+    applier: &Applier,
+    shown: Shown,
+    board: &Mutex<Board>,
+) -> Shown {
+    let moment = applier.moment();
+    Shown {
+        is_complete: moment.0 > shown.moment.0 && try_show(rt, alloc, applier, board),
+        moment,
+        turns_left: shown.turns_left,
+    }
+}
+
+// Goes on to the clock's moment, and publishes a board where it would show something new and the
+// last one is old enough.
+fn show_idle<R: Wait>(
+    rt: &R,
+    alloc: Global,
+    applier: &mut Applier,
+    now: Moment,
+    shown: Shown,
+    board: &Mutex<Board>,
+) -> Shown
+    ensures records { applier.new.records ≡ applier.old.records }
+    ensures same { IsSameLog applier.old applier.new }
+{
+    if shown.turns_left > 0 {
+        return Shown {
+            turns_left: shown.turns_left - 1,
+            ..shown
+        };
+    }
+    if shown.is_complete && now.0 <= applier.moment().0 {
+        return shown;
+    }
+    applier.advance(now);
+    Shown {
+        is_complete: try_show(rt, alloc, applier, board),
+        moment: applier.moment(),
+        turns_left: BOARD_TURNS,
+    }
+}
+
+// Publishes a board of what the applier shows, once there is memory for it.
+fn show_last<R: Wait + Clock>(rt: &R, alloc: Global, applier: &Applier, board: &Mutex<Board>) {
+    for _ in rt.forever() {
+        if try_show(rt, alloc, applier, board) {
+            return;
+        }
+        pause(rt);
+    }
+    unreachable!()
+}
+
 /// Takes and applies the items of the queue, one by one, each at the clock's moment or the
 /// applier's, whichever is later. While the queue is empty it goes on to the clock's moment, and
-/// publishes a board where something was applied or a second has passed.
+/// publishes a board where something was applied or a second has passed, at most every 50 ms. While
+/// it is never empty a board is published each second.
 ///
-/// It stops where the queue is empty and the gate is closing, and where the log is full: the queue
-/// fills up then. Where memory is missing, it tries again. It waits for items, and for other
-/// threads at the queue and at the board. Own rule.
+/// It stops where the queue is empty and the gate is closing, and where the log is full, once a
+/// board shows all of it: the queue fills up then. Where memory is missing, it tries again. It
+/// waits for items, and for other threads at the queue and at the board. Own rule.
 pub fn run_applier<R: Wait + Clock, K: Watch, H: Hold + Drop>(
     rt: &R,
     alloc: Global,
@@ -159,19 +216,26 @@ pub fn run_applier<R: Wait + Clock, K: Watch, H: Hold + Drop>(
 {
     let mut taker = taker;
     let mut applier = applier;
-    let mut is_shown = false;
+    let mut shown = Shown {
+        is_complete: false,
+        moment: applier.moment(),
+        turns_left: 0,
+    };
     for _ in rt.forever() {
         let (next, step) = turn(rt, gate, &mut taker, applier, clock, &mut hold);
         applier = next;
         match step {
-            Step::Applied => is_shown = false,
-            Step::LogFull => return (taker, applier, ApplierStop::LogFull),
+            Step::Applied => shown = show_busy(rt, alloc, &applier, shown, board),
+            Step::LogFull => {
+                show_last(rt, alloc, &applier, board);
+                return (taker, applier, ApplierStop::LogFull);
+            }
             Step::OutOfMemory => pause(rt),
             Step::Empty => {
                 if taker.look(gate).is_some() {
                     return (taker, applier, ApplierStop::Closing);
                 }
-                is_shown = show(rt, alloc, &mut applier, clock.read(), is_shown, board);
+                shown = show_idle(rt, alloc, &mut applier, clock.read(), shown, board);
                 // No call waits for the queue to have an item, so the applier looks every 2 ms.
                 pause(rt);
             }

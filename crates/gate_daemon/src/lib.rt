@@ -13,6 +13,7 @@ mod showing;
 mod sockets;
 mod starting;
 mod threads;
+mod waiting;
 mod worker;
 
 pub use applying::{ApplierStop, run_applier};

@@ -4,7 +4,15 @@ use std::time::{Clock, Duration};
 // Short enough that a result is applied within 5 ms, and long enough that an idle daemon is idle.
 const PAUSE_MILLIS: u64 = 2;
 
+// A tenth of the applier's pause: a queue that it has emptied isn't left empty for long.
+const SHORT_PAUSE_MICROS: u64 = 200;
+
 /// Waits before what can't be done yet is tried again.
 pub(crate) fn pause<R: Clock>(rt: &R) {
     thread::sleep(rt, Duration::from_millis(PAUSE_MILLIS));
+}
+
+/// Waits before a full queue is tried again.
+pub(crate) fn pause_shortly<R: Clock>(rt: &R) {
+    thread::sleep(rt, Duration::from_micros(SHORT_PAUSE_MICROS));
 }

@@ -4,7 +4,8 @@ use gate_reader::SessionLimits;
 /// How much a worker serves.
 #[derive(Clone, Copy, Debug, PartialEq, Eq)]
 pub struct WorkerLimits {
-    /// How many connections a worker serves at most: 1 to 1,000,000.
+    /// How many connections a worker serves at most: 1 to 1,000,000. A gateway's operator is served
+    /// without such a limit.
     pub sessions: u32,
     /// How many packets or lines each of them may have answered, 1 to 1,000,000, and how many reads
     /// it may take, 1 to 4,294,967,295.
@@ -22,7 +23,7 @@ pub struct Config {
     pub capacity: usize,
     /// How many records the log takes: 1 to 1,000,000.
     pub limit: u32,
-    /// What each worker serves, the operator's too.
+    /// What each worker serves, the operator's too, but for its number of connections.
     pub worker: WorkerLimits,
     /// The monitored objects.
     pub table: ObjectTable,

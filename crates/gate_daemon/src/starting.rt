@@ -44,7 +44,7 @@ impl<'a> Promise<WorkerEnd> for EndsClient<'a> {
 pub(crate) fn start_worker<
     's,
     E,
-    R: Threads + Wait + Sync,
+    R: Threads + Wait + Clock + Sync,
     C: Connections + Send + Drop + 's,
     K: Watch + Sync,
     H: Hold + Send + Drop + 's,

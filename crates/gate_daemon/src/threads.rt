@@ -54,6 +54,15 @@ fn has_closed(end: &WorkerEnd) -> bool {
             .any(|report| report.stop == Stop::Shutdown)
 }
 
+// What the operator's worker serves: were its connections limited, nobody could shut the daemon
+// down once they are used up.
+fn unlimited(limits: WorkerLimits) -> WorkerLimits {
+    WorkerLimits {
+        sessions: u32::MAX,
+        ..limits
+    }
+}
+
 // Starts the operator's worker, and joins it. True: it was started.
 fn run_operator<
     's,
@@ -90,6 +99,7 @@ fn run_operator<
 {
     let mut collected = collected;
     let spare = Some(closer.another());
+    let limits = unlimited(limits);
     match start_worker(rt, alloc, scope, gate, client, spare, post, clock, limits) {
         Ok(handle) => {
             let end = handle.join(rt);

@@ -5,10 +5,12 @@ ghost use Rattle.gate_daemon.specs.inner.Serving.{Extends};
 
 use crate::connections::{Connections, Hold, Point, SharedClock, Watch};
 use crate::settings::WorkerLimits;
-use gate_queue::{Client, Closer, Ended, Gate, GateClient, GateOperator};
+use crate::waiting::WaitingClient;
+use gate_queue::{Client, Closer, Ended, Gate, GateOperator};
 use gate_reader::{Report, Sink, Source, serve_lines, serve_packets};
 use std::alloc::Global;
 use std::sync::Wait;
+use std::time::Clock;
 
 /// Why a worker ended. They are tested in this order. Own rules.
 #[derive(Clone, Copy, Debug, PartialEq, Eq)]
@@ -36,7 +38,7 @@ pub struct WorkerEnd {
 }
 
 // Serves one connection of a sender.
-fn serve_sender<R: Wait, I: Source + Drop, O: Sink + Drop, K: Watch>(
+fn serve_sender<R: Wait + Clock, I: Source + Drop, O: Sink + Drop, K: Watch>(
     rt: &R,
     alloc: Global,
     gate: &Gate,
@@ -51,7 +53,7 @@ fn serve_sender<R: Wait, I: Source + Drop, O: Sink + Drop, K: Watch>(
     ensures queued { Extends client.queued result.0.queued result.1.answers }
 {
     let (mut input, mut output) = connection;
-    let mut lent = GateClient::new(rt, gate, client);
+    let mut lent = WaitingClient::new(rt, gate, client);
     let report = serve_packets(
         alloc,
         &mut input,
@@ -97,7 +99,7 @@ fn serve_operator<R: Wait, I: Source + Drop, O: Sink + Drop, K: Watch>(
 }
 
 // Serves one connection: lines where there is a closer, else packets.
-fn serve_either<R: Wait, I: Source + Drop, O: Sink + Drop, K: Watch>(
+fn serve_either<R: Wait + Clock, I: Source + Drop, O: Sink + Drop, K: Watch>(
     rt: &R,
     alloc: Global,
     gate: &Gate,
@@ -147,8 +149,9 @@ fn end_of(client: Client, reports: Vec<Report>, cause: Cause) -> WorkerEnd
 /// It ends where the gate is closing, where `limits.sessions` connections were served, where memory
 /// for one more report is missing, and where there are no more connections. It looks at the gate
 /// before it asks for a connection and after it; a connection that comes after the close isn't
-/// served. It waits for the connections, and for other threads at the queue. Own rule.
-pub fn run_worker<R: Wait, C: Connections + Drop, K: Watch, H: Hold + Drop>(
+/// served. A packet for which the queue is full is submitted again for some second; a line is
+/// answered at once. It waits for the connections, and for other threads at the queue. Own rule.
+pub fn run_worker<R: Wait + Clock, C: Connections + Drop, K: Watch, H: Hold + Drop>(
     rt: &R,
     alloc: Global,
     gate: &Gate,

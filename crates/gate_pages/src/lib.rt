@@ -11,4 +11,5 @@ mod rows;
 mod status_lines;
 
 pub use board::{Board, publish, status_page};
+pub use escaping::push_escaped;
 pub use log_lines::{log_page, outcome_name};

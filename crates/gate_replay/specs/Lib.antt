@@ -4,5 +4,4 @@ pub mod Script
 pub mod Fault
 pub mod Gateway
 pub mod Replay
-pub mod Program
 pub mod inner

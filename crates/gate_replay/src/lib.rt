@@ -11,7 +11,6 @@ mod laws;
 mod lines;
 mod player;
 mod printing;
-mod program;
 mod replay;
 mod script;
 mod script_line;
@@ -20,7 +19,6 @@ mod sessions;
 
 pub use fault::ReplayFault;
 pub use laws::replay_laws;
-pub use program::{ProgramFault, run_program};
 pub use replay::{SCRIPT_BYTES, replay_over_world, replay_script, run_replay};
 pub use script::{Script, ScriptFault, Setup, Step, read_script};
 pub use script_line::{ScriptLine, read_script_line};

@@ -1,5 +1,5 @@
 use gate_reader::Sink;
-use gate_replay::{replay_over_world, replay_script, run_program, run_replay};
+use gate_replay::{replay_over_world, replay_script, run_replay};
 use std::alloc::Global;
 use std::io;
 use std::io::{Error, ErrorKind, Read, Write};
@@ -180,34 +180,6 @@ fn ends_unreported<R: Wait>(rt: &R, alloc: Global, script: &[u8], status: u8) ->
     run_replay(rt, alloc, &mut input, &mut output, &mut errors) == status
 }
 
-fn text_of(alloc: Global, words: &[&str]) -> Option<Vec<String>> {
-    let mut texts = Vec::new(alloc);
-    for word in words {
-        texts.push(String::from_str(alloc, word).ok()?).ok()?;
-    }
-    Some(texts)
-}
-
-/// Whether the program with these words ends so, with the script as its input.
-fn runs<R: Wait>(
-    rt: &R,
-    alloc: Global,
-    words: &[&str],
-    status: u8,
-    printed: &[u8],
-    reported: &[u8],
-) -> bool {
-    let Some(words) = text_of(alloc, words) else {
-        return false;
-    };
-    let mut input = SCRIPT;
-    let mut output = Vec::new(alloc);
-    let mut errors = Vec::new(alloc);
-    run_program(rt, alloc, &words, &mut input, &mut output, &mut errors) == status
-        && output.as_slice() == printed
-        && errors.as_slice() == reported
-}
-
 #[test]
 fn a_script_is_replayed(rt: HostRuntime) {
     let mut input = SCRIPT;
@@ -318,24 +290,5 @@ fn errors_that_cannot_be_written_change_no_status(rt: HostRuntime) {
             ends_unreported(&rt, rt.alloc(), script, status),
             "{status}"
         );
-    }
-}
-
-#[test]
-fn only_the_one_word_replay_replays(rt: HostRuntime) {
-    assert!(rt; runs(&rt, rt.alloc(), &["replay"], 0, PRINTED, b""));
-}
-
-#[test]
-fn other_words_are_bad_arguments(rt: HostRuntime) {
-    for words in [
-        [].as_slice(),
-        &["serve"],
-        &["replay", "x"],
-        &["x", "replay"],
-        &["Replay"],
-        &[""],
-    ] {
-        assert!(&rt; runs(&rt, rt.alloc(), words, 2, b"", b"nscagate: bad arguments\n"));
     }
 }

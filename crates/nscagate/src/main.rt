@@ -1,7 +1,8 @@
-//! The program: `nscagate replay` replays the script on standard input.
+//! The program: `nscagate replay` replays the script on standard input, and
+//! `nscagate serve --config PATH` runs the daemon as the file configures it.
 #![tactic(auto)]
 
-use gate_replay::{ProgramFault, run_program};
+use gate_program::{ProgramFault, run_program};
 use std::env;
 use std::io::BufWriter;
 use std::process::ExitCode;
@@ -19,8 +20,15 @@ fn main(rt: HostRuntime) -> ExitCode {
         Ok(words) => match BufWriter::new(rt.alloc(), rt.stdout().lock()) {
             Ok(mut output) => {
                 let mut input = rt.stdin().lock();
-                let status =
-                    run_program(&rt, rt.alloc(), &words, &mut input, &mut output, &mut errors);
+                let alloc = rt.alloc();
+                let status = run_program(
+                    &rt,
+                    alloc,
+                    &words,
+                    &mut input,
+                    &mut output,
+                    &mut errors,
+                );
                 // What a failed write left in the buffer is never written.
                 let _unwritten = output.into_parts();
                 status

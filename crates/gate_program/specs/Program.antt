@@ -1,22 +1,24 @@
--- What the program does with the words after its name, and what it reports where it does nothing.
--- Own rules: the one word `replay` replays a script, and all other words are bad arguments.
-use Rattle.std.specs.Prelude.{◌≡◌, ◌≢◌, ℕ, List, [], ◌∷◌, codes}
+-- What the program reports where its words ask for nothing. Own rules.
+use Rattle.std.specs.Prelude.{◌≡◌, ◌≢◌, ◌⊎◌, ℕ, List, codes}
 use Rattle.std.specs.IoError.{error_kind}
 use Rattle.std.specs.declared.io.Error.{Error}
 use Rattle.std.specs.declared.io.ErrorKind.TheVariants as kind
-use Rattle.gate_replay.specs.declared.program.ProgramFault.{ProgramFault}
-use Rattle.gate_replay.specs.declared.program.ProgramFault.TheVariants.{BadArguments, OutOfMemory}
+use Rattle.gate_words.specs.declared.words.WordsFault.{WordsFault}
+use Rattle.gate_words.specs.declared.words.WordsFault.TheVariants as words
+use Rattle.gate_program.specs.declared.fault.ProgramFault.{ProgramFault}
+use Rattle.gate_program.specs.declared.fault.ProgramFault.TheVariants.{BadArguments, OutOfMemory}
 use Rattle.gate_reader.specs.Sink.{SinkState}
 use Rattle.gate_replay.specs.Replay.{IsReported}
-
--- the words are the one word `replay`
-abbrev pub IsReplayAsked : List (List ℕ) → Type 0
-IsReplayAsked words = words ≡ codes "replay" ∷ []
 
 -- an error on the words is out of memory, or they are bad arguments
 pub record IsWordsFault (error : Error) (fault : ProgramFault) : Type 0 where
   pub memory : error_kind error ≡ kind.OutOfMemory → fault ≡ OutOfMemory
   pub other : error_kind error ≢ kind.OutOfMemory → fault ≡ BadArguments
+
+-- the program's fault for a fault of its words
+abbrev pub program_fault : WordsFault → ProgramFault
+program_fault words.BadArguments = BadArguments
+program_fault words.OutOfMemory = OutOfMemory
 
 -- the exit status of a program that does nothing for this cause
 abbrev pub status_without : ProgramFault → ℕ
@@ -32,3 +34,8 @@ line_on OutOfMemory = codes "nscagate: OutOfMemory\n"
 pub record IsRefusal (fault : ProgramFault) (errors errors_after : SinkState) (status : ℕ) : Type 0 where
   pub status_is : status ≡ status_without fault
   pub reported : IsReported (line_on fault) errors errors_after
+
+-- the program ends so where its words ask for nothing: memory may run out before that is known
+abbrev pub IsRefused : SinkState → SinkState → ℕ → Type 0
+IsRefused errors errors_after status =
+    IsRefusal BadArguments errors errors_after status ⊎ IsRefusal OutOfMemory errors errors_after status

@@ -1,0 +1,4 @@
+pub mod Fault
+pub mod Program
+pub mod Serve
+pub mod inner

@@ -1,0 +1,135 @@
+-- What the daemon prints, how it ends, and what it reports: `ServeEnds`, `IsServeRun`. Of its file and of its
+-- sockets nothing is known: a file holds some bytes, and a socket is bound to some address.
+use Rattle.std.specs.Prelude.{◌≡◌, ◌≢◌, ◌⊎◌, ◌<◌, ◌≤◌, ℕ, List, [], ◌∷◌, ◌++◌, All, codes, length, map, Option, Some, None}
+use Rattle.std.specs.declared.net.socket_addr.SocketAddr.{SocketAddr}
+use Rattle.std.specs.Net.Text.{socket_text}
+use Rattle.toml.specs.Data.{Members}
+use Rattle.gate_model.specs.declared.object.ObjectLine.{ObjectLine}
+use Rattle.gate_model.specs.declared.record.Record.{Record}
+use Rattle.gate_model.specs.Meaning.{outcomes_of}
+use Rattle.gate_core.specs.Merge.{IsClient, of_client}
+use Rattle.gate_queue.specs.DrainedClose.{items_of_records}
+use Rattle.gate_reader.specs.declared.report.Report.{Report}
+use Rattle.gate_reader.specs.Sink.{SinkState, Delivers, FailsOnce}
+use Rattle.gate_replay.specs.Replay.{IsReported}
+use Rattle.gate_pages.specs.LogPage.{log_text}
+use Rattle.gate_daemon.specs.Numbers.{item_numbers, reported_numbers}
+use Rattle.gate_config.specs.declared.config.Config.{Config}
+use Rattle.gate_config.specs.declared.fault.ConfigFault.{ConfigFault}
+use Rattle.gate_config.specs.declared.fault.ConfigFault.TheVariants as config_fault
+use Rattle.gate_config.specs.Check.{IsFirstFault}
+use Rattle.gate_config.specs.Config.{IsDocument, IsConfigOf}
+use Rattle.gate_config.specs.Document.{document_checks}
+use Rattle.gate_program.specs.declared.fault.ServeFault.{ServeFault}
+use Rattle.gate_program.specs.declared.fault.ServeFault.TheVariants as fault
+use Rattle.gate_program.specs.Fault.{text_of, status_at_end, message_of}
+
+-- no document of TOML is this text
+abbrev pub IsNoDocument : List ℕ → Type 0
+IsNoDocument text = (document : Members) → ¬ (IsDocument text document)
+
+-- the text is a document that configures this
+pub record Configures (text : List ℕ) (config : Config) : Type 0 where
+  pub not_large : ¬ (1048576 < length text)
+  pub is_document : length text ≤ 1048576 → ¬ (IsNoDocument text)
+  pub config_of : (document : Members) → IsDocument text document → IsConfigOf document config
+
+-- the fault, which isn't memory, is the first of this text
+pub record IsConfigFault (text : List ℕ) (found : ConfigFault) : Type 0 where
+  pub too_large : 1048576 < length text → found ≡ config_fault.TooLarge
+  pub not_toml : length text ≤ 1048576 → IsNoDocument text → found ≡ config_fault.NotToml
+  pub first : (document : Members) → IsDocument text document → IsFirstFault (document_checks document) found
+  pub not_memory : found ≢ config_fault.OutOfMemory
+
+-- some text has a fault that is reported so
+abbrev pub IsFaulty : List ℕ → Type 0
+IsFaulty reported =
+    (text : List ℕ) × (found : ConfigFault) × IsConfigFault text found × (reported ≡ text_of found)
+
+-- an address of the configuration, as it is written there
+abbrev pub IsAddressIn : Config → List ℕ → Type 0
+IsAddressIn config address =
+    (address ≡ config.agents.text) ⊎ (address ≡ config.operators.text) ⊎ (address ≡ config.pages.text)
+
+-- some text configures a daemon, one of whose addresses this is
+abbrev pub IsAddress : List ℕ → Type 0
+IsAddress address =
+    (text : List ℕ) × (config : Config) × Configures text config × IsAddressIn config address
+
+-- the line of an address
+abbrev pub address_line : List ℕ → SocketAddr → List ℕ
+address_line name address = name ++ socket_text address ++ codes "\n"
+
+-- the addresses that are printed
+abbrev pub address_lines : SocketAddr → SocketAddr → SocketAddr → List ℕ
+address_lines agents operators pages =
+    address_line (codes "agents ") agents ++ address_line (codes "operators ") operators
+    ++ address_line (codes "pages ") pages
+
+-- the records hold for each client the items that its reports answer with Queued, in that order, and no others.
+-- Client 2 is the operator, client 1 the worker of packets
+pub record AreOfClients (records : List Record) (reports : List (ℕ × List Report)) : Type 0 where
+  pub clients : map (λ pair. pair.0) reports ≡ 2 ∷ 1 ∷ []
+  pub answered : map (λ pair. item_numbers (of_client pair.0 (items_of_records records))) reports
+      ≡ map (λ pair. reported_numbers pair.1) reports
+  pub items : All (λ item. IsClient 2 item.client) (items_of_records records)
+
+-- the output grew by the addresses that the daemon is bound to, and then by this
+pub record FollowsAddresses (before after : SinkState) (rest : List ℕ) : Type 0 where
+  pub agents : SocketAddr
+  pub operators : SocketAddr
+  pub pages : SocketAddr
+  pub printed : Delivers before after (address_lines agents operators pages ++ rest)
+
+-- the log page of these records, on these objects
+abbrev pub page_of : List ObjectLine → List Record → List ℕ
+page_of table records = log_text records (outcomes_of table records)
+
+-- a daemon of these objects, whose log has this limit, ran until it was closed: its addresses were printed, and then
+-- the log page of all that was queued
+pub record IsRun (table : List ObjectLine) (limit : ℕ) (before after : SinkState) : Type 0 where
+  pub records : List Record
+  pub reports : List (ℕ × List Report)
+  pub of_clients : AreOfClients records reports
+  pub few : length records ≤ limit
+  pub printed : FollowsAddresses before after (page_of table records)
+
+-- a daemon ran so as some text configures it
+pub record IsServed (before after : SinkState) : Type 0 where
+  pub text : List ℕ
+  pub config : Config
+  pub configured : Configures text config
+  pub run : IsRun config.table config.limits.limit before after
+
+-- the addresses were printed, and then the log page of some records
+abbrev pub IsLogPrinted : SinkState → SinkState → Type 0
+IsLogPrinted before after =
+    (table : List ObjectLine) × (records : List Record) × FollowsAddresses before after (page_of table records)
+
+-- the addresses were printed, and then some text or none
+abbrev pub IsAnnounced : SinkState → SinkState → Type 0
+IsAnnounced before after = (page : List ℕ) × FollowsAddresses before after page
+
+-- what is true of how the output grew, where a daemon ends without a fault or with this one. At OutOfMemory
+-- nothing is claimed
+abbrev pub ServeEnds : SinkState → SinkState → Option ServeFault → Type 0
+ServeEnds before after None = IsServed before after
+ServeEnds before after (Some fault.Unreadable) = after ≡ before
+ServeEnds before after (Some (fault.Config reported)) = IsFaulty reported × (after ≡ before)
+ServeEnds before after (Some (fault.Bind address)) = IsAddress address × (after ≡ before)
+ServeEnds before after (Some fault.LogFull) = IsLogPrinted before after
+ServeEnds before after (Some fault.OutOfMemory) = Unit {0}
+ServeEnds before after (Some fault.Spawn) = IsAnnounced before after
+ServeEnds before after (Some fault.WriteFault) = FailsOnce before after
+
+-- the fault is reported in one line, and without a fault nothing is
+abbrev pub IsFaultReported : Option ServeFault → SinkState → SinkState → Type 0
+IsFaultReported None before after = after ≡ before
+IsFaultReported (Some found) before after = IsReported (message_of found) before after
+
+-- the daemon, with what is known of the output and of the errors before and after it, ends with this status
+pub record IsServeRun (output output_after errors errors_after : SinkState) (status : ℕ) : Type 0 where
+  pub fault : Option ServeFault
+  pub status_is : status ≡ status_at_end fault
+  pub ended : ServeEnds output output_after fault
+  pub reported : IsFaultReported fault errors errors_after

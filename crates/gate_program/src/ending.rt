@@ -1,0 +1,86 @@
+ghost use Rattle.std.specs.Prelude.{◌≡◌, ◌⊎◌, ◌≤◌, length, IfErr, IfOk, IsErr, IsOk, OnOk};
+ghost use Rattle.gate_reader.specs.Sink.{sink_state, Delivers};
+ghost use Rattle.gate_program.specs.Serve.{page_of};
+ghost use Rattle.gate_program.specs.inner.Serving.{IsWriteEnd, IsRunEnd};
+
+use crate::announcing::print;
+use crate::fault::ServeFault;
+use gate_applier::Applier;
+use gate_daemon::{Finished, GatewayFault};
+use gate_pages::log_page;
+use gate_queue::{CloseAllCause, CloseAllFault};
+use gate_reader::Sink;
+use std::alloc::Global;
+
+// Prints the log page, and flushes.
+fn print_log<W: Sink>(alloc: Global, applier: &Applier, output: &mut W) -> Result<(), ServeFault>
+    ensures ok { let state = sink_state W.contents W.pending W.failures in
+        OnOk result (Delivers (state output.old) (state output.new)
+        (page_of applier.now.table applier.now.records)) }
+    ensures few { length applier.now.records ≤ applier.now.limit }
+    ensures err { let state = sink_state W.contents W.pending W.failures in
+        IfErr result (IsWriteEnd (state output.old) (state output.new)) }
+{
+    let page = log_page(alloc, applier.records(), applier.outcomes())?;
+    print(output, &page)
+}
+
+// Why a gateway did not apply all that was queued. A client is missing where its thread is.
+fn fault_of(cause: CloseAllCause) -> ServeFault
+    ensures { (result ≡ ServeFault.LogFull) ⊎ (result ≡ ServeFault.OutOfMemory)
+        ⊎ (result ≡ ServeFault.Spawn) }
+{
+    match cause {
+        CloseAllCause::LogFull => ServeFault::LogFull,
+        CloseAllCause::OutOfMemory => ServeFault::OutOfMemory,
+        CloseAllCause::Missing(_) | CloseAllCause::NotClosing => ServeFault::Spawn,
+    }
+}
+
+// Prints the log page of a gateway that did not apply all.
+fn end_early<W: Sink>(
+    alloc: Global,
+    fault: CloseAllFault,
+    output: &mut W,
+) -> Result<(), ServeFault>
+    ensures failed { IsErr result }
+    ensures err { let state = sink_state W.contents W.pending W.failures in
+        IfErr result (IsRunEnd (state output.old) (state output.new)) }
+{
+    print_log(alloc, &fault.applier, output)?;
+    Err(fault_of(fault.cause))
+}
+
+// The fault of a gateway that has no log.
+fn fault_without_log(fault: GatewayFault) -> ServeFault
+    ensures { (result ≡ ServeFault.OutOfMemory) ⊎ (result ≡ ServeFault.Spawn) }
+{
+    match fault {
+        GatewayFault::Spawn => ServeFault::Spawn,
+        // The queue and the applier take all limits that a configuration may have.
+        _ => ServeFault::OutOfMemory,
+    }
+}
+
+/// Prints the log page of a gateway that has ended, if it has one.
+pub(crate) fn end<W: Sink>(
+    alloc: Global,
+    ran: Result<Finished, GatewayFault>,
+    output: &mut W,
+) -> Result<(), ServeFault>
+    ensures finished { OnOk result (IsOk ran) }
+    ensures printed { let state = sink_state W.contents W.pending W.failures in
+        IfOk ran (λ finished. let applier = finished.closed.applier in
+        OnOk result (Delivers (state output.old) (state output.new)
+        (page_of applier.table applier.records))) }
+    ensures few { IfOk ran (λ finished. let applier = finished.closed.applier in
+        length applier.records ≤ applier.limit) }
+    ensures err { let state = sink_state W.contents W.pending W.failures in
+        IfErr result (IsRunEnd (state output.old) (state output.new)) }
+{
+    match ran {
+        Ok(finished) => print_log(alloc, &finished.closed.applier, output),
+        Err(GatewayFault::CloseAll { fault, .. }) => end_early(alloc, fault, output),
+        Err(fault) => Err(fault_without_log(fault)),
+    }
+}

@@ -1,0 +1,17 @@
+//! The program's two commands: `replay` replays a script, and `serve --config PATH` runs the daemon
+//! as a file configures it, until an operator shuts it down. Each ends with an exit status, and with
+//! one line on standard error where it isn't 0.
+#![tactic(auto)]
+
+mod announcing;
+mod configuring;
+mod ending;
+mod fault;
+mod listening;
+mod program;
+mod reporting;
+mod serving;
+
+pub use fault::{ProgramFault, ServeFault};
+pub use program::{run_program, run_serve};
+pub use serving::serve;

@@ -1,0 +1,60 @@
+ghost use Rattle.std.specs.Prelude.{◌≡◌, ◌⊎◌, IfErr};
+ghost use Rattle.gate_program.specs.inner.Serving.{IsBindEnd};
+
+use crate::fault::ServeFault;
+use gate_config::Address;
+use std::net::{Net, SocketAddr, TcpListener, TcpStream};
+
+/// A listener with the address that it is bound to. Where a configuration has port 0, the system
+/// chose the port.
+#[derive(Drop)]
+pub(crate) struct Bound {
+    pub(crate) listener: TcpListener,
+    pub(crate) address: SocketAddr,
+}
+
+/// The daemon's three listeners.
+#[derive(Drop)]
+pub(crate) struct Listeners {
+    pub(crate) agents: Bound,
+    pub(crate) operators: Bound,
+    pub(crate) pages: Bound,
+}
+
+fn bind<R: Net<Listener = TcpListener, Stream = TcpStream>>(
+    rt: &R,
+    address: Address,
+) -> Result<Bound, ServeFault>
+    ensures { IfErr result (IsBindEnd (λ text. text ≡ address.text)) }
+{
+    let Ok(listener) = TcpListener::bind(rt, address.socket) else {
+        return Err(ServeFault::Bind(address.text));
+    };
+    match listener.local_addr() {
+        Ok(bound) => Ok(Bound {
+            listener,
+            address: bound,
+        }),
+        Err(_) => Err(ServeFault::Bind(address.text)),
+    }
+}
+
+/// Binds the addresses of agents, of operators and of pages, in this order.
+pub(crate) fn listen<R: Net<Listener = TcpListener, Stream = TcpStream>>(
+    rt: &R,
+    agents: Address,
+    operators: Address,
+    pages: Address,
+) -> Result<Listeners, ServeFault>
+    ensures { IfErr result (IsBindEnd (λ text.
+        (text ≡ agents.text) ⊎ (text ≡ operators.text) ⊎ (text ≡ pages.text))) }
+{
+    let agents = bind(rt, agents)?;
+    let operators = bind(rt, operators)?;
+    let pages = bind(rt, pages)?;
+    Ok(Listeners {
+        agents,
+        operators,
+        pages,
+    })
+}

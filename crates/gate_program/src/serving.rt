@@ -1,0 +1,168 @@
+ghost use Rattle.std.specs.Prelude.{◌≡◌, ℕ, List, map, IfOk};
+ghost use Rattle.gate_reader.specs.Sink.{sink_state};
+ghost use Rattle.gate_program.specs.Fault.{fault_in};
+ghost use Rattle.gate_program.specs.Serve.{Configures, ServeEnds, AreOfClients};
+ghost use Rattle.gate_program.specs.inner.Serving.{RunsOn};
+
+use crate::announcing::announce;
+use crate::configuring::configuration;
+use crate::ending::end;
+use crate::fault::ServeFault;
+use crate::listening::{Listeners, listen};
+use gate_config::{Config, Limits};
+use gate_daemon::{
+    Accepted, Finished, GatewayFault, Knocks, NoHold, Post, SystemWatch, WorkerLimits, run_gateway,
+};
+use gate_model::ObjectTable;
+use gate_reader::{SessionLimits, Sink};
+use std::alloc::Global;
+use std::fs::Files;
+use std::net::{Net, TcpListener, TcpStream};
+use std::sync::Wait;
+use std::thread::Threads;
+use std::time::Clock;
+
+// What a gateway of one worker of packets is run with.
+fn gateway_config(limits: Limits, table: ObjectTable) -> gate_daemon::Config
+    ensures workers { result.workers ≡ 1 }
+    ensures capacity { result.capacity ≡ limits.capacity }
+    ensures limit { result.limit ≡ limits.limit }
+    ensures sessions { result.worker.sessions ≡ limits.sessions }
+    ensures items { result.worker.session.items ≡ limits.items }
+    ensures reads { result.worker.session.reads ≡ limits.reads }
+    ensures greatest_age { result.worker.greatest_age ≡ limits.greatest_age }
+    ensures table { result.table ≡ table }
+{
+    gate_daemon::Config {
+        workers: 1,
+        capacity: limits.capacity as usize,
+        limit: limits.limit,
+        worker: WorkerLimits {
+            sessions: limits.sessions,
+            session: SessionLimits {
+                items: limits.items,
+                reads: limits.reads,
+            },
+            greatest_age: limits.greatest_age,
+        },
+        table,
+    }
+}
+
+fn post<C>(connections: C) -> Post<C, NoHold> {
+    Post {
+        connections,
+        hold: NoHold,
+    }
+}
+
+// Runs a gateway on these listeners until it is closed.
+fn run<R: Net<Listener = TcpListener, Stream = TcpStream> + Threads + Wait + Clock + Sync>(
+    rt: &R,
+    alloc: Global,
+    limits: Limits,
+    table: ObjectTable,
+    listeners: &Listeners,
+) -> Result<Finished, GatewayFault>
+    ensures clients { IfOk result (λ finished.
+        AreOfClients finished.closed.applier.records
+        (map (λ pair. (pair.0, pair.1.items)) finished.reports.items)) }
+    ensures table { IfOk result (λ finished. finished.closed.applier.table ≡ table) }
+    ensures limit { IfOk result (λ finished. finished.closed.applier.limit ≡ limits.limit) }
+{
+    let mut posts = Vec::with_capacity(alloc, 1)?;
+    posts.push_reserved(post(Accepted::of_senders(rt, &listeners.agents.listener)));
+    let knocks = Knocks {
+        rt,
+        agents: listeners.agents.address,
+        pages: listeners.pages.address,
+        workers: 1,
+    };
+    run_gateway(
+        rt,
+        alloc,
+        gateway_config(limits, table),
+        posts,
+        post(Accepted::of_operators(rt, &listeners.operators.listener)),
+        Accepted::of_senders(rt, &listeners.pages.listener),
+        &SystemWatch { rt },
+        NoHold,
+        &knocks,
+    )
+}
+
+// Prints the addresses of these listeners, runs a gateway on them and prints its log page.
+fn serve_on<
+    R: Net<Listener = TcpListener, Stream = TcpStream> + Threads + Wait + Clock + Sync,
+    W: Sink,
+>(
+    rt: &R,
+    alloc: Global,
+    limits: Limits,
+    table: ObjectTable,
+    listeners: &Listeners,
+    output: &mut W,
+) -> Result<(), ServeFault>
+    ensures { let state = sink_state W.contents W.pending W.failures in
+        RunsOn table limits.limit (state output.old) (state output.new) (fault_in result) }
+{
+    announce(
+        alloc,
+        listeners.agents.address,
+        listeners.operators.address,
+        listeners.pages.address,
+        output,
+    )?;
+    let ran = run(rt, alloc, limits, table, listeners);
+    end(alloc, ran, output)
+}
+
+// Serves as a configuration says.
+fn serve_config<
+    R: Net<Listener = TcpListener, Stream = TcpStream> + Threads + Wait + Clock + Sync,
+    W: Sink,
+>(
+    rt: &R,
+    alloc: Global,
+    config: Config,
+    output: &mut W,
+) -> Result<(), ServeFault>
+    ensures { let state = sink_state W.contents W.pending W.failures in
+        (text : List ℕ) → Configures text config
+        → ServeEnds (state output.old) (state output.new) (fault_in result) }
+{
+    let Config {
+        agents,
+        operators,
+        pages,
+        limits,
+        table,
+    } = config;
+    let listeners = listen(rt, agents, operators, pages)?;
+    serve_on(rt, alloc, limits, table, &listeners, output)
+}
+
+/// Runs the daemon as the file of this path configures it, with one worker of packets, until an
+/// operator shuts it down: it binds the addresses of agents, operators and pages, in this order, and
+/// prints them as they are bound, each on a line. In the end it prints the log page, also where not
+/// all that was queued could be applied.
+///
+/// Unreadable, Config and Bind come before anything is printed: the file can't be read, it
+/// configures nothing, or an address can't be bound. LogFull is an item that finds the log full.
+/// Spawn is a thread that can't be started. WriteFault is a failed call of `output`, after which no
+/// other is made. OutOfMemory may come instead of any other answer. Own rules.
+pub fn serve<
+    R: Files + Net<Listener = TcpListener, Stream = TcpStream> + Threads + Wait + Clock + Sync,
+    W: Sink,
+>(
+    rt: &R,
+    alloc: Global,
+    path: &str,
+    output: &mut W,
+) -> Result<(), ServeFault>
+    ensures { let state = sink_state W.contents W.pending W.failures in
+        ServeEnds (state output.old) (state output.new) (fault_in result) }
+{
+    let config = configuration(rt, alloc, path)?;
+    serve_config(rt, alloc, config, output)
+}

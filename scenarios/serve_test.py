@@ -1,0 +1,235 @@
+"""Plays a daemon's clients against the program: python3 serve_test.py PROGRAM. Ends with a line 'N passed, M failed'."""
+import os
+import re
+import shutil
+import socket
+import struct
+import subprocess
+import sys
+import tempfile
+import time
+import zlib
+
+CONFIGURATION = """\
+agents = "127.0.0.1:0"
+operators = "127.0.0.1:0"
+pages = "127.0.0.1:0"
+capacity = 256
+greatest_age = 0
+limit = 100000
+
+[[host]]
+name = "web1"
+freshness = 300
+
+[[host.service]]
+name = "HTTP"
+freshness = 300
+"""
+
+PATIENCE = 20.0  # seconds
+passed = 0
+failed = 0
+
+
+def check(what, found, expected):
+    """Counts a test: what was found has to be what is expected."""
+    global passed, failed
+    if found == expected:
+        passed += 1
+    else:
+        failed += 1
+        print(f"{what} ... FAILED: {found!r}, not {expected!r}")
+
+
+class Daemon:
+    """A running `nscagate serve`, and the addresses that it printed."""
+
+    def __init__(self, program, folder, configuration):
+        path = os.path.join(folder, "gateway.toml")
+        with open(path, "w", encoding="latin-1") as file:
+            file.write(configuration)
+        self.process = subprocess.Popen([program, "serve", "--config", path],
+                                        stdout=subprocess.PIPE, stderr=subprocess.PIPE)
+        self.ports = {}
+        for name in ("agents", "operators", "pages"):
+            words = self.process.stdout.readline().decode().split()
+            if len(words) != 2 or words[0] != name:
+                raise SystemExit(f"the daemon printed {words}, no address of its {name}")
+            self.ports[name] = int(words[1].rsplit(":", 1)[1])
+
+    def connect(self, name):
+        connection = socket.create_connection(("127.0.0.1", self.ports[name]), PATIENCE)
+        connection.settimeout(PATIENCE)
+        return connection
+
+    def page(self):
+        with self.connect("pages") as connection:
+            return read_all(connection).decode("latin-1")
+
+    def page_with(self, text):
+        """A status page that has this text, asked for again and again; the last one after too long."""
+        end = time.monotonic() + PATIENCE
+        page = self.page()
+        while text not in page and time.monotonic() < end:
+            page = self.page()
+        return page
+
+    def end(self):
+        """The status and what was printed, once the daemon has ended."""
+        output, errors = self.process.communicate(timeout=PATIENCE)
+        return self.process.returncode, output.decode("latin-1"), errors.decode("latin-1")
+
+
+def read_all(connection):
+    pieces = []
+    while True:
+        piece = connection.recv(65536)
+        if not piece:
+            return b"".join(pieces)
+        pieces.append(piece)
+
+
+def read_exactly(connection, count):
+    found = b""
+    while len(found) < count:
+        piece = connection.recv(count - len(found))
+        if not piece:
+            return found
+        found += piece
+    return found
+
+
+def packet(timestamp, host, service, code, output):
+    """A data packet of 4304 bytes, as the sender's own structure has it."""
+    fields = struct.pack(">hxxIIh64s128s4096sxx", 3, 0, timestamp, code, host, service, output)
+    return fields[:4] + struct.pack(">I", zlib.crc32(fields)) + fields[8:]
+
+
+def send(daemon, packets, rest=b""):
+    """Sends packets on one connection, after its greeting, and some bytes behind them."""
+    with daemon.connect("agents") as connection:
+        greeting = read_exactly(connection, 132)
+        check("the greeting's first 128 bytes are zeros", greeting[:128], bytes(128))
+        moment = struct.unpack(">I", greeting[128:])[0]
+        check("the greeting has the time", abs(moment - time.time()) < 5, True)
+        connection.sendall(b"".join(packet(moment, *one) for one in packets) + rest)
+        connection.shutdown(socket.SHUT_WR)
+        check("nothing is written behind the greeting", read_all(connection), b"")
+
+
+def send_result(daemon, folder, line):
+    """Sends a result, HOST, SERVICE, CODE and OUTPUT with tabs between them, by the real client if it is installed."""
+    client = shutil.which("send_nsca") or shutil.which("send_nsca", path="/usr/sbin")
+    if client is None:
+        host, service, code, output = line.split("\t")
+        send(daemon, [(host.encode(), service.encode(), int(code), output.encode())])
+        return "none"
+    configuration = os.path.join(folder, "send_nsca.cfg")
+    with open(configuration, "w", encoding="ascii") as file:
+        file.write("encryption_method=0\n")
+    ran = subprocess.run([client, "-H", "127.0.0.1", "-p", str(daemon.ports["agents"]), "-c", configuration],
+                         input=line + "\n", capture_output=True, text=True, timeout=PATIENCE, check=False)
+    check("send_nsca's status", ran.returncode, 0)
+    return client
+
+
+def ask(daemon, *lines):
+    """What an operator is answered to these lines on one connection."""
+    with daemon.connect("operators") as connection:
+        connection.sendall("".join(line + "\n" for line in lines).encode("latin-1"))
+        connection.shutdown(socket.SHUT_WR)
+        return read_all(connection).decode("latin-1").splitlines()
+
+
+def without_moments(page):
+    """A page with T in the place of each moment of this century."""
+    return re.sub(r"\b[12]\d{9}\b", "T", page)
+
+
+def play_a_day(program, folder):
+    daemon = Daemon(program, folder, CONFIGURATION)
+    check("the first page", without_moments(daemon.page()),
+          "status T\nobject;web1;;PENDING;-;fresh;-;0;\nobject;web1;HTTP;PENDING;-;fresh;-;0;\n")
+    client = send_result(daemon, folder, "web1\tHTTP\t2\ttimeout; 10s")
+    print(f"the sender: {client}")
+    check("a result is shown", without_moments(daemon.page_with("CRITICAL")).splitlines()[2],
+          "object;web1;HTTP;CRITICAL;T;fresh;-;0;timeout; 10s")
+    send(daemon, [(b"web1", b"", 0, b"up"), (b"db1", b"", 1, b"x")], rest=b"cut in mid-packet")
+    check("the next sender is served", "UP" in daemon.page_with(";UP;"), True)
+    now = int(time.time())
+    check("an operator is answered line by line",
+          ask(daemon, f"[{now}] ACKNOWLEDGE_SVC_PROBLEM;web1;HTTP;2;0;0;ann;on it", "no time",
+              f"[{now}] SCHEDULE_HOST_DOWNTIME;web1;{now - 10};{now + 1000};1;0;0;bob;reboot",
+              f"[{now}] DEL_SVC_COMMENT;7"),
+          ["queued 1", "bad NoTime", "queued 2", "queued 3"])
+    check("the page shows all of it", without_moments(daemon.page_with("downtime;1")),
+          "status T\n"
+          "object;web1;;UP;T;fresh;-;1;up\n"
+          "object;web1;HTTP;CRITICAL;T;fresh;sticky;0;timeout; 10s\n"
+          "comment;1;web1;HTTP;ack;0;T;ann;on it\n"
+          "comment;2;web1;;downtime;0;T;bob;reboot\n"
+          "downtime;1;web1;;fixed;0;T;T;0;T;bob;reboot\n")
+    check("a shutdown is answered", ask(daemon, f"[{now}] SHUTDOWN_PROGRAM", f"[{now}] DEL_HOST_COMMENT;2"), ["closing"])
+    status, output, errors = daemon.end()
+    check("the daemon's status", status, 0)
+    check("standard error", errors, "")
+    check("the log page is printed at the end", without_moments(output),
+          "log 6\n"
+          "[T] 1:1 PROCESS_SERVICE_CHECK_RESULT;web1;HTTP;2;timeout; 10s -> Accepted\n"
+          "[T] 1:2 PROCESS_HOST_CHECK_RESULT;web1;0;up -> Accepted\n"
+          "[T] 1:3 PROCESS_HOST_CHECK_RESULT;db1;1;x -> NoSuchHost\n"
+          "[T] 2:1 ACKNOWLEDGE_SVC_PROBLEM;web1;HTTP;2;0;0;ann;on it -> Accepted\n"
+          "[T] 2:2 SCHEDULE_HOST_DOWNTIME;web1;T;T;1;0;0;bob;reboot -> Accepted\n"
+          "[T] 2:3 DEL_SVC_COMMENT;7 -> NoSuchComment\n")
+
+
+def play_a_burst(program, folder):
+    """All packets of one long connection are applied, and none is answered that the queue is full."""
+    count = 5000
+    daemon = Daemon(program, folder, CONFIGURATION)
+    send(daemon, [(b"web1", b"HTTP", number % 4, b"result %d" % number) for number in range(count)])
+    daemon.page_with(f"result {count - 1}\n")
+    ask(daemon, "[1] SHUTDOWN_PROGRAM")
+    status, output, _ = daemon.end()
+    check("the status after a burst", status, 0)
+    check("a burst is logged whole", output.split("\n", 1)[0], f"log {count}")
+
+
+def play_a_full_log(program, folder):
+    """An item that finds the log full is reported, after the log page."""
+    daemon = Daemon(program, folder, CONFIGURATION.replace("limit = 100000", "limit = 1"))
+    send(daemon, [(b"web1", b"HTTP", 1, b"first"), (b"web1", b"HTTP", 2, b"second")])
+    check("a shutdown with a full log is answered", ask(daemon, "[1] SHUTDOWN_PROGRAM"), ["closing"])
+    status, output, errors = daemon.end()
+    check("the status of a full log", status, 3)
+    check("a full log is reported", errors, "nscagate: LogFull\n")
+    check("a full log is printed", without_moments(output),
+          "log 1\n[T] 1:1 PROCESS_SERVICE_CHECK_RESULT;web1;HTTP;1;first -> Accepted\n")
+
+
+def refuse(program, folder, configuration, expected_status, expected_error):
+    path = os.path.join(folder, "faulty.toml")
+    with open(path, "w", encoding="latin-1") as file:
+        file.write(configuration)
+    ran = subprocess.run([program, "serve", "--config", path], capture_output=True, text=True, timeout=PATIENCE, check=False)
+    check(f"a configuration that is refused: {expected_error}", (ran.returncode, ran.stdout, ran.stderr),
+          (expected_status, "", f"nscagate: {expected_error}\n"))
+
+
+def main():
+    program = sys.argv[1]
+    with tempfile.TemporaryDirectory() as folder:
+        play_a_day(program, folder)
+        play_a_burst(program, folder)
+        play_a_full_log(program, folder)
+        refuse(program, folder, "colour = 1\n", 2, "config: UnknownKey colour")
+        refuse(program, folder, "capacity = 0\n", 2, "config: BadValue capacity")
+        with socket.create_server(("127.0.0.1", 0)) as other:
+            address = f"127.0.0.1:{other.getsockname()[1]}"
+            refuse(program, folder, f'agents = "{address}"\n', 4, f"bind {address}")
+    print(f"{passed} passed, {failed} failed")
+    sys.exit(failed > 0)
+
+
+main()
