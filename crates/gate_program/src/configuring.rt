@@ -1,8 +1,8 @@
 ghost use Rattle.std.specs.Prelude.{◌≡◌, ◌++◌, ℕ, List, IfOk, IfErr, codes};
 ghost use Rattle.gate_pages.specs.Escaping.{escaped};
 ghost use Rattle.gate_program.specs.Fault.{text_of, table_text, line_text};
-ghost use Rattle.gate_program.specs.Serve.{Configures, IsConfigFault};
-ghost use Rattle.gate_program.specs.inner.Serving.{IsFileEnd, IsConfigEnd};
+ghost use Rattle.gate_program.specs.Serve.{Configures};
+ghost use Rattle.gate_program.specs.inner.Serving.{IsFileEnd, IsReadFault, IsConfigEnd};
 
 use crate::fault::ServeFault;
 use gate_config::{CONFIG_BYTES, Config, ConfigFault, read_config};
@@ -96,13 +96,16 @@ fn fault_text(alloc: Global, fault: &ConfigFault) -> Result<Vec<u8>, AllocError>
     }
 }
 
-// The fault of a text that configures nothing.
+// The fault of a text that could not be read as a configuration.
 fn config_fault(alloc: Global, fault: &ConfigFault) -> ServeFault
-    ensures { (text : List ℕ) → IsConfigFault text fault.now → IsConfigEnd result }
+    ensures { (text : List ℕ) → IsReadFault text fault.now → IsConfigEnd result }
 {
-    match fault_text(alloc, fault) {
-        Ok(text) => ServeFault::Config(Text::new(text)),
-        Err(_) => ServeFault::OutOfMemory,
+    match fault {
+        ConfigFault::OutOfMemory => ServeFault::OutOfMemory,
+        _ => match fault_text(alloc, fault) {
+            Ok(text) => ServeFault::Config(Text::new(text)),
+            Err(_) => ServeFault::OutOfMemory,
+        },
     }
 }
 
@@ -113,7 +116,6 @@ fn configure(alloc: Global, text: &[u8]) -> Result<Config, ServeFault>
 {
     match read_config(alloc, text) {
         Ok(config) => Ok(config),
-        Err(ConfigFault::OutOfMemory) => Err(ServeFault::OutOfMemory),
         Err(fault) => Err(config_fault(alloc, &fault)),
     }
 }

@@ -38,11 +38,7 @@ fn fault_of(cause: CloseAllCause) -> ServeFault
 }
 
 // Prints the log page of a gateway that did not apply all.
-fn end_early<W: Sink>(
-    alloc: Global,
-    fault: CloseAllFault,
-    output: &mut W,
-) -> Result<(), ServeFault>
+fn end_early<W: Sink>(alloc: Global, fault: CloseAllFault, output: &mut W) -> Result<(), ServeFault>
     ensures failed { IsErr result }
     ensures err { let state = sink_state W.contents W.pending W.failures in
         IfErr result (IsRunEnd (state output.old) (state output.new)) }

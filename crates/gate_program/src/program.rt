@@ -31,13 +31,7 @@ pub fn run_serve<
     R: Files + Net<Listener = TcpListener, Stream = TcpStream> + Threads + Wait + Clock + Sync,
     W: Sink,
     E: Sink,
->(
-    rt: &R,
-    alloc: Global,
-    path: &str,
-    output: &mut W,
-    errors: &mut E,
-) -> u8
+>(rt: &R, alloc: Global, path: &str, output: &mut W, errors: &mut E) -> u8
     ensures { let of_output = sink_state W.contents W.pending W.failures in
         let of_errors = sink_state E.contents E.pending E.failures in
         IsServeRun (of_output output.old) (of_output output.new)
@@ -64,14 +58,7 @@ pub fn run_program<
     R: Read,
     W: Sink,
     E: Sink,
->(
-    rt: &T,
-    alloc: Global,
-    words: &[String],
-    input: &mut R,
-    output: &mut W,
-    errors: &mut E,
-) -> u8
+>(rt: &T, alloc: Global, words: &[String], input: &mut R, output: &mut W, errors: &mut E) -> u8
     ensures replay { asked_of (map string_bytes words.now) ≡ Some replay →
         let of_output = sink_state W.contents W.pending W.failures in
         let of_errors = sink_state E.contents E.pending E.failures in

@@ -121,12 +121,7 @@ fn serve_on<
 fn serve_config<
     R: Net<Listener = TcpListener, Stream = TcpStream> + Threads + Wait + Clock + Sync,
     W: Sink,
->(
-    rt: &R,
-    alloc: Global,
-    config: Config,
-    output: &mut W,
-) -> Result<(), ServeFault>
+>(rt: &R, alloc: Global, config: Config, output: &mut W) -> Result<(), ServeFault>
     ensures { let state = sink_state W.contents W.pending W.failures in
         (text : List ℕ) → Configures text config
         → ServeEnds (state output.old) (state output.new) (fault_in result) }
@@ -154,12 +149,7 @@ fn serve_config<
 pub fn serve<
     R: Files + Net<Listener = TcpListener, Stream = TcpStream> + Threads + Wait + Clock + Sync,
     W: Sink,
->(
-    rt: &R,
-    alloc: Global,
-    path: &str,
-    output: &mut W,
-) -> Result<(), ServeFault>
+>(rt: &R, alloc: Global, path: &str, output: &mut W) -> Result<(), ServeFault>
     ensures { let state = sink_state W.contents W.pending W.failures in
         ServeEnds (state output.old) (state output.new) (fault_in result) }
 {
