@@ -5,6 +5,7 @@ use gate_daemon::{Cause, NoHold, run_worker};
 use gate_queue::{Client, Gate, open};
 use std::alloc::Global;
 use std::sync::Wait;
+use std::time::Clock;
 
 fn one_client(alloc: Global) -> Option<(Gate, Client)>
     ensures gate { IfSome result (λ opened. opened.1.gate ≡ opened.0) }
@@ -15,7 +16,7 @@ fn one_client(alloc: Global) -> Option<(Gate, Client)>
     Some((gate, client))
 }
 
-fn has_no_more_connections<R: Wait>(rt: &R, alloc: Global) -> bool {
+fn has_no_more_connections<R: Wait + Clock>(rt: &R, alloc: Global) -> bool {
     let Some((gate, client)) = one_client(alloc) else {
         return false;
     };
