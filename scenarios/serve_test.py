@@ -185,10 +185,9 @@ def play_a_day(program, folder):
 
 
 def play_a_burst(program, folder):
-    """All packets of one long connection are applied, where the queue has room for them all: whether fewer would do depends on
-    which thread runs when."""
-    count = 5000
-    daemon = Daemon(program, folder, CONFIGURATION.replace("capacity = 256", f"capacity = {count}"))
+    """All packets of one long connection are applied, and none is answered that the queue is full."""
+    count = 40000
+    daemon = Daemon(program, folder, f"items = {count}\n" + CONFIGURATION)
     send(daemon, [(b"web1", b"HTTP", number % 4, b"result %d" % number) for number in range(count)])
     daemon.page_with(f"result {count - 1}\n")
     ask(daemon, "[1] SHUTDOWN_PROGRAM")
@@ -201,12 +200,45 @@ def play_a_full_log(program, folder):
     """An item that finds the log full is reported, after the log page."""
     daemon = Daemon(program, folder, CONFIGURATION.replace("limit = 100000", "limit = 1"))
     send(daemon, [(b"web1", b"HTTP", 1, b"first"), (b"web1", b"HTTP", 2, b"second")])
+    check("the page shows all of a full log", without_moments(daemon.page_with("first")).splitlines()[2],
+          "object;web1;HTTP;WARNING;T;fresh;-;0;first")
     check("a shutdown with a full log is answered", ask(daemon, "[1] SHUTDOWN_PROGRAM"), ["closing"])
     status, output, errors = daemon.end()
     check("the status of a full log", status, 3)
     check("a full log is reported", errors, "nscagate: LogFull\n")
     check("a full log is printed", without_moments(output),
           "log 1\n[T] 1:1 PROCESS_SERVICE_CHECK_RESULT;web1;HTTP;1;first -> Accepted\n")
+
+
+def play_an_old_packet(program, folder):
+    """With the greatest age 0 a packet of 1970 is applied, and each operator's connection is served by itself."""
+    daemon = Daemon(program, folder, CONFIGURATION)
+    with daemon.connect("agents") as connection:
+        read_exactly(connection, 132)
+        connection.sendall(packet(1000, b"web1", b"HTTP", 2, b"timeout; 10s"))
+        connection.shutdown(socket.SHUT_WR)
+        read_all(connection)
+    check("a packet of 1970 is applied", "CRITICAL" in daemon.page_with("CRITICAL"), True)
+    check("a comment is queued", ask(daemon, "[1] ADD_HOST_COMMENT;web1;0;ann;hi"), ["queued 1"])
+    check("the next connection closes", ask(daemon, "[1] SHUTDOWN_PROGRAM"), ["closing"])
+    status, output, _ = daemon.end()
+    check("the status after an old packet", status, 0)
+    check("both are logged", without_moments(output),
+          "log 2\n"
+          "[T] 1:1 PROCESS_SERVICE_CHECK_RESULT;web1;HTTP;2;timeout; 10s -> Accepted\n"
+          "[T] 2:1 ADD_HOST_COMMENT;web1;0;ann;hi -> Accepted\n")
+
+
+def play_few_sessions(program, folder):
+    """Operators are served when the worker of packets has served all of its connections."""
+    daemon = Daemon(program, folder, "sessions = 1\n" + CONFIGURATION)
+    send(daemon, [(b"web1", b"HTTP", 2, b"the only one")])
+    for number in range(1, 4):
+        check("an operator is served again", ask(daemon, "[1] ADD_HOST_COMMENT;web1;0;ann;hi"), [f"queued {number}"])
+    check("the last one closes", ask(daemon, "[1] SHUTDOWN_PROGRAM"), ["closing"])
+    status, output, _ = daemon.end()
+    check("the status after few sessions", status, 0)
+    check("all is logged", output.split("\n", 1)[0], "log 4")
 
 
 def refuse(program, folder, configuration, expected_status, expected_error):
@@ -224,8 +256,14 @@ def main():
         play_a_day(program, folder)
         play_a_burst(program, folder)
         play_a_full_log(program, folder)
+        play_an_old_packet(program, folder)
+        play_few_sessions(program, folder)
         refuse(program, folder, "colour = 1\n", 2, "config: UnknownKey colour")
         refuse(program, folder, "capacity = 0\n", 2, "config: BadValue capacity")
+        missing = subprocess.run([program, "serve", "--config", os.path.join(folder, "nothing.toml")],
+                                 capture_output=True, text=True, timeout=PATIENCE, check=False)
+        check("a configuration that isn't there", (missing.returncode, missing.stdout, missing.stderr),
+              (2, "", "nscagate: config: unreadable\n"))
         with socket.create_server(("127.0.0.1", 0)) as other:
             address = f"127.0.0.1:{other.getsockname()[1]}"
             refuse(program, folder, f'agents = "{address}"\n', 4, f"bind {address}")

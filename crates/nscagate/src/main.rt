@@ -21,14 +21,7 @@ fn main(rt: HostRuntime) -> ExitCode {
             Ok(mut output) => {
                 let mut input = rt.stdin().lock();
                 let alloc = rt.alloc();
-                let status = run_program(
-                    &rt,
-                    alloc,
-                    &words,
-                    &mut input,
-                    &mut output,
-                    &mut errors,
-                );
+                let status = run_program(&rt, alloc, &words, &mut input, &mut output, &mut errors);
                 // What a failed write left in the buffer is never written.
                 let _unwritten = output.into_parts();
                 status
