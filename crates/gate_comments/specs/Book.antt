@@ -22,8 +22,8 @@ abbrev pub with_live : (ℕ → Bool) → List Comment → List Comment
 with_live is_live comments = filter (λ (comment : Comment). outlives is_live comment.source) comments
 
 -- at each id, whatever is answered is what the test says
-abbrev pub Tells : (ℕ → Bool → Type 0) → (ℕ → Bool) → Type 0
-Tells IsAnswer test = (id : ℕ) (answer : Bool) → id ≤ 4294967295 → IsAnswer id answer → answer ≡ test id
+abbrev pub AnswersBy : (ℕ → Bool → Type 0) → (ℕ → Bool) → Type 0
+AnswersBy IsAnswer test = (id : ℕ) (answer : Bool) → id ≤ 4294967295 → IsAnswer id answer → answer ≡ test id
 
 -- a comment with this id
 abbrev pub comment_by : ℕ → ObjectId → Source → Bool → ℕ → Comment

@@ -4,7 +4,7 @@ ghost use Rattle.gate_model.specs.Comments.{number_made};
 ghost use Rattle.gate_model.specs.Meaning.{is_same_kind};
 ghost use Rattle.gate_comments.specs.Search.{index_of_id, IsWithinBinaryDigits, IsAscending};
 ghost use Rattle.gate_comments.specs.Faults.{deletion_by_id};
-ghost use Rattle.gate_comments.specs.Book.{without, with_live, Tells, comment_by};
+ghost use Rattle.gate_comments.specs.Book.{without, with_live, AnswersBy, comment_by};
 ghost use Rattle.gate_comments.specs.Standing.{IsStanding, AddsEvent, AreEnded, AddsEnds, HoldsAfter};
 
 use crate::counts::{Counts, outlives, removes};
@@ -187,10 +187,10 @@ impl CommentBook {
     /// has a comment, nothing is searched. Own rule.
     pub fn drop_downtimes<L: Fn(u32) -> bool>(&mut self, is_live: L)
         requires callable { L.IsAlwaysCallable is_live }
-        requires told { (live : ℕ → Bool) × Tells (L.post is_live) live }
-        ensures stands { (live : ℕ → Bool) → Tells (L.post is_live) live → (ids : List ℕ)
+        requires answered { (live : ℕ → Bool) × AnswersBy (L.post is_live) live }
+        ensures stands { (live : ℕ → Bool) → AnswersBy (L.post is_live) live → (ids : List ℕ)
             → AreEnded live self.old.comments ids → AddsEnds ids self.old self.new }
-        ensures comments { (live : ℕ → Bool) → Tells (L.post is_live) live
+        ensures comments { (live : ℕ → Bool) → AnswersBy (L.post is_live) live
             → self.new.comments ≡ with_live live self.old.comments }
         ensures next_id { self.new.next_id ≡ self.old.next_id }
         ensures room { self.old.room ≤ self.new.room }
@@ -248,7 +248,7 @@ fn retain_others(comments: &mut Vec<Comment>, event: CommentEvent)
 /// Leaves the comments of no downtime entry, and those of live ones.
 fn retain_live<L: Fn(u32) -> bool>(comments: &mut Vec<Comment>, is_live: &L)
     requires { L.IsAlwaysCallable is_live.now }
-    ensures comments { (live : ℕ → Bool) → Tells (L.post is_live.now) live
+    ensures comments { (live : ℕ → Bool) → AnswersBy (L.post is_live.now) live
         → comments.new.items ≡ with_live live comments.old.items }
     ensures len { vec_len comments.new ≤ vec_len comments.old }
     ensures capacity { vec_capacity comments.new ≡ vec_capacity comments.old }

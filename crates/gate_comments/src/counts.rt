@@ -2,7 +2,7 @@ ghost use Rattle.std.specs.Prelude.{◌≡◌, ◌+◌, ◌^◌, ◌<◌, ◌≤
 ghost use Rattle.gate_model.specs.declared.comments.Comment.{Comment};
 ghost use Rattle.gate_model.specs.Comments.{removes};
 ghost use Rattle.gate_model.specs.Meaning.{outlives};
-ghost use Rattle.gate_comments.specs.Book.{without, with_live, Tells};
+ghost use Rattle.gate_comments.specs.Book.{without, with_live, AnswersBy};
 ghost use Rattle.gate_comments.specs.inner.Counts.{bucket_of, is_in_bucket, is_of_downtime, may_remove, IsCounted};
 
 use gate_model::{Comment, CommentEvent, Source};
@@ -96,7 +96,7 @@ impl Counts {
         requires sized { 0 < length comments.now → 16384 ≤ length self.old.places.items }
         requires counted { IsCounted self.old.places.items self.old.downtimes comments.now }
         ensures len { length self.new.places.items ≡ length self.old.places.items }
-        ensures counted { (live : ℕ → Bool) → Tells (L.post is_live.now) live
+        ensures counted { (live : ℕ → Bool) → AnswersBy (L.post is_live.now) live
             → IsCounted self.new.places.items self.new.downtimes (with_live live comments.now) }
     {
         for comment in comments {
@@ -149,7 +149,7 @@ fn is_of_downtime(comment: Comment) -> bool
 /// Whether the comment is of no downtime entry, or of a live one.
 pub fn outlives<L: Fn(u32) -> bool>(comment: Comment, is_live: &L) -> bool
     requires { L.IsAlwaysCallable is_live.now }
-    ensures { (live : ℕ → Bool) → Tells (L.post is_live.now) live
+    ensures { (live : ℕ → Bool) → AnswersBy (L.post is_live.now) live
         → result ≡ outlives live comment.source }
 {
     match comment.source {

@@ -3,8 +3,8 @@ use Rattle.gate_model.specs.Downtime.{is_live_in}
 use Rattle.gate_applier.proofs.BookSteps.{follow-settled}
 use Rattle.gate_applier.proofs.books.Books.settle.Goals as goal
 
-pub drop_downtimes-requires-clause-told : goal.drop_downtimes-requires-clause-told
-drop_downtimes-requires-clause-told c =
+pub drop_downtimes-requires-clause-answered : goal.drop_downtimes-requires-clause-answered
+drop_downtimes-requires-clause-answered c =
     let now = c.drain_gone.new.downtime in
     (is_live_in now.entries now.moment.0, λ id answer within met. search rules)
 
