@@ -2,7 +2,7 @@ ghost use Rattle.std.specs.Prelude.{◌≡◌, ◌++◌, ℕ, List, IfOk, IfErr,
 ghost use Rattle.gate_pages.specs.Escaping.{escaped};
 ghost use Rattle.gate_program.specs.Fault.{text_of, table_text, line_text};
 ghost use Rattle.gate_program.specs.Serve.{Configures};
-ghost use Rattle.gate_program.specs.inner.Serving.{IsFileEnd, IsReadFault, IsConfigEnd};
+ghost use Rattle.gate_program.specs.inner.Serving.{IsFileEnd, IsReadFault, IsTextEnd, IsConfigEnd};
 
 use crate::fault::ServeFault;
 use gate_config::{CONFIG_BYTES, Config, ConfigFault, read_config};
@@ -98,7 +98,7 @@ fn fault_text(alloc: Global, fault: &ConfigFault) -> Result<Vec<u8>, AllocError>
 
 // The fault of a text that could not be read as a configuration.
 fn config_fault(alloc: Global, fault: &ConfigFault) -> ServeFault
-    ensures { (text : List ℕ) → IsReadFault text fault.now → IsConfigEnd result }
+    ensures { (text : List ℕ) → IsReadFault text fault.now → IsTextEnd result }
 {
     match fault {
         ConfigFault::OutOfMemory => ServeFault::OutOfMemory,
@@ -112,7 +112,7 @@ fn config_fault(alloc: Global, fault: &ConfigFault) -> ServeFault
 // Reads the configuration in a text.
 fn configure(alloc: Global, text: &[u8]) -> Result<Config, ServeFault>
     ensures ok { IfOk result (Configures text.now) }
-    ensures err { IfErr result IsConfigEnd }
+    ensures err { IfErr result IsTextEnd }
 {
     match read_config(alloc, text) {
         Ok(config) => Ok(config),

@@ -26,7 +26,13 @@ pub record IsReadFault (text : List ℕ) (found : ConfigFault) : Type 0 where
       → (found ≡ config_fault.NotToml) ⊎ (found ≡ config_fault.OutOfMemory)
   pub first : (document : Members) → IsDocument text document → IsFirstFault (document_checks document) found
 
--- nothing is configured
+-- a text configures nothing
+abbrev pub IsTextEnd : ServeFault → Type 0
+IsTextEnd (Config reported) = IsFaulty reported
+IsTextEnd OutOfMemory = Unit {0}
+IsTextEnd _ = ⊥
+
+-- nothing is configured: the file can't be read, or its text configures nothing
 abbrev pub IsConfigEnd : ServeFault → Type 0
 IsConfigEnd Unreadable = Unit {0}
 IsConfigEnd (Config reported) = IsFaulty reported
