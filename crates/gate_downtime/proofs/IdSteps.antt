@@ -1,10 +1,12 @@
 -- Ascending ids: those of the rows that are live, and those that are left after a removal.
-use Rattle.std.proofs.Common.{◌≡◌, ◌≢◌, ℕ, zero, suc, ◌+◌, ◌-◌, ◌≤◌, ◌<◌, Bool, true, false, cond, not, ◌&&◌, List, [], ◌∷◌, ◌++◌, map, get_or, length, refl, sym, ap, ◌∙◌, subst, arith, inl, inr, eqb, ltb, lit<}
+use Rattle.std.proofs.Common.{◌≡◌, ◌≢◌, ℕ, zero, suc, ◌+◌, ◌-◌, ◌≤◌, ◌<◌, Bool, true, false, cond, not, ◌&&◌, List, [], ◌∷◌, ◌++◌, map, get_or, take, drop, length, refl, sym, ap, ◌∙◌, subst, arith, inl, inr, eqb, ltb, lit<}
 use Rattle.std.specs.Prelude.{Some, None, Contains, filter, slice_get}
-use Rattle.std.specs.List.{position_from, remove}
+use Rattle.std.specs.List.{position_from, remove, copy_within}
+use Rattle.std.proofs.Math.Seq.{paste}
 use Rattle.std.proofs.lemmas.Bool.Decides.{eqb_tells}
 use Rattle.std.proofs.lemmas.Bool.{true≢false, lt-ltb, le-leb}
-use Rattle.std.proofs.lemmas.List.{get_or-map, length-map}
+use Rattle.std.proofs.lemmas.List.{get_or-map, length-map, append_assoc, drop_at, drop-drop, length-take-le, take-append-drop}
+use Rattle.std.proofs.lemmas.List.Edits.{remove-append_right}
 use Rattle.std.proofs.lemmas.List.Elements.{Contains-append_cases, Contains-append_left, Contains-append_right}
 use Rattle.gate_model.proofs.Lists.{position_from-found, position_from-within}
 use Rattle.gate_downtime.specs.declared.row.Row.{Row}
@@ -70,6 +72,28 @@ missing-is id from (first ∷ ids) e = split (same_as id first) (missing-is id (
 
 pub unfound-is : (id : ℕ) (ids : List ℕ) → None ≡ index_among id ids → ids ≡ others id ids
 unfound-is id ids missing = sym (missing-is id 0 ids (sym missing))
+
+-- the ids before the one that goes move up, and the front is one longer
+pub front-moved : (ids : List ℕ) (start index : ℕ) → start + index < length ids → drop (start + 1) (copy_within ids start (start + index) (start + 1)) ≡ remove (drop start ids) index
+front-moved ids start index lt =
+    let count : (start + index) - start ≡ index = omega arith in
+    let next : start + 1 + index ≡ start + suc index = omega arith in
+    let moved : List ℕ = take index (drop start ids) in
+    let after : List ℕ = drop (start + 1 + index) ids in
+    ap (λ n. drop (start + 1) (paste ids (start + 1) (drop start ids) n)) count
+    ∙ ap (drop (start + 1)) (append_assoc (take (start + 1) ids) moved after)
+    ∙ drop_at (take (start + 1) ids) (moved ++ after) (start + 1) (length-take-le (start + 1) ids (omega (arith, lt)))
+    ∙ ap (λ n. moved ++ drop n ids) next ∙ ap (λ rest. moved ++ rest) (sym (drop-drop (suc index) start ids))
+
+-- the ids after the one that goes move down
+pub back-moved : (ids : List ℕ) (start index : ℕ) → start + index < length ids → drop start (remove ids (start + index)) ≡ remove (drop start ids) index
+back-moved ids start index lt =
+    let long : length (take start ids) ≡ start = length-take-le start ids (omega (arith, lt)) in
+    let count : (start + index) - start ≡ index = omega arith in
+    ap (λ all. drop start (remove all (start + index))) (sym (take-append-drop start ids))
+    ∙ ap (drop start) (remove-append_right (take start ids) (drop start ids) start (start + index) long (omega arith))
+    ∙ drop_at (take start ids) (remove (drop start ids) ((start + index) - start)) start long
+    ∙ ap (remove (drop start ids)) count
 
 -- ---- what a filter leaves
 

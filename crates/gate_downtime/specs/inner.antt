@@ -1,6 +1,7 @@
 -- Only proofs and private functions use what stands here.
 pub mod Rows
 pub mod Gone
+pub mod Ids
 pub mod Live
 pub mod Tally
 pub mod Links

@@ -260,7 +260,7 @@ impl DowntimeBook {
             result ≡ live_of first history moment) }
         ensures value { result ≡ live_entries self.now.entries self.now.moment }
     {
-        LiveEntries::new(&self.tally.live.ids, &self.rows, self.first)
+        LiveEntries::new(self.tally.live.ids.as_slice(), &self.rows, self.first)
     }
 
     /// The index in `live` of the entry of this id, by binary search. It compares ids by `steps`
@@ -269,7 +269,7 @@ impl DowntimeBook {
         ensures index { result ≡ index_of_id id (live_entries self.now.entries self.now.moment) }
         ensures steps { IsWithinBinaryDigits (live_count self.now) steps.old steps.new }
     {
-        index_of(&self.tally.live.ids, id, steps)
+        index_of(self.tally.live.ids.as_slice(), id, steps)
     }
 
     /// When the entry of this id begins, if it does, deleted or not.

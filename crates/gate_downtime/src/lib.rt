@@ -8,6 +8,7 @@ mod deleting;
 mod entries;
 mod faults;
 mod gone;
+mod ids;
 mod links;
 mod live;
 mod pruning;

@@ -38,7 +38,6 @@ pub fn no_tally(alloc: Global, objects: usize) -> Result<Tally, AllocError>
     ensures marks { IfOk result (λ tally. vec_len tally.gone.marks ≡ 0) }
     ensures deadlines { IfOk result (λ tally. heap_len tally.deadlines ≡ 0) }
     ensures live { IfOk result (λ tally. tally.live.ids.items ≡ []) }
-    ensures live_len { IfOk result (λ tally. vec_len tally.live.ids ≡ 0) }
     ensures idle { IfOk result (λ tally. IsIdle tally.live) }
 {
     Ok(Tally {

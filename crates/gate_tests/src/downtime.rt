@@ -332,7 +332,7 @@ fn a_beginning_and_a_duration_never_wrap(rt: HostRuntime) {
     assert!(rt; plays(rt.alloc(), 1100, &steps));
 }
 
-const CHAIN: u32 = 10000;
+const CHAIN: u32 = 100_000;
 
 fn chains(book: &mut DowntimeBook) -> bool
     requires { book.old.objects ≡ 2 }
@@ -363,7 +363,7 @@ fn begins_and_deletes_a_chain(alloc: Global) -> bool {
 }
 
 #[test]
-fn a_chain_of_10000_triggers_is_begun_and_deleted(rt: HostRuntime) {
+fn a_chain_of_100000_triggers_is_begun_and_deleted(rt: HostRuntime) {
     assert!(rt; begins_and_deletes_a_chain(rt.alloc()));
 }
 

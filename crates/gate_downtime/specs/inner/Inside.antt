@@ -35,5 +35,5 @@ pub record BookInvariant (b : Inside) : Type 0 where
   pub room_marks : vec_len b.tally.gone.marks + b.room ≤ vec_capacity b.tally.gone.marks
   pub live_is : b.tally.live.ids.items ≡ live_ids b.first b.moment.0 b.rows.items
   pub live_idle : IsIdle b.tally.live
-  pub room_live : vec_len b.tally.live.ids + b.room ≤ vec_capacity b.tally.live.ids
+  pub room_live : b.room ≤ b.tally.live.ids.room
   pub room_gone : vec_len b.rows + b.room ≤ heap_capacity b.tally.gone.heap

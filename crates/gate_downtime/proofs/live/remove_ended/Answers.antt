@@ -8,18 +8,17 @@ use Rattle.gate_downtime.proofs.live.remove_ended.Goals as goal
 
 pub ended-preserved-then-not-is_live_id : goal.ended-preserved-then-not-is_live_id
 ended-preserved-then-not-is_live_id c = record {
-  ascending = rw c.remove_id.ensures.items (filter-ascending _ _ c.ended.invariant.ascending);
+  ascending = rw c.remove.ensures.items (filter-ascending _ _ c.ended.invariant.ascending);
   few = c.ended.invariant.few;
   noted =
-      noted-pop _ c.ended.live (record { ids = c.remove_id.new.ids; ended = c.pop.new.self; many = c.ended.live.many }) c.in-Some.id c.ended.invariant.few c.in-Some.ensures.items
-      (λ other has off. others-in c.in-Some.id other c.ended.live.ids.items (rw c.remove_id.ensures.items at has))
+      noted-pop _ c.ended.live (record { ids = c.remove.new.self; ended = c.pop.new.self; many = c.ended.live.many }) c.in-Some.id c.ended.invariant.few c.in-Some.ensures.items
+      (λ other has off. others-in c.in-Some.id other c.ended.live.ids.items (rw c.remove.ensures.items at has))
       c.ended.invariant.noted;
   ids =
-      ap (filter (is_live_row c.args.first c.args.rows.now c.args.now)) c.remove_id.ensures.items
+      ap (filter (is_live_row c.args.first c.args.rows.now c.args.now)) c.remove.ensures.items
       ∙ filter-others (is_live_row c.args.first c.args.rows.now c.args.now) c.in-Some.id c.ended.live.ids.items (sym c.is_live_id.ensures ∙ c.if-not-is_live_id.true)
       ∙ c.ended.invariant.ids;
-  len = omega (arith, c.remove_id.ensures.len, c.ended.invariant.len);
-  capacity = c.remove_id.ensures.capacity ∙ c.ended.invariant.capacity;
+  room = omega (arith, c.remove.ensures.room, c.ended.invariant.room);
 }
 
 pub ended-preserved : goal.ended-preserved
@@ -31,8 +30,7 @@ ended-preserved c = record {
       (λ other has off. (has, λ same. true≢false (sym c.if-not-is_live_id.false ∙ c.is_live_id.ensures ∙ ap (is_live_row c.args.first c.args.rows.now c.args.now) (sym same) ∙ off)))
       c.ended.invariant.noted;
   ids = c.ended.invariant.ids;
-  len = c.ended.invariant.len;
-  capacity = c.ended.invariant.capacity;
+  room = c.ended.invariant.room;
 }
 
 pub returns-clause-ids : goal.returns-clause-ids

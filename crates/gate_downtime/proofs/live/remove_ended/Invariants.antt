@@ -1,4 +1,4 @@
-use Rattle.std.proofs.Common.{◌≡◌, ◌≤◌, false, vec_len, vec_capacity}
+use Rattle.std.proofs.Common.{◌≡◌, ◌≤◌, false, vec_len}
 use Rattle.std.specs.Prelude.{filter}
 use Rattle.gate_downtime.specs.inner.Rows.{is_live_row}
 use Rattle.gate_downtime.specs.inner.Live.{AreAscending, AreNoted}
@@ -10,8 +10,7 @@ invariant-ended l = record {
   few : l.live.many ≡ false;
   noted : AreNoted (is_live_row l.first l.rows l.now) l.live;
   ids : filter (is_live_row l.first l.rows l.now) l.live.ids.items ≡ filter (is_live_row l.first l.rows l.now) l.initial.live.ids.items;
-  len : vec_len l.live.ids ≤ vec_len l.initial.live.ids;
-  capacity : vec_capacity l.live.ids ≡ vec_capacity l.initial.live.ids;
+  room : l.initial.live.ids.room ≤ l.live.ids.room;
 }
 
 abbrev pub decreases-ended : goal.decreases-ended

@@ -1,4 +1,4 @@
-use Rattle.std.proofs.Common.{◌≡◌, ◌≤◌, ◌∙◌, List, arith, ap, refl, sym, subst, map, vec_len, vec_capacity}
+use Rattle.std.proofs.Common.{◌≡◌, ◌≤◌, ◌∙◌, List, arith, ap, refl, sym, subst, map, vec_len}
 use Rattle.std.specs.Prelude.{filter}
 use Rattle.gate_downtime.specs.declared.row.Row.{Row}
 use Rattle.gate_downtime.specs.inner.Rows.{is_live_row}
@@ -55,7 +55,7 @@ invariant_of-self c =
       room_marks = omega (arith, c.settle.ensures.gone_same.marks_len, c.settle.ensures.gone_same.marks_capacity, c.self.invariant.room_marks);
       live_is = is;
       live_idle = c.drop_ended.ensures.idle;
-      room_live = omega (arith, c.drop_ended.ensures.len, c.drop_ended.ensures.capacity, ap (λ ids. vec_len ids) c.settle.ensures.ids_same, ap (λ ids. vec_capacity ids) c.settle.ensures.ids_same, c.self.invariant.room_live);
+      room_live = omega (arith, c.drop_ended.ensures.room, ap (λ ids. ids.room) c.settle.ensures.ids_same, c.self.invariant.room_live);
       room_gone = omega (arith, c.settle.ensures.rows, c.settle.ensures.gone_same.capacity, c.self.invariant.room_gone);
     }
 

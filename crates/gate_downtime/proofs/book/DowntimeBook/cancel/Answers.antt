@@ -1,4 +1,4 @@
-use Rattle.std.proofs.Common.{◌≡◌, ◌∙◌, ◌+◌, true, ap, sym, refl, subst, arith, get_or, List, [], vec_len, vec_capacity}
+use Rattle.std.proofs.Common.{◌≡◌, ◌∙◌, ◌+◌, true, ap, sym, refl, subst, arith, get_or, List, []}
 use Rattle.std.specs.Prelude.{filter, is_some}
 use Rattle.gate_downtime.specs.inner.Live.{AreNoted, live_ids}
 use Rattle.gate_downtime.proofs.NotedSteps.{live-noted}
@@ -71,7 +71,7 @@ invariant_of-self c =
       room_marks = omega (arith, c.delete_from.ensures.gone_same.marks_len, c.delete_from.ensures.gone_same.marks_capacity, c.self.invariant.room_marks);
       live_is = is;
       live_idle = c.drop_ended.ensures.idle;
-      room_live = omega (arith, c.drop_ended.ensures.len, c.drop_ended.ensures.capacity, ap (λ ids. vec_len ids) c.delete_from.ensures.ids_same, ap (λ ids. vec_capacity ids) c.delete_from.ensures.ids_same, c.self.invariant.room_live);
+      room_live = omega (arith, c.drop_ended.ensures.room, ap (λ ids. ids.room) c.delete_from.ensures.ids_same, c.self.invariant.room_live);
       room_gone = omega (arith, c.delete_from.ensures.len, c.delete_from.ensures.gone_same.capacity, c.self.invariant.room_gone);
     }
 

@@ -32,6 +32,6 @@ invariant_of-result c =
       room_marks = search rules;
       live_is = c.in_ok-no_tally.ensures.live ∙ sym (ap (live_ids c.args.first_id c.args.moment.0) c.new.ensures.items);
       live_idle = c.in_ok-no_tally.ensures.idle;
-      room_live = omega (arith, c.in_ok-no_tally.ensures.live_len);
+      room_live = omega arith;
       room_gone = search rules;
     }

@@ -62,7 +62,7 @@ invariant_of-self-in_err-reserve-6 c = record {
   room_marks = omega (arith, c.self.invariant.room_marks, c.reserve-4.ensures.len, c.reserve-4.ensures.capacity);
   live_is = c.reserve-6.ensures.items ∙ c.self.invariant.live_is ∙ ap (live_ids c.self.inside.first c.self.inside.moment.0) (sym c.reserve.ensures.items);
   live_idle = record { none = c.self.invariant.live_idle.none; few = c.self.invariant.live_idle.few };
-  room_live = omega (arith, c.self.invariant.room_live, c.reserve-6.ensures.len, c.reserve-6.ensures.capacity);
+  room_live = omega (arith, c.self.invariant.room_live, c.reserve-6.ensures.room);
   room_gone = omega (arith, c.self.invariant.room_gone, c.reserve.ensures.len, c.reserve-5.ensures.len, c.reserve-5.ensures.capacity);
 }
 
@@ -82,7 +82,7 @@ invariant_of-self-in_err-reserve-7 c = record {
   room_marks = omega (arith, c.self.invariant.room_marks, c.reserve-4.ensures.len, c.reserve-4.ensures.capacity);
   live_is = c.reserve-6.ensures.items ∙ c.self.invariant.live_is ∙ ap (live_ids c.self.inside.first c.self.inside.moment.0) (sym c.reserve.ensures.items);
   live_idle = record { none = c.self.invariant.live_idle.none; few = c.self.invariant.live_idle.few };
-  room_live = omega (arith, c.self.invariant.room_live, c.reserve-6.ensures.len, c.reserve-6.ensures.capacity);
+  room_live = omega (arith, c.self.invariant.room_live, c.reserve-6.ensures.room);
   room_gone = omega (arith, c.self.invariant.room_gone, c.reserve.ensures.len, c.reserve-5.ensures.len, c.reserve-5.ensures.capacity);
 }
 
@@ -102,6 +102,6 @@ invariant_of-self-2 c = record {
   room_marks = omega (arith, c.self.invariant.room_marks, c.reserve-4.ensures.len, c.reserve-4.ensures.capacity, c.in_ok-reserve-4.ensures.ok, c.max-room.ensures);
   live_is = c.reserve-6.ensures.items ∙ c.self.invariant.live_is ∙ ap (live_ids c.self.inside.first c.self.inside.moment.0) (sym c.reserve.ensures.items);
   live_idle = record { none = c.self.invariant.live_idle.none; few = c.self.invariant.live_idle.few };
-  room_live = omega (arith, c.self.invariant.room_live, c.reserve-6.ensures.len, c.reserve-6.ensures.capacity, c.in_ok-reserve-6.ensures.ok, c.max-room.ensures);
+  room_live = omega (arith, c.self.invariant.room_live, c.reserve-6.ensures.room, c.in_ok-reserve-6.ensures.ok, c.max-room.ensures);
   room_gone = omega (arith, c.self.invariant.room_gone, c.reserve.ensures.len, c.len-rows.ensures, c.reserve-5.ensures.len, c.reserve-5.ensures.capacity, c.in_ok-reserve-5.ensures.ok, c.max-room.ensures);
 }

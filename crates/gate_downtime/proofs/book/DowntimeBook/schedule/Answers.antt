@@ -1,4 +1,4 @@
-use Rattle.std.proofs.Common.{ℕ, List, [], ◌∷◌, ◌++◌, cond, vec_len, vec_capacity, map, ◌≡◌, ◌+◌, ◌||◌, eqb, length, arith, sym, ap, ◌∙◌, subst, refl, inl, inr}
+use Rattle.std.proofs.Common.{ℕ, List, [], ◌∷◌, ◌++◌, cond, map, ◌≡◌, ◌+◌, ◌||◌, eqb, length, arith, sym, ap, ◌∙◌, subst, refl, inl, inr}
 use Rattle.std.specs.Prelude.{is_some}
 use Rattle.std.proofs.lemmas.List.{length_push}
 use Rattle.gate_model.specs.declared.downtime.Entry.{Entry}
@@ -47,8 +47,7 @@ pub push_live-requires : goal.push_live-requires
 push_live-requires c =
     omega (
       arith,
-      ap (λ (l : LiveIds). vec_len l.ids) c.add_row.ensures.live_same,
-      ap (λ (l : LiveIds). vec_capacity l.ids) c.add_row.ensures.live_same,
+      ap (λ (l : LiveIds). l.ids.room) c.add_row.ensures.live_same,
       c.self.invariant.room_live,
       c.requires.room,
       ap (λ v. v.room) c.self.view_is,
@@ -112,10 +111,8 @@ invariant_of-self c =
       room_live =
           omega (
             arith,
-            c.push_live.ensures.len,
-            c.push_live.ensures.capacity,
-            ap (λ (l : LiveIds). vec_len l.ids) c.add_row.ensures.live_same,
-            ap (λ (l : LiveIds). vec_capacity l.ids) c.add_row.ensures.live_same,
+            c.push_live.ensures.room,
+            ap (λ (l : LiveIds). l.ids.room) c.add_row.ensures.live_same,
             c.self.invariant.room_live,
             c.requires.room,
             ap (λ v. v.room) c.self.view_is,

@@ -1,4 +1,4 @@
-use Rattle.std.proofs.Common.{length, ◌≡◌, ◌∙◌, ap, sym, List, [], arith, refl, subst, vec_len, vec_capacity}
+use Rattle.std.proofs.Common.{length, ◌≡◌, ◌∙◌, ap, sym, List, [], arith, refl, subst}
 use Rattle.std.specs.Prelude.{filter}
 use Rattle.gate_downtime.specs.declared.row.Row.{Row}
 use Rattle.gate_downtime.specs.inner.Rows.{is_live_row}
@@ -64,7 +64,7 @@ invariant_of-self c = let P : List Link → Type 0 = λ links. Spreading c.self.
       room_marks = omega (arith, c.turn_waiting.ensures.gone_same.marks_len, c.turn_waiting.ensures.gone_same.marks_capacity, c.self.invariant.room_marks);
       live_is = is;
       live_idle = c.drop_ended.ensures.idle;
-      room_live = omega (arith, c.drop_ended.ensures.len, c.drop_ended.ensures.capacity, ap (λ ids. vec_len ids) c.turn_waiting.ensures.ids_same, ap (λ ids. vec_capacity ids) c.turn_waiting.ensures.ids_same, c.self.invariant.room_live);
+      room_live = omega (arith, c.drop_ended.ensures.room, ap (λ ids. ids.room) c.turn_waiting.ensures.ids_same, c.self.invariant.room_live);
       room_gone = omega (arith, c.turn_waiting.ensures.len, c.turn_waiting.ensures.gone_same.capacity, c.self.invariant.room_gone);
     }
 

@@ -1,6 +1,6 @@
 use Rattle.std.proofs.Common.{rules}
 use Rattle.std.proofs.lemmas.Fn.{filter_same}
-use Rattle.gate_downtime.proofs.live.retain_live.Goals as goal
+use Rattle.gate_downtime.proofs.ids.retain_live.Goals as goal
 
 pub returns-clause-items : goal.returns-clause-items
 returns-clause-items c = filter_same _ _ _ (λ x b g h. search rules) _ _ c.retain.ensures.filtered
