@@ -40,12 +40,13 @@ AllowsClose shown reply = ⊥
 abbrev pub MayPush : Limits → Run → ℕ → Type 0
 MayPush limits run client = (is_open limits client run && has_looked client run) ≡ true
 
--- a push: Queued has the client's next number, and comes only within its quota; Spent comes only at the quota, and Full only where the client's items and the others' quotas can fill the queue
+-- a push: Queued has the client's next number, and comes only within its quota; Spent comes only at the quota, and Full only within it, where the client's items and the others' quotas can fill the queue
 abbrev pub AllowsPush : Limits → Run → ℕ → Body → Reply → Type 0
 AllowsPush limits run client body (Queued number) = MayPush limits run client × (length (queued client run) < limits.quota) × (number ≡ length (queued client run) + 1)
 AllowsPush limits run client body (Spent returned) = MayPush limits run client × (returned ≡ body) × (length (queued client run) ≡ limits.quota)
 AllowsPush limits run client body (Full returned) =
-    MayPush limits run client × (returned ≡ body) × (limits.capacity ≤ length (queued client run) + (limits.clients - 1) * limits.quota)
+    MayPush limits run client × (returned ≡ body) × (length (queued client run) < limits.quota)
+    × (limits.capacity ≤ length (queued client run) + (limits.clients - 1) * limits.quota)
 AllowsPush limits run client body reply = reply ≡ reply_after limits run (Push client body)
 
 -- a take: the item is the next of its client, and Empty comes only where all items were taken of each client that was taken in

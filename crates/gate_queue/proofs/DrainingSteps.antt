@@ -231,6 +231,6 @@ some_knows None after clients any same all = known_by_one clients after any all
 some_knows (Some first) after clients any same all = ap is_some same
 
 pub stopped_fault : (cause : PrepareCause) (n : ℕ) (now : Moment) (old new : CloseParts) → AreAllPresent n old.clients old.taker.ended → IsStopped n now old new
-    → (cause ≡ prepare.LogFull → length new.applier.records ≡ new.applier.limit) → IsCloseAllFault (close_cause cause) n now old new
-stopped_fault prepare.LogFull n now old new all stopped full = (all, stopped, full refl)
-stopped_fault prepare.OutOfMemory n now old new all stopped full = (all, stopped)
+    → (cause ≡ prepare.LogFull → length new.applier.records ≡ new.applier.limit) → (cause ≡ prepare.OutOfMemory → length new.applier.records < new.applier.limit) → IsCloseAllFault (close_cause cause) n now old new
+stopped_fault prepare.LogFull n now old new all stopped full room = (all, stopped, full refl)
+stopped_fault prepare.OutOfMemory n now old new all stopped full room = (all, stopped, room refl)

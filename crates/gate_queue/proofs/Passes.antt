@@ -24,13 +24,16 @@ use Rattle.gate_queue.specs.inner.Rule.{client, taker, blank, opener, IsRuled, T
 use Rattle.gate_queue.specs.inner.Passes.{IsClientPass, IsTakerPass, CountsEnded, HasRest, limits_in}
 use Rattle.gate_queue.proofs.Moves.{sends, sees_full, sees_rest, takes, takes_in, configures, makes_client}
 
+-- a client with a count below the quota has fewer items queued than its quota
+pub left_as : (v : View) (number count quota : ℕ) → IsClientPass v number count quota → count < quota → length v.queued < v.quota
+left_as v number count quota p left = let counted = p.count_is in let q = p.quota_is in omega arith
+
 pub sends_as : (ring index : ℕ) (v : View) (number count quota : ℕ) (b : Body) → IsClientPass v number count quota → ring ≡ v.capacity → count < quota
     → Pushes IsRuled ring index v (numbered number (count + 1) b) (λ w. w ≡ client v.clients v.quota v.capacity v.number (v.queued ++ numbered number (count + 1) b ∷ []))
 sends_as ring index v number count quota b p room left =
     let is = p.view_is in
     let counted = p.count_is in
-    let q = p.quota_is in
-    let room_left : length v.queued < v.quota = omega arith in
+    let room_left = left_as v number count quota p left in
     let here : View = client v.clients v.quota v.capacity number v.queued in
     let P : View × ℕ × ℕ → Type 0 = λ y. Pushes IsRuled ring index y.0 (numbered number (y.2 + 1) b) (λ w. w ≡ client v.clients v.quota v.capacity y.1 (v.queued ++ numbered number (y.2 + 1) b ∷ [])) in
     let e : (here, number, length v.queued) ≡ (v, v.number, count) = λ i. (sym is i, ap (λ (u : View). u.number) (sym is) i, sym counted i) in

@@ -1,5 +1,5 @@
 -- What contracts see of a client, and why a submission is refused. Own rules.
-use Rattle.std.specs.Prelude.{◌≡◌, ℕ, ◌+◌, ◌-◌, ◌*◌, ◌≤◌, List, length, Option, Some, None, IfSome}
+use Rattle.std.specs.Prelude.{◌≡◌, ℕ, ◌+◌, ◌-◌, ◌*◌, ◌<◌, ◌≤◌, List, length, Option, Some, None, IfSome}
 use Rattle.crossbeam_queue.specs.Fifo.{Held}
 use Rattle.gate_model.specs.declared.record.Moment.{Moment}
 use Rattle.gate_model.specs.declared.submission.Body.{Body}
@@ -34,11 +34,11 @@ WasFull client = Held client.gate.limits.capacity (AllowsBeside client.gate.limi
 abbrev pub CanBeFull : ClientState → Type 0
 CanBeFull client = client.gate.limits.capacity ≤ length client.queued + (client.gate.limits.clients - 1) * client.gate.limits.quota
 
--- the body is returned and nothing was queued. Closing: the client knows of the close at that moment. Spent: as many items as the quota were queued for it. Full: the queue was full
+-- the body is returned and nothing was queued. Closing: the client knows of the close at that moment. Spent: as many items as the quota were queued for it. Full: fewer were, and the queue was full
 abbrev pub IsRefusal : Refused → Body → ClientState → ClientState → Type 0
 IsRefusal (Closing first returned) body old new =
     (returned ≡ body) × (new ≡ client_state old.gate old.number old.queued (Some first)) × IfSome old.known_close (λ known. known ≡ first)
 IsRefusal (Spent returned) body old new =
     (returned ≡ body) × (new ≡ old) × (old.known_close ≡ None) × (length old.queued ≡ old.gate.limits.quota)
 IsRefusal (Full returned) body old new =
-    (returned ≡ body) × (new ≡ old) × (old.known_close ≡ None) × WasFull old × CanBeFull old
+    (returned ≡ body) × (new ≡ old) × (old.known_close ≡ None) × (length old.queued < old.gate.limits.quota) × WasFull old × CanBeFull old

@@ -111,4 +111,5 @@ IsCloseAllFault (Missing c) n now old new = IsLeastMissing n old.clients old.tak
 IsCloseAllFault NotClosing n now old new = AreAllPresent n old.clients old.taker.ended × NobodyKnows old × (new ≡ old)
 IsCloseAllFault LogFull n now old new =
     AreAllPresent n old.clients old.taker.ended × IsStopped n now old new × (length new.applier.records ≡ new.applier.limit)
-IsCloseAllFault OutOfMemory n now old new = AreAllPresent n old.clients old.taker.ended × IsStopped n now old new
+IsCloseAllFault OutOfMemory n now old new =
+    AreAllPresent n old.clients old.taker.ended × IsStopped n now old new × (length new.applier.records < new.applier.limit)

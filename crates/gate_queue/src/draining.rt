@@ -3,7 +3,7 @@ ghost use Rattle.std.specs.Prelude.{IfNone, IfSome, IfOk, IfErr, Some, is_some};
 ghost use Rattle.std.specs.List.{list_any};
 ghost use Rattle.gate_model.specs.Record.{later};
 ghost use Rattle.gate_core.specs.Merge.{IsMerge};
-ghost use Rattle.gate_applier.specs.declared.applier.PrepareCause.TheVariants.{LogFull};
+ghost use Rattle.gate_applier.specs.declared.applier.PrepareCause.TheVariants.{LogFull, OutOfMemory};
 ghost use Rattle.gate_queue.specs.Taker.{taker_state};
 ghost use Rattle.gate_queue.specs.DrainedClose.{is_present, AreAllPresent, IsLeastMissing};
 ghost use Rattle.gate_queue.specs.DrainedClose.{items_of_records, AppliesMore, LeavesSome};
@@ -99,6 +99,8 @@ pub(crate) fn drain<R: Wait>(
         (list_of taker.old.ended) (items_of_records fault.applier.records)) }
     ensures log_full { IfErr result (λ fault.
         fault.cause ≡ LogFull → length fault.applier.records ≡ fault.applier.limit) }
+    ensures has_room { IfErr result (λ fault. fault.cause ≡ OutOfMemory
+        → length fault.applier.records < fault.applier.limit) }
 {
     let mut applier = applier;
     let queued = taker.total_queued();

@@ -59,8 +59,8 @@ fn answers_before_and_after_a_close<R: Threads + Wait>(
     (before, submitted(rt, gate, client, 6), taker.look(gate))
 }
 
-fn is_found<R: Threads + Wait>(rt: &R, alloc: Global) -> bool {
-    match two_clients(alloc, 9, 9) {
+fn is_found<R: Threads + Wait>(rt: &R, alloc: Global, capacity: usize, quota: u32) -> bool {
+    match two_clients(alloc, capacity, quota) {
         Some((gate, mut taker, closer, mut one, _)) => {
             answers_before_and_after_a_close(rt, alloc, &gate, closer, &mut one, &mut taker)
                 == (
@@ -75,7 +75,17 @@ fn is_found<R: Threads + Wait>(rt: &R, alloc: Global) -> bool {
 
 #[test]
 fn a_client_finds_the_close_of_another_thread(rt: HostRuntime) {
-    assert!(rt; is_found(&rt, rt.alloc()));
+    assert!(rt; is_found(&rt, rt.alloc(), 9, 9));
+}
+
+#[test]
+fn a_close_is_reported_before_a_full_queue_and_a_spent_quota(rt: HostRuntime) {
+    for (capacity, quota) in [(1, 9), (9, 1)] {
+        assert!(rt;
+            is_found(&rt, rt.alloc(), capacity, quota),
+            "{capacity} {quota}"
+        );
+    }
 }
 
 // The notice of a close.

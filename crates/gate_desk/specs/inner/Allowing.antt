@@ -1,7 +1,7 @@
 -- Only proofs use this: legal runs are allowed.
-use Rattle.std.proofs.Common.{◌≡◌, ℕ, ◌+◌, ◌-◌, ◌*◌, ◌≤◌, ◌&&◌, List, [], ◌∷◌, ◌++◌, length, drop, Option, Some, None, Bool, true, false, cond, eqb, refl, sym, ap, ◌∙◌, subst, arith}
+use Rattle.std.proofs.Common.{◌≡◌, ℕ, ◌+◌, ◌-◌, ◌*◌, ◌<◌, ◌≤◌, ◌&&◌, List, [], ◌∷◌, ◌++◌, length, drop, Option, Some, None, Bool, true, false, cond, eqb, refl, sym, ap, ◌∙◌, subst, arith}
 use Rattle.std.specs.Prelude.{slice_get, unwrap_or}
-use Rattle.std.proofs.lemmas.Bool.{eqb-true}
+use Rattle.std.proofs.lemmas.Bool.{eqb-true, eqb-false}
 use Rattle.std.proofs.lemmas.List.{append-nil}
 use Rattle.gate_model.specs.declared.record.Moment.{Moment}
 use Rattle.gate_model.specs.declared.submission.Body.{Body}
@@ -68,9 +68,9 @@ spent_rule true false true returned body n e = absurd (cc)
 spent_rule true false false returned body n e = absurd (cc)
 spent_rule false spent full returned body n e = absurd (cc)
 
-full_rule : (ready spent full : Bool) (returned body : Body) (n : ℕ) → reply.Full returned ≡ cond ready (cond spent (reply.Spent body) (cond full (reply.Full body) (reply.Queued n))) (reply.Ignored (Some body)) → (ready ≡ true) × (returned ≡ body) × (full ≡ true)
+full_rule : (ready spent full : Bool) (returned body : Body) (n : ℕ) → reply.Full returned ≡ cond ready (cond spent (reply.Spent body) (cond full (reply.Full body) (reply.Queued n))) (reply.Ignored (Some body)) → (ready ≡ true) × (returned ≡ body) × (spent ≡ false) × (full ≡ true)
 full_rule true true full returned body n e = absurd (cc)
-full_rule true false true returned body n e = (refl, cc, refl)
+full_rule true false true returned body n e = (refl, cc, refl, refl)
 full_rule true false false returned body n e = absurd (cc)
 full_rule false spent full returned body n e = absurd (cc)
 
@@ -106,7 +106,12 @@ allows_push limits client body (reply.Spent returned) run legal e =
     (rule.0, rule.1, eqb-true (length (queued client run)) limits.quota rule.2)
 allows_push limits client body (reply.Full returned) run legal e =
     let rule = full_rule (is_open limits client run && has_looked client run) (eqb (length (queued client run)) limits.quota) (eqb (length (all_queued run) - length (taken run)) limits.capacity) returned body (length (queued client run) + 1) e in
-    (rule.0, rule.1, full_bound limits client run legal (left_of (is_open limits client run) (has_looked client run) rule.0) (eqb-true (length (all_queued run) - length (taken run)) limits.capacity rule.2))
+    let active = left_of (is_open limits client run) (has_looked client run) rule.0 in (
+      rule.0,
+      rule.1,
+      omega (arith, (sound limits run legal).state.within_quota client (open_client limits client run active).0, eqb-false (length (queued client run)) limits.quota rule.2),
+      full_bound limits client run legal active (eqb-true (length (all_queued run) - length (taken run)) limits.capacity rule.3),
+    )
 allows_push limits client body r run legal e = e
 
 -- ---- takes

@@ -135,10 +135,10 @@ after_spent old body returned run same none spent h =
       more_allowed = pushed old body (reply.Spent returned) run none h (may_push old.client.gate.limits c run (served_open old run h), same, sym (ap length h.queued_is) ∙ spent) h.nobody_joined;
     }) h
 
-after_full : (old : DeskState) (body returned : Body) (run : Run) → returned ≡ body → old.client.known_close ≡ None
+after_full : (old : DeskState) (body returned : Body) (run : Run) → returned ≡ body → old.client.known_close ≡ None → length old.client.queued < old.client.gate.limits.quota
     → old.client.gate.limits.capacity ≤ length old.client.queued + (old.client.gate.limits.clients - 1) * old.client.gate.limits.quota → IsAfter old run
     → IsAfter old (submitted old.client.number body (Err (Full returned)) ++ run)
-after_full old body returned run same none bound h =
+after_full old body returned run same none within bound h =
     let c : ℕ = old.client.number in
     let limits : Limits = old.client.gate.limits in
     goes_on old old.client.queued old.client.known_close run ((Push c body, reply.Full returned) ∷ (Look c, reply.Open) ∷ run) (record {
@@ -150,7 +150,7 @@ after_full old body returned run same none bound h =
       ended_same = λ client. refl;
       joined_same = λ client. refl;
       more_allowed = pushed old body (reply.Full returned) run none h
-          (may_push limits c run (served_open old run h), same, subst (λ (l : List Numbered). limits.capacity ≤ length l + (limits.clients - 1) * limits.quota) h.queued_is bound) h.nobody_joined;
+          (may_push limits c run (served_open old run h), same, subst (λ (l : List Numbered). length l < limits.quota) h.queued_is within, subst (λ (l : List Numbered). limits.capacity ≤ length l + (limits.clients - 1) * limits.quota) h.queued_is bound) h.nobody_joined;
     }) h
 
 -- a look that found the close
@@ -201,7 +201,7 @@ after_submit old new body (Err (Closing first returned)) run a h =
 after_submit old new body (Err (Spent returned)) run a h =
     unchanged old new (submitted old.client.number body (Err (Spent returned)) ++ run) a.0.1 a.1 (after_spent old body returned run a.0.0 a.0.2 a.0.3 h)
 after_submit old new body (Err (Full returned)) run a h =
-    unchanged old new (submitted old.client.number body (Err (Full returned)) ++ run) a.0.1 a.1 (after_full old body returned run a.0.0 a.0.2 a.0.4 h)
+    unchanged old new (submitted old.client.number body (Err (Full returned)) ++ run) a.0.1 a.1 (after_full old body returned run a.0.0 a.0.2 a.0.3 a.0.5 h)
 
 known_before : (first : Option Moment) (result : Moment) → IfSome first (λ known. Some result ≡ Some known) → IfSome first (λ known. known ≡ result)
 known_before first result h = if_some (λ known. Some result ≡ Some known) (λ known. known ≡ result) first (λ known e. cc) h

@@ -61,4 +61,4 @@ returns-in-Err-clause-fault g c =
       applied = d.more;
       left = subst (λ (l : List EndedList). LeavesSome n (list_of l) (items_of_records c.in-Err.fault.applier.records)) lists d.left;
     } in
-    subst (λ (k : CloseAllCause). IsCloseAllFault k n c.args.now old new) (sym c.cause_of.ensures) (stopped_fault c.in-Err.fault.cause n c.args.now old new all stopped d.log_full)
+    subst (λ (k : CloseAllCause). IsCloseAllFault k n c.args.now old new) (sym c.cause_of.ensures) (stopped_fault c.in-Err.fault.cause n c.args.now old new all stopped d.log_full d.has_room)
