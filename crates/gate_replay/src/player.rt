@@ -80,6 +80,13 @@ fn prepare(applier: Applier) -> Result<Ready, Stopped>
     }
 }
 
+// A write failed. The applier that nothing uses any more is dropped here alone.
+fn unwritten(_applier: Applier, fault: ReplayFault) -> Stopped
+    ensures { result ≡ Stopped.Unwritten fault }
+{
+    Stopped::Unwritten(fault)
+}
+
 // The status page of an applier.
 fn page_of(alloc: Global, applier: &Applier) -> Result<Vec<u8>, AllocError>
     ensures { let shown = applier.now in IfOk result (λ page.
@@ -250,7 +257,7 @@ where
             return Err(Stopped::OutOfMemory(applier));
         };
         if let Err(fault) = print_answer(output, answer) {
-            return Err(Stopped::Unwritten(fault));
+            return Err(unwritten(applier, fault));
         }
         let queued = queued_after(queued, answer);
         Ok(Player {
@@ -294,7 +301,7 @@ where
             return Err(Stopped::OutOfMemory(applier));
         };
         if let Err(fault) = print(output, &written) {
-            return Err(Stopped::Unwritten(fault));
+            return Err(unwritten(applier, fault));
         }
         let queued = queued_after(queued, answer);
         Ok(Player {
@@ -327,7 +334,7 @@ where
         };
         match print(output, &page) {
             Ok(()) => Ok(player),
-            Err(fault) => Err(Stopped::Unwritten(fault)),
+            Err(fault) => Err(unwritten(player.applier, fault)),
         }
     }
 

@@ -63,6 +63,21 @@ fn print_log<W: Sink>(alloc: Global, applier: &Applier, output: &mut W) -> Resul
     }
 }
 
+// The same of an applier that nothing uses after it, which is dropped here alone.
+fn print_last_log<W: Sink>(
+    alloc: Global,
+    applier: Applier,
+    output: &mut W,
+) -> Result<(), ReplayFault>
+    ensures ok { let state = sink_state W.contents W.pending W.failures in
+        OnOk result (Delivers (state output.old) (state output.new)
+        (log_text applier.records (outcomes_of applier.table applier.records))) }
+    ensures err { let state = sink_state W.contents W.pending W.failures in
+        IfErr result (IsLogEnd (state output.old) (state output.new)) }
+{
+    print_log(alloc, &applier, output)
+}
+
 // The fault after which the log was printed, unless printing it failed.
 fn fault_after(printed: Result<(), ReplayFault>, fault: ReplayFault) -> Result<(), ReplayFault>
     ensures ok { OnOk printed (result ≡ Err fault) }
@@ -96,14 +111,14 @@ where
     match player.play(alloc, &steps, output) {
         Ok(player) => {
             let applier = player.end();
-            print_log(alloc, &applier, output)
+            print_last_log(alloc, applier, output)
         }
         Err(Stopped::Full(applier)) => {
-            let printed = print_log(alloc, &applier, output);
+            let printed = print_last_log(alloc, applier, output);
             fault_after(printed, ReplayFault::LogFull)
         }
         Err(Stopped::OutOfMemory(applier)) => {
-            let printed = print_log(alloc, &applier, output);
+            let printed = print_last_log(alloc, applier, output);
             fault_after(printed, ReplayFault::OutOfMemory)
         }
         Err(Stopped::Unwritten(fault)) => Err(fault),

@@ -1,7 +1,7 @@
 use gate_model::{Body, Moment};
 use gate_packet::{
-    ContentFault, Field, PACKET_SIZE, Packet, PacketFault, RefusedPacket, crc32, decode, encode,
-    round_trip,
+    ContentFault, Cutter, Field, PACKET_SIZE, Packet, PacketFault, RefusedPacket, crc32, decode,
+    encode, round_trip,
 };
 use std::alloc::Global;
 use std::fmt::Display;
@@ -247,6 +247,39 @@ fn an_empty_service_is_a_result_of_the_host(rt: HostRuntime) {
             })
         )
     );
+}
+
+fn fed(alloc: Global, pieces: [&[u8]; 3]) -> Option<Cutter> {
+    let mut cutter = Cutter::new(alloc);
+    for piece in pieces {
+        cutter.feed(piece).ok()?;
+    }
+    Some(cutter)
+}
+
+fn is_next(cutter: &mut Cutter, want: &[u8; PACKET_SIZE]) -> bool {
+    match cutter.next_packet() {
+        Some(block) => block == *want,
+        None => false,
+    }
+}
+
+// Whether the pieces are this block and then so many bytes.
+fn are_cut(alloc: Global, pieces: [&[u8]; 3], block: &[u8; PACKET_SIZE], rest: usize) -> bool {
+    match fed(alloc, pieces) {
+        Some(mut cutter) => {
+            is_next(&mut cutter, block) && cutter.next_packet().is_none() && cutter.rest() == rest
+        }
+        None => false,
+    }
+}
+
+#[test]
+fn a_packet_that_comes_in_two_pieces_is_cut_out_of_its_stream(rt: HostRuntime) -> Result<(), Fail> {
+    let bytes = bytes_sent(rt.alloc(), 1000)?;
+    let pieces: [&[u8]; 3] = [&bytes[..4000], &bytes[4000..], &bytes[..3]];
+    assert!(rt; are_cut(rt.alloc(), pieces, &bytes, 3));
+    Ok(())
 }
 
 fn is_shown_as<D: Display>(alloc: Global, fault: &D, want: &str) -> bool {

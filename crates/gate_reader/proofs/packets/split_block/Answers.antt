@@ -1,4 +1,4 @@
-use Rattle.std.proofs.Common.{◌≡◌, ◌+◌, ◌≤◌, length, drop, sym, subst, arith}
+use Rattle.std.proofs.Common.{◌≤◌, length, sym, subst, arith}
 use Rattle.gate_packet.specs.Stream.{Begins}
 use Rattle.gate_packet.proofs.Cuts.{first_whole}
 use Rattle.gate_reader.proofs.Blocks.{if_some}
