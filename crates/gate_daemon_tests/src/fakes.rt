@@ -1,8 +1,9 @@
-ghost use Rattle.std.specs.Prelude.{◌≡◌, IfSome};
+ghost use Rattle.std.specs.Prelude.{◌≡◌, [], IfSome};
 
 use gate_daemon::{Config, Connections, Hold, Point, Wake, Watch, WorkerLimits};
 use gate_model::{Moment, ObjectTable};
 use gate_packet::{PACKET_SIZE, Packet, encode};
+use gate_queue::{Client, Gate, Taker, open};
 use gate_reader::SessionLimits;
 use std::alloc::Global;
 use std::sync::atomic::{AtomicU64, Ordering};
@@ -105,6 +106,18 @@ pub fn config(alloc: Global, workers: u32) -> Option<Config>
         worker: limits(),
         table,
     })
+}
+
+// A gate of one client, its taker and its client.
+pub fn one_client(alloc: Global) -> Option<(Gate, Taker, Client)>
+    ensures taker { IfSome result (λ opened.
+        (opened.1.gate ≡ opened.0) × (opened.1.taken ≡ [])) }
+    ensures client { IfSome result (λ opened.
+        (opened.2.gate ≡ opened.0) × (opened.2.queued ≡ [])) }
+{
+    let (gate, taker, _, mut clients) = open(alloc, 1, 16).ok()?;
+    let client = clients.pop()?;
+    Some((gate, taker, client))
 }
 
 // A packet that a sender may send.

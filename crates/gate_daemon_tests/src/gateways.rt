@@ -1,5 +1,8 @@
+ghost use Rattle.std.specs.Prelude.{◌≡◌};
+
 use crate::fakes::{AlwaysAt, Keeping, NoWake, Sending, config, packet};
-use gate_daemon::{Finished, GatewayFault, Point, Post, run_gateway};
+use gate_daemon::{Config, Finished, GatewayFault, Point, Post, run_gateway};
+use gate_reader::{Answer, Report};
 use std::alloc::Global;
 use std::sync::Wait;
 use std::sync::atomic::{AtomicU64, Ordering};
@@ -24,45 +27,76 @@ fn no_counts() -> Counts {
     }
 }
 
-// How many records there are, and how many clients were joined.
-fn sizes(finished: Result<Finished, GatewayFault>) -> Option<(usize, usize)> {
-    let finished = finished.ok()?;
-    Some((
-        finished.closed.applier.records().len(),
-        finished.reports.len(),
-    ))
+// What a gateway left: how many records, how many clients were joined, and whose the first record
+// is; 0 where there is none. And how many packets were answered that they are queued.
+#[derive(Clone, Copy, Debug, PartialEq, Eq)]
+struct Left {
+    records: usize,
+    clients: usize,
+    first: u32,
+    queued: usize,
 }
 
-// Runs one worker of packets, which is sent one packet, and an operator, which shuts the gate down.
+// How many packets of a worker's first connection are queued.
+fn queued_by(worker: Option<&(u32, Vec<Report>)>) -> usize {
+    let Some((_, reports)) = worker else {
+        return 0;
+    };
+    let Some(report) = reports.first() else {
+        return 0;
+    };
+    let answers = report.answers.as_slice().iter();
+    answers
+        .filter(|answer| matches!(answer, Answer::Queued(_)))
+        .count()
+}
+
+fn left_by(finished: Result<Finished, GatewayFault>) -> Option<Left> {
+    let finished = finished.ok()?;
+    let records = finished.closed.applier.records();
+    Some(Left {
+        records: records.len(),
+        clients: finished.reports.len(),
+        first: match records.first() {
+            Some(record) => record.item.client,
+            None => 0,
+        },
+        queued: queued_by(finished.reports.get(1)),
+    })
+}
+
+// Two records, the first of them of the worker of packets.
+const BOTH_IN_TURN: Left = Left {
+    records: 2,
+    clients: 2,
+    first: 1,
+    queued: 1,
+};
+
+// Runs one worker of packets and an operator, each with its connections and its hold.
 fn run_both<'a, R: Threads + Wait + Clock + Sync>(
     rt: &R,
     alloc: Global,
-    bytes: &'a [u8],
-    lines: &'a [u8],
+    config: Config,
+    packets: Sending<'a>,
+    lines: Sending<'a>,
     holds: (Keeping<'a>, Keeping<'a>, Keeping<'a>),
-) -> Option<(usize, usize)> {
+) -> Option<Left>
+    requires { config.workers ≡ 1 }
+{
     let (worker, operator, applier) = holds;
-    let config = config(alloc, 1)?;
     let mut posts = Vec::with_capacity(alloc, 1).ok()?;
     posts.push_reserved(Post {
-        connections: Sending {
-            alloc,
-            connections: 1,
-            bytes,
-        },
+        connections: packets,
         hold: worker,
     });
-    sizes(run_gateway(
+    left_by(run_gateway(
         rt,
         alloc,
         config,
         posts,
         Post {
-            connections: Sending {
-                alloc,
-                connections: 1,
-                bytes: lines,
-            },
+            connections: lines,
             hold: operator,
         },
         Sending {
@@ -75,6 +109,17 @@ fn run_both<'a, R: Threads + Wait + Clock + Sync>(
         &NoWake,
     ))
 }
+
+// A sender that connects once.
+fn once<'a>(alloc: Global, bytes: &'a [u8]) -> Sending<'a> {
+    Sending {
+        alloc,
+        connections: 1,
+        bytes,
+    }
+}
+
+const COMMENT: &[u8] = b"[1] ADD_HOST_COMMENT;web1;0;ann;hi\n";
 
 const SHUTDOWN: &[u8] = b"[1] ADD_HOST_COMMENT;web1;0;ann;hi\n[1] SHUTDOWN_PROGRAM\n";
 
@@ -120,14 +165,15 @@ fn is_applied<R: Threads + Wait + Clock + Sync>(rt: &R, alloc: Global) -> Option
         (Point::Session, &counts.first),
         &counts.late,
     );
-    let sizes = run_both(
+    let left = run_both(
         rt,
         alloc,
-        &bytes,
-        SHUTDOWN,
+        config(alloc, 1)?,
+        once(alloc, &bytes),
+        once(alloc, SHUTDOWN),
         (worker, operator, free(&counts)),
     )?;
-    Some(sizes == (2, 2) && counts.late.load(Ordering::SeqCst) == 0)
+    Some(left == BOTH_IN_TURN && counts.late.load(Ordering::SeqCst) == 0)
 }
 
 #[test]
@@ -152,8 +198,9 @@ fn run_at_once<R: Threads + Wait + Clock + Sync>(rt: &R, alloc: Global) -> Optio
     run_both(
         rt,
         alloc,
-        &bytes,
-        SHUTDOWN,
+        config(alloc, 1)?,
+        once(alloc, &bytes),
+        once(alloc, SHUTDOWN),
         (worker, operator, free(&counts)),
     )?;
     Some(counts.late.load(Ordering::SeqCst) == 0)
@@ -179,17 +226,130 @@ fn applies_beside_workers<R: Threads + Wait + Clock + Sync>(rt: &R, alloc: Globa
         (Point::BeforeApply, &counts.second),
         &counts.late,
     );
-    let sizes = run_both(
+    let left = run_both(
         rt,
         alloc,
-        &bytes,
-        SHUTDOWN,
+        config(alloc, 1)?,
+        once(alloc, &bytes),
+        once(alloc, SHUTDOWN),
         (free(&counts), operator, applier),
     )?;
-    Some(sizes == (2, 2) && counts.late.load(Ordering::SeqCst) == 0)
+    Some(left == BOTH_IN_TURN && counts.late.load(Ordering::SeqCst) == 0)
 }
 
 #[test]
 fn a_line_is_answered_while_an_item_is_applied(rt: HostRuntime) {
     assert!(rt; applies_beside_workers(&rt, rt.alloc()).unwrap_or(false));
+}
+
+// One connection is served for each worker of packets, and the operator connects twice.
+fn serves_each_operator<R: Threads + Wait + Clock + Sync>(rt: &R, alloc: Global) -> Option<Left> {
+    let counts = no_counts();
+    let mut config = config(alloc, 1)?;
+    config.worker.sessions = 1;
+    let lines = Sending {
+        alloc,
+        connections: 2,
+        bytes: COMMENT,
+    };
+    let nothing = once(alloc, b"");
+    run_both(
+        rt,
+        alloc,
+        config,
+        nothing,
+        lines,
+        (free(&counts), free(&counts), free(&counts)),
+    )
+}
+
+#[test]
+fn an_operator_is_served_beyond_the_sessions_of_a_worker(rt: HostRuntime) {
+    let left = Left {
+        records: 2,
+        clients: 2,
+        first: 2,
+        queued: 0,
+    };
+    assert!(rt; serves_each_operator(&rt, rt.alloc()) == Some(left));
+}
+
+// The operator never connects, so its worker ends at once. The worker of packets is kept at its
+// session for all of its turns.
+fn serves_on<R: Threads + Wait + Clock + Sync>(rt: &R, alloc: Global) -> Option<Left> {
+    let counts = no_counts();
+    let bytes = packet(alloc)?;
+    let worker = keeping(
+        (Point::Answered, &counts.first),
+        (Point::Session, &counts.unused),
+        &counts.late,
+    );
+    let lines = Sending {
+        alloc,
+        connections: 0,
+        bytes: &[],
+    };
+    run_both(
+        rt,
+        alloc,
+        config(alloc, 1)?,
+        once(alloc, &bytes),
+        lines,
+        (worker, free(&counts), free(&counts)),
+    )
+}
+
+#[test]
+fn packets_are_queued_after_the_operators_worker_has_ended(rt: HostRuntime) {
+    let left = Left {
+        records: 1,
+        clients: 2,
+        first: 1,
+        queued: 1,
+    };
+    assert!(rt; serves_on(&rt, rt.alloc()) == Some(left));
+}
+
+const BURST: usize = 50;
+
+// Packets for a queue with room for one. The operator shuts down once they are answered.
+fn queues_a_burst<R: Threads + Wait + Clock + Sync>(rt: &R, alloc: Global) -> Option<Left> {
+    let counts = no_counts();
+    let one = packet(alloc)?;
+    let mut bytes = Vec::new(alloc);
+    for _ in 0..BURST {
+        bytes.extend_from_slice(&one).ok()?;
+    }
+    let mut config = config(alloc, 1)?;
+    config.capacity = 1;
+    config.worker.session.items = 100;
+    let worker = keeping(
+        (Point::Answered, &counts.first),
+        (Point::Answered, &counts.first),
+        &counts.late,
+    );
+    let operator = keeping(
+        (Point::Session, &counts.unused),
+        (Point::Session, &counts.first),
+        &counts.late,
+    );
+    run_both(
+        rt,
+        alloc,
+        config,
+        once(alloc, &bytes),
+        once(alloc, b"[1] SHUTDOWN_PROGRAM\n"),
+        (worker, operator, free(&counts)),
+    )
+}
+
+#[test]
+fn a_burst_waits_for_a_queue_of_one_item(rt: HostRuntime) {
+    let left = Left {
+        records: BURST,
+        clients: 2,
+        first: 1,
+        queued: BURST,
+    };
+    assert!(rt; queues_a_burst(&rt, rt.alloc()) == Some(left));
 }

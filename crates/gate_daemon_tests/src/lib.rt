@@ -2,6 +2,8 @@
 #![tactic(auto)]
 
 #[cfg(test)]
+mod appliers;
+#[cfg(test)]
 mod fakes;
 #[cfg(test)]
 mod gateways;
