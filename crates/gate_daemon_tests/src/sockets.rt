@@ -104,12 +104,12 @@ fn is_served<R: Net<Listener = TcpListener, Stream = TcpStream> + Threads + Wait
         pages: addresses.2,
         workers: 1,
     };
-    let (told, records) = thread::join(
+    let (answered, records) = thread::join(
         rt,
         || talk(rt, addresses, &bytes),
         || serve(rt, alloc, &agents, &operators, &pages, &knocks),
     );
-    Ok(Some(told? && records == Some(2)))
+    Ok(Some(answered? && records == Some(2)))
 }
 
 #[test]
