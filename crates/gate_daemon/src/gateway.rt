@@ -12,7 +12,7 @@ use crate::collected::Collected;
 use crate::connections::{Connections, Hold, Wake, Watch};
 use crate::settings::{Config, WorkerLimits};
 use crate::starting::{Post, Unstarted};
-use crate::threads::run_scoped;
+use crate::threads::{Crew, run_scoped};
 use gate_applier::{Applier, OpenCause};
 use gate_core::OpenFault;
 use gate_model::{Moment, ObjectTable};
@@ -81,25 +81,38 @@ impl From<AllocError> for GatewayFault {
     }
 }
 
-// Opens a gate for so many workers and the operator, whose client is the last.
-fn open_gate(
-    alloc: Global,
-    workers: u32,
-    capacity: usize,
-) -> Result<(Gate, Taker, Closer, Vec<Client>, Client), GatewayFault>
+// A gate's parts; the last of its clients is the operator's.
+#[derive(Drop)]
+struct Opening {
+    gate: Gate,
+    taker: Taker,
+    closer: Closer,
+    clients: Vec<Client>,
+    last: Client,
+}
+
+// Opens a gate for so many workers and the operator.
+fn open_gate(alloc: Global, workers: u32, capacity: usize) -> Result<Opening, GatewayFault>
     requires { workers ≤ 63 }
-    ensures gate { IfOk result (λ opened. opened.0.limits.clients ≡ workers + 1) }
-    ensures taker { IfOk result (λ opened. (opened.1.gate ≡ opened.0) × (opened.1.ended ≡ [])
-        × (opened.1.taken ≡ [])) }
-    ensures closer { IfOk result (λ opened. opened.2.cell ≡ opened.0.cell) }
-    ensures clients { IfOk result (λ opened. opened.3.items ≡ new_clients opened.0 workers) }
-    ensures count { IfOk result (λ opened. length opened.3.items ≡ workers) }
-    ensures last { IfOk result (λ opened.
-        opened.4 ≡ client_state opened.0 (workers + 1) [] None) }
+    ensures gate { IfOk result (λ opening. opening.gate.limits.clients ≡ workers + 1) }
+    ensures taker { IfOk result (λ opening. (opening.taker.gate ≡ opening.gate)
+        × (opening.taker.ended ≡ []) × (opening.taker.taken ≡ [])) }
+    ensures closer { IfOk result (λ opening. opening.closer.cell ≡ opening.gate.cell) }
+    ensures clients { IfOk result (λ opening.
+        opening.clients.items ≡ new_clients opening.gate workers) }
+    ensures count { IfOk result (λ opening. length opening.clients.items ≡ workers) }
+    ensures last { IfOk result (λ opening.
+        opening.last ≡ client_state opening.gate (workers + 1) [] None) }
 {
     match open(alloc, workers + 1, capacity) {
         Ok((gate, taker, closer, mut clients)) => match clients.pop() {
-            Some(last) => Ok((gate, taker, closer, clients, last)),
+            Some(last) => Ok(Opening {
+                gate,
+                taker,
+                closer,
+                clients,
+                last,
+            }),
             None => unreachable!(),
         },
         Err(fault) => Err(GatewayFault::Queue(fault)),
@@ -155,6 +168,134 @@ fn finish<R: Wait>(
             fault,
             reports,
         }),
+    }
+}
+
+// A gateway's parts, before its threads start.
+#[derive(Drop)]
+struct Parts {
+    opening: Opening,
+    applier: Applier,
+    collected: Collected,
+    board: Mutex<Board>,
+}
+
+// Opens the gate and the applier, and makes room for what the workers return.
+fn open_parts(
+    alloc: Global,
+    workers: u32,
+    capacity: usize,
+    limit: u32,
+    table: ObjectTable,
+    now: Moment,
+) -> Result<Parts, GatewayFault>
+    requires { workers ≤ 63 }
+    ensures gate { IfOk result (λ parts. parts.opening.gate.limits.clients ≡ workers + 1) }
+    ensures taker { IfOk result (λ parts. (parts.opening.taker.gate ≡ parts.opening.gate)
+        × (parts.opening.taker.ended ≡ []) × (parts.opening.taker.taken ≡ [])) }
+    ensures closer { IfOk result (λ parts.
+        parts.opening.closer.cell ≡ parts.opening.gate.cell) }
+    ensures clients { IfOk result (λ parts.
+        parts.opening.clients.items ≡ new_clients parts.opening.gate workers) }
+    ensures count { IfOk result (λ parts. length parts.opening.clients.items ≡ workers) }
+    ensures last { IfOk result (λ parts.
+        parts.opening.last ≡ client_state parts.opening.gate (workers + 1) [] None) }
+    ensures applier { IfOk result (λ parts. parts.applier ≡ opened table now limit) }
+    ensures none { IfOk result (λ parts. parts.collected.ended.items ≡ []) }
+    ensures room { IfOk result (λ parts. (workers + 1 ≤ parts.collected.ended.cap)
+        × (workers + 1 ≤ parts.collected.reports.cap)) }
+{
+    let opening = open_gate(alloc, workers, capacity)?;
+    let applier = open_applier(alloc, table, now, limit)?;
+    let collected = Collected::with_room(alloc, workers as usize + 1)?;
+    let board = Mutex::new(Board::of(alloc, &applier)?);
+    Ok(Parts {
+        opening,
+        applier,
+        collected,
+        board,
+    })
+}
+
+// Runs a gateway that is opened, and drains it.
+fn run_opened<
+    R: Threads + Wait + Clock + Sync,
+    C: Connections + Send + Drop,
+    H: Hold + Send + Drop,
+    K: Watch + Sync,
+    W: Wake + Sync,
+>(
+    rt: &R,
+    alloc: Global,
+    parts: Parts,
+    workers: u32,
+    posts: Vec<Post<C, H>>,
+    operator: Post<C, H>,
+    pages: C,
+    clock: &K,
+    hold: H,
+    wake: &W,
+    limits: WorkerLimits,
+) -> Result<Finished, GatewayFault>
+    requires workers { workers ≤ 63 }
+    requires posts { vec_len posts ≡ workers }
+    requires gate { parts.opening.gate.limits.clients ≡ workers + 1 }
+    requires taker { (parts.opening.taker.gate ≡ parts.opening.gate)
+        × (parts.opening.taker.ended ≡ [])
+        × (items_of_records parts.applier.records ≡ parts.opening.taker.taken) }
+    requires closer { parts.opening.closer.cell ≡ parts.opening.gate.cell }
+    requires clients { parts.opening.clients.items ≡ new_clients parts.opening.gate workers }
+    requires count { length parts.opening.clients.items ≡ workers }
+    requires last { parts.opening.last ≡ client_state parts.opening.gate (workers + 1) [] None }
+    requires none { parts.collected.ended.items ≡ [] }
+    requires room { (workers + 1 ≤ parts.collected.ended.cap)
+        × (workers + 1 ≤ parts.collected.reports.cap) }
+    ensures clients { IfOk result (λ finished. map (λ pair. pair.0) finished.reports.items
+        ≡ (workers + 1) ∷ numbers_after 0 workers) }
+    ensures answered { IfOk result (λ finished. let log = items_of_records (
+        finished.closed.applier.records) in
+        map (λ pair. item_numbers (of_client pair.0 log)) finished.reports.items
+        ≡ map (λ pair. reported_numbers pair.1.items) finished.reports.items) }
+    ensures items { IfOk result (λ finished. All (λ item. IsClient (workers + 1) item.client)
+        (items_of_records finished.closed.applier.records)) }
+    ensures same { IfOk result (λ finished. IsSameLog parts.applier finished.closed.applier) }
+{
+    let Parts {
+        opening,
+        applier,
+        collected,
+        board,
+    } = parts;
+    let Opening {
+        gate,
+        taker,
+        closer,
+        clients,
+        last,
+    } = opening;
+    let crew = Crew {
+        clients,
+        posts,
+        operator: (last, operator),
+        collected,
+    };
+    match run_scoped(
+        rt,
+        alloc,
+        &gate,
+        (taker, applier, closer),
+        crew,
+        pages,
+        clock,
+        hold,
+        &board,
+        wake,
+        limits,
+    ) {
+        Ok((taker, applier, collected)) => {
+            finish(rt, gate, workers, taker, applier, collected, clock.read())
+        }
+        Err(Unstarted) => Err(GatewayFault::Spawn),
     }
 }
 
@@ -214,29 +355,10 @@ pub fn run_gateway<
         worker,
         table,
     } = config;
-    let (gate, taker, closer, clients, last) = open_gate(alloc, workers, capacity)?;
-    let applier = open_applier(alloc, table, clock.read(), limit)?;
-    let collected = Collected::with_room(alloc, workers as usize + 1)?;
-    let board = Mutex::new(Board::of(alloc, &applier)?);
-    match run_scoped(
-        rt,
-        alloc,
-        &gate,
-        (taker, applier, closer),
-        clients,
-        posts,
-        (last, operator),
-        pages,
-        clock,
-        hold,
-        &board,
-        wake,
-        worker,
-        collected,
-    ) {
-        Ok((taker, applier, collected)) => {
-            finish(rt, gate, workers, taker, applier, collected, clock.read())
-        }
-        Err(Unstarted) => Err(GatewayFault::Spawn),
+    match open_parts(alloc, workers, capacity, limit, table, clock.read()) {
+        Ok(parts) => run_opened(
+            rt, alloc, parts, workers, posts, operator, pages, clock, hold, wake, worker,
+        ),
+        Err(fault) => Err(fault),
     }
 }

@@ -225,6 +225,16 @@ fn show_close<R: Wait + Clock>(
     unreachable!()
 }
 
+// The workers before they start: the clients and posts of those of packets, those of the operator's
+// worker, and room for what all of them return.
+#[derive(Drop)]
+pub(crate) struct Crew<C, H> {
+    pub(crate) clients: Vec<Client>,
+    pub(crate) posts: Vec<Post<C, H>>,
+    pub(crate) operator: (Client, Post<C, H>),
+    pub(crate) collected: Collected,
+}
+
 // Starts all threads and joins them: what the applier returned, and the workers' ends. The gate is
 // closed then.
 pub(crate) fn run_threads<
@@ -241,35 +251,31 @@ pub(crate) fn run_threads<
     scope: &Scope<'s, E>,
     gate: &'s Gate,
     parts: (Taker, Applier, Closer),
-    clients: Vec<Client>,
-    posts: Vec<Post<C, H>>,
-    operator: (Client, Post<C, H>),
+    crew: Crew<C, H>,
     pages: C,
     clock: &'s K,
     hold: H,
     board: &'s Mutex<Board>,
     wake: &W,
     limits: WorkerLimits,
-    collected: Collected,
 ) -> Result<(Taker, Applier, Collected), Unstarted>
     requires taker { (parts.0.gate ≡ gate.now) × (parts.0.ended ≡ [])
         × (items_of_records parts.1.records ≡ parts.0.taken) }
     requires closer { parts.2.cell ≡ gate.now.cell }
-    requires clients { clients.items ≡ new_clients gate.now (length clients.items) }
-    requires posts { vec_len posts ≡ vec_len clients }
-    requires operator { (operator.0.gate ≡ gate.now) × (operator.0.queued ≡ []) }
-    requires none { collected.ended.items ≡ [] }
-    requires room { (vec_len clients + 1 ≤ collected.ended.cap)
-        × (vec_len clients + 1 ≤ collected.reports.cap) }
+    requires clients { crew.clients.items ≡ new_clients gate.now (length crew.clients.items) }
+    requires posts { vec_len crew.posts ≡ vec_len crew.clients }
+    requires operator { (crew.operator.0.gate ≡ gate.now) × (crew.operator.0.queued ≡ []) }
+    requires none { crew.collected.ended.items ≡ [] }
+    requires room { (vec_len crew.clients + 1 ≤ crew.collected.ended.cap)
+        × (vec_len crew.clients + 1 ≤ crew.collected.reports.cap) }
     ensures taker { IfOk result (λ end. (end.0.gate ≡ gate.now) × (end.0.ended ≡ [])
         × (items_of_records end.1.records ≡ end.0.taken)) }
     ensures same { IfOk result (λ end. IsSameLog parts.1 end.1) }
     ensures all { IfOk result (λ end. numbers_of end.2.ended.items
-        ≡ operator.0.number ∷ numbers_after 0 (length clients.items)) }
+        ≡ crew.operator.0.number ∷ numbers_after 0 (length crew.clients.items)) }
     ensures gates { IfOk result (λ end. AreOf gate.now end.2.ended.items) }
 {
     let (taker, applier, closer) = parts;
-    let (last, post) = operator;
     let Ok(applies) = start_applier(rt, alloc, scope, gate, taker, applier, clock, hold, board)
     else {
         return Err(Unstarted);
@@ -279,6 +285,12 @@ pub(crate) fn run_threads<
         let _ = applies.join(rt);
         return Err(Unstarted);
     };
+    let Crew {
+        clients,
+        posts,
+        operator: (last, post),
+        collected,
+    } = crew;
     let (closer, collected, all) = run_workers(
         rt, alloc, scope, gate, clients, posts, last, post, closer, clock, wake, limits, collected,
     );
@@ -306,31 +318,28 @@ pub(crate) fn run_scoped<
     alloc: Global,
     gate: &Gate,
     parts: (Taker, Applier, Closer),
-    clients: Vec<Client>,
-    posts: Vec<Post<C, H>>,
-    operator: (Client, Post<C, H>),
+    crew: Crew<C, H>,
     pages: C,
     clock: &K,
     hold: H,
     board: &Mutex<Board>,
     wake: &W,
     limits: WorkerLimits,
-    collected: Collected,
 ) -> Result<(Taker, Applier, Collected), Unstarted>
     requires taker { (parts.0.gate ≡ gate.now) × (parts.0.ended ≡ [])
         × (items_of_records parts.1.records ≡ parts.0.taken) }
     requires closer { parts.2.cell ≡ gate.now.cell }
-    requires clients { clients.items ≡ new_clients gate.now (length clients.items) }
-    requires posts { vec_len posts ≡ vec_len clients }
-    requires operator { (operator.0.gate ≡ gate.now) × (operator.0.queued ≡ []) }
-    requires none { collected.ended.items ≡ [] }
-    requires room { (vec_len clients + 1 ≤ collected.ended.cap)
-        × (vec_len clients + 1 ≤ collected.reports.cap) }
+    requires clients { crew.clients.items ≡ new_clients gate.now (length crew.clients.items) }
+    requires posts { vec_len crew.posts ≡ vec_len crew.clients }
+    requires operator { (crew.operator.0.gate ≡ gate.now) × (crew.operator.0.queued ≡ []) }
+    requires none { crew.collected.ended.items ≡ [] }
+    requires room { (vec_len crew.clients + 1 ≤ crew.collected.ended.cap)
+        × (vec_len crew.clients + 1 ≤ crew.collected.reports.cap) }
     ensures taker { IfOk result (λ end. (end.0.gate ≡ gate.now) × (end.0.ended ≡ [])
         × (items_of_records end.1.records ≡ end.0.taken)) }
     ensures same { IfOk result (λ end. IsSameLog parts.1 end.1) }
     ensures all { IfOk result (λ end. numbers_of end.2.ended.items
-        ≡ operator.0.number ∷ numbers_after 0 (length clients.items)) }
+        ≡ crew.operator.0.number ∷ numbers_after 0 (length crew.clients.items)) }
     ensures gates { IfOk result (λ end. AreOf gate.now end.2.ended.items) }
 {
     thread::scope(
@@ -340,21 +349,20 @@ pub(crate) fn run_scoped<
             requires { ((parts.0.gate ≡ gate.now) × (parts.0.ended ≡ [])
                 × (items_of_records parts.1.records ≡ parts.0.taken))
                 × (parts.2.cell ≡ gate.now.cell)
-                × (clients.items ≡ new_clients gate.now (length clients.items))
-                × (vec_len posts ≡ vec_len clients)
-                × ((operator.0.gate ≡ gate.now) × (operator.0.queued ≡ []))
-                × (collected.ended.items ≡ [])
-                × ((vec_len clients + 1 ≤ collected.ended.cap)
-                × (vec_len clients + 1 ≤ collected.reports.cap)) }
+                × (crew.clients.items ≡ new_clients gate.now (length crew.clients.items))
+                × (vec_len crew.posts ≡ vec_len crew.clients)
+                × ((crew.operator.0.gate ≡ gate.now) × (crew.operator.0.queued ≡ []))
+                × (crew.collected.ended.items ≡ [])
+                × ((vec_len crew.clients + 1 ≤ crew.collected.ended.cap)
+                × (vec_len crew.clients + 1 ≤ crew.collected.reports.cap)) }
             ensures { IfOk result (λ end. ((end.0.gate ≡ gate.entry.now) × (end.0.ended ≡ [])
                 × (items_of_records end.1.records ≡ end.0.taken)) × IsSameLog parts.1 end.1
                 × (numbers_of end.2.ended.items
-                ≡ operator.0.number ∷ numbers_after 0 (length clients.items))
+                ≡ crew.operator.0.number ∷ numbers_after 0 (length crew.clients.items))
                 × AreOf gate.entry.now end.2.ended.items) }
         {
             run_threads(
-                rt, alloc, scope, gate, parts, clients, posts, operator, pages, clock, hold, board,
-                wake, limits, collected,
+                rt, alloc, scope, gate, parts, crew, pages, clock, hold, board, wake, limits,
             )
         },
     )
