@@ -1,3 +1,4 @@
 pub mod Numbers
 pub mod Applying
+pub mod Faults
 pub mod inner

@@ -1,2 +1,3 @@
 pub mod Serving
 pub mod Collecting
+pub mod Opening

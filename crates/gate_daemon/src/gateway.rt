@@ -1,27 +1,31 @@
-ghost use Rattle.std.specs.Prelude.{All, ◌≡◌, ◌+◌, ◌≤◌, [], ◌∷◌, length, map, vec_len, IfOk, None};
+ghost use Rattle.std.specs.Prelude.{All, ◌≡◌, ℕ, ◌+◌, ◌≤◌, List, [], ◌∷◌, length, map, vec_len};
+ghost use Rattle.std.specs.Prelude.{IfOk, IfErr, None};
+ghost use Rattle.gate_model.specs.declared.object.ObjectLine.{ObjectLine};
 ghost use Rattle.gate_core.specs.Merge.{IsClient, of_client};
 ghost use Rattle.gate_queue.specs.Client.{client_state};
 ghost use Rattle.gate_queue.specs.Opening.{new_clients};
 ghost use Rattle.gate_queue.specs.DrainedClose.{items_of_records};
-ghost use Rattle.gate_applier.specs.Applier.{opened};
 ghost use Rattle.gate_daemon.specs.Numbers.{item_numbers, numbers_after, reported_numbers};
 ghost use Rattle.gate_daemon.specs.Applying.{IsSameLog};
+ghost use Rattle.gate_daemon.specs.Faults.{IsGatewayFault};
+ghost use Rattle.gate_daemon.specs.declared.gateway.GatewayFault.TheVariants.{OutOfMemory};
 ghost use Rattle.gate_daemon.specs.inner.Collecting.{numbers_of, AreOf};
+ghost use Rattle.gate_daemon.specs.inner.Opening.{IsUnopened};
 
 use crate::collected::Collected;
 use crate::connections::{Connections, Hold, Wake, Watch};
+use crate::opening::{Opening, Parts, Unopened, open_parts};
 use crate::settings::{Config, WorkerLimits};
 use crate::starting::{Post, Unstarted};
 use crate::threads::{Crew, run_scoped};
 use gate_applier::{Applier, OpenCause};
 use gate_core::OpenFault;
-use gate_model::{Moment, ObjectTable};
-use gate_pages::Board;
-use gate_queue::{Client, CloseAllFault, Closed, Closer, Gate, Taker, close_all, open};
+use gate_model::Moment;
+use gate_queue::{CloseAllFault, Closed, Gate, Taker, close_all};
 use gate_reader::Report;
 use std::alloc::{AllocError, Global};
 use std::fmt;
-use std::sync::{Mutex, Wait};
+use std::sync::Wait;
 use std::thread::Threads;
 use std::time::Clock;
 use thiserror::Error;
@@ -76,61 +80,23 @@ impl fmt::Debug for GatewayFault {
 }
 
 impl From<AllocError> for GatewayFault {
+    ghost from_gives = { λ _ fault. fault ≡ OutOfMemory };
+
     fn from(_: AllocError) -> GatewayFault {
         GatewayFault::OutOfMemory
     }
 }
 
-// A gate's parts; the last of its clients is the operator's.
-#[derive(Drop)]
-struct Opening {
-    gate: Gate,
-    taker: Taker,
-    closer: Closer,
-    clients: Vec<Client>,
-    last: Client,
-}
-
-// Opens a gate for so many workers and the operator.
-fn open_gate(alloc: Global, workers: u32, capacity: usize) -> Result<Opening, GatewayFault>
-    requires { workers ≤ 63 }
-    ensures gate { IfOk result (λ opening. opening.gate.limits.clients ≡ workers + 1) }
-    ensures taker { IfOk result (λ opening. (opening.taker.gate ≡ opening.gate)
-        × (opening.taker.ended ≡ []) × (opening.taker.taken ≡ [])) }
-    ensures closer { IfOk result (λ opening. opening.closer.cell ≡ opening.gate.cell) }
-    ensures clients { IfOk result (λ opening.
-        opening.clients.items ≡ new_clients opening.gate workers) }
-    ensures count { IfOk result (λ opening. length opening.clients.items ≡ workers) }
-    ensures last { IfOk result (λ opening.
-        opening.last ≡ client_state opening.gate (workers + 1) [] None) }
+// The fault of a gateway that can't be opened.
+fn fault_of(unopened: Unopened) -> GatewayFault
+    ensures { (workers capacity limit : ℕ) (table : List ObjectLine)
+        → IsUnopened workers capacity limit unopened
+        → IsGatewayFault workers capacity limit table result }
 {
-    match open(alloc, workers + 1, capacity) {
-        Ok((gate, taker, closer, mut clients)) => match clients.pop() {
-            Some(last) => Ok(Opening {
-                gate,
-                taker,
-                closer,
-                clients,
-                last,
-            }),
-            None => unreachable!(),
-        },
-        Err(fault) => Err(GatewayFault::Queue(fault)),
-    }
-}
-
-// Opens an applier.
-fn open_applier(
-    alloc: Global,
-    table: ObjectTable,
-    moment: Moment,
-    limit: u32,
-) -> Result<Applier, GatewayFault>
-    ensures { IfOk result (λ applier. applier ≡ opened table moment limit) }
-{
-    match Applier::open(alloc, table, moment, limit) {
-        Ok(applier) => Ok(applier),
-        Err(fault) => Err(GatewayFault::Applier(fault.cause)),
+    match unopened {
+        Unopened::Queue(fault) => GatewayFault::Queue(fault),
+        Unopened::Applier(cause) => GatewayFault::Applier(cause),
+        Unopened::OutOfMemory => GatewayFault::OutOfMemory,
     }
 }
 
@@ -159,6 +125,8 @@ fn finish<R: Wait>(
     ensures items { IfOk result (λ finished. All (λ item. IsClient (workers + 1) item.client)
         (items_of_records finished.closed.applier.records)) }
     ensures same { IfOk result (λ finished. IsSameLog applier finished.closed.applier) }
+    ensures fault { IfErr result (λ fault.
+        (capacity : ℕ) → IsGatewayFault workers capacity applier.limit applier.table fault) }
 {
     let Collected { ended, reports } = collected;
     match close_all(rt, &gate, taker, ended, applier, now) {
@@ -169,52 +137,6 @@ fn finish<R: Wait>(
             reports,
         }),
     }
-}
-
-// A gateway's parts, before its threads start.
-#[derive(Drop)]
-struct Parts {
-    opening: Opening,
-    applier: Applier,
-    collected: Collected,
-    board: Mutex<Board>,
-}
-
-// Opens the gate and the applier, and makes room for what the workers return.
-fn open_parts(
-    alloc: Global,
-    workers: u32,
-    capacity: usize,
-    limit: u32,
-    table: ObjectTable,
-    now: Moment,
-) -> Result<Parts, GatewayFault>
-    requires { workers ≤ 63 }
-    ensures gate { IfOk result (λ parts. parts.opening.gate.limits.clients ≡ workers + 1) }
-    ensures taker { IfOk result (λ parts. (parts.opening.taker.gate ≡ parts.opening.gate)
-        × (parts.opening.taker.ended ≡ []) × (parts.opening.taker.taken ≡ [])) }
-    ensures closer { IfOk result (λ parts.
-        parts.opening.closer.cell ≡ parts.opening.gate.cell) }
-    ensures clients { IfOk result (λ parts.
-        parts.opening.clients.items ≡ new_clients parts.opening.gate workers) }
-    ensures count { IfOk result (λ parts. length parts.opening.clients.items ≡ workers) }
-    ensures last { IfOk result (λ parts.
-        parts.opening.last ≡ client_state parts.opening.gate (workers + 1) [] None) }
-    ensures applier { IfOk result (λ parts. parts.applier ≡ opened table now limit) }
-    ensures none { IfOk result (λ parts. parts.collected.ended.items ≡ []) }
-    ensures room { IfOk result (λ parts. (workers + 1 ≤ parts.collected.ended.cap)
-        × (workers + 1 ≤ parts.collected.reports.cap)) }
-{
-    let opening = open_gate(alloc, workers, capacity)?;
-    let applier = open_applier(alloc, table, now, limit)?;
-    let collected = Collected::with_room(alloc, workers as usize + 1)?;
-    let board = Mutex::new(Board::of(alloc, &applier)?);
-    Ok(Parts {
-        opening,
-        applier,
-        collected,
-        board,
-    })
 }
 
 // Runs a gateway that is opened, and drains it.
@@ -259,6 +181,8 @@ fn run_opened<
     ensures items { IfOk result (λ finished. All (λ item. IsClient (workers + 1) item.client)
         (items_of_records finished.closed.applier.records)) }
     ensures same { IfOk result (λ finished. IsSameLog parts.applier finished.closed.applier) }
+    ensures fault { IfErr result (λ fault.
+        (capacity : ℕ) → IsGatewayFault workers capacity parts.applier.limit parts.applier.table fault) }
 {
     let Parts {
         opening,
@@ -311,7 +235,9 @@ fn run_opened<
 ///
 /// It fails where the queue or the applier can't be opened, where memory is missing at the start,
 /// where a thread can't be started (all others are ended then as above), and where `close_all`
-/// fails. It waits for all of its threads. Own rule.
+/// fails, which is never for a client that is missing. Where it fails with LogFull or OutOfMemory,
+/// nothing is lost: the log and the items that are left hold what the reports answer with Queued.
+/// It waits for all of its threads. Own rule.
 pub fn run_gateway<
     R: Threads + Wait + Clock + Sync,
     C: Connections + Send + Drop,
@@ -347,6 +273,9 @@ pub fn run_gateway<
     // State and pages are what these records mean for the objects of the configuration.
     ensures table { IfOk result (λ finished. finished.closed.applier.table ≡ config.table) }
     ensures limit { IfOk result (λ finished. finished.closed.applier.limit ≡ config.limit) }
+
+    ensures fault { IfErr result (λ fault.
+        IsGatewayFault config.workers config.capacity config.limit config.table fault) }
 {
     let Config {
         workers,
@@ -359,6 +288,6 @@ pub fn run_gateway<
         Ok(parts) => run_opened(
             rt, alloc, parts, workers, posts, operator, pages, clock, hold, wake, worker,
         ),
-        Err(fault) => Err(fault),
+        Err(unopened) => Err(fault_of(unopened)),
     }
 }

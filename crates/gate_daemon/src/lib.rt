@@ -7,6 +7,7 @@ mod applying;
 mod collected;
 mod connections;
 mod gateway;
+mod opening;
 mod pausing;
 mod settings;
 mod showing;

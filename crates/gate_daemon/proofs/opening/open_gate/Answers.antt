@@ -2,7 +2,7 @@ use Rattle.std.proofs.Common.{sym, ap, ◌∙◌, ◌≡◌, ◌+◌, ℕ, suc, 
 use Rattle.gate_queue.specs.Client.{client_state}
 use Rattle.gate_queue.specs.Opening.{new_clients}
 use Rattle.gate_daemon.proofs.Clients.{last_client, length_clients}
-use Rattle.gate_daemon.proofs.gateway.open_gate.Goals as goal
+use Rattle.gate_daemon.proofs.opening.open_gate.Goals as goal
 
 pub returns-in-Some-clause-count : goal.returns-in-Some-clause-count
 returns-in-Some-clause-count c =

@@ -1,0 +1,136 @@
+ghost use Rattle.std.specs.Prelude.{◌≡◌, ℕ, ◌+◌, ◌≤◌, [], length, IfOk, IfErr, None};
+ghost use Rattle.gate_queue.specs.Client.{client_state};
+ghost use Rattle.gate_queue.specs.Opening.{new_clients};
+ghost use Rattle.gate_applier.specs.Applier.{opened};
+ghost use Rattle.gate_daemon.specs.declared.opening.Unopened.TheVariants.{OutOfMemory};
+ghost use Rattle.gate_daemon.specs.inner.Opening.{IsUnopened};
+
+use crate::collected::Collected;
+use gate_applier::{Applier, OpenCause};
+use gate_core::OpenFault;
+use gate_model::{Moment, ObjectTable};
+use gate_pages::Board;
+use gate_queue::{Client, Closer, Gate, Taker, open};
+use std::alloc::{AllocError, Global};
+use std::sync::Mutex;
+
+// Why a gateway can't be opened.
+#[derive(Clone, Copy)]
+pub(crate) enum Unopened {
+    Queue(OpenFault),
+    Applier(OpenCause),
+    OutOfMemory,
+}
+
+impl From<AllocError> for Unopened {
+    ghost from_gives = { λ _ fault. fault ≡ OutOfMemory };
+
+    fn from(_: AllocError) -> Unopened {
+        Unopened::OutOfMemory
+    }
+}
+
+// A gate's parts; the last of its clients is the operator's.
+#[derive(Drop)]
+pub(crate) struct Opening {
+    pub(crate) gate: Gate,
+    pub(crate) taker: Taker,
+    pub(crate) closer: Closer,
+    pub(crate) clients: Vec<Client>,
+    pub(crate) last: Client,
+}
+
+// Opens a gate for so many workers and the operator.
+fn open_gate(alloc: Global, workers: u32, capacity: usize) -> Result<Opening, Unopened>
+    requires { workers ≤ 63 }
+    ensures gate { IfOk result (λ opening. opening.gate.limits.clients ≡ workers + 1) }
+    ensures taker { IfOk result (λ opening. (opening.taker.gate ≡ opening.gate)
+        × (opening.taker.ended ≡ []) × (opening.taker.taken ≡ [])) }
+    ensures closer { IfOk result (λ opening. opening.closer.cell ≡ opening.gate.cell) }
+    ensures clients { IfOk result (λ opening.
+        opening.clients.items ≡ new_clients opening.gate workers) }
+    ensures count { IfOk result (λ opening. length opening.clients.items ≡ workers) }
+    ensures last { IfOk result (λ opening.
+        opening.last ≡ client_state opening.gate (workers + 1) [] None) }
+    ensures fault { IfErr result (λ fault. (limit : ℕ) → IsUnopened workers capacity limit fault) }
+{
+    match open(alloc, workers + 1, capacity) {
+        Ok((gate, taker, closer, mut clients)) => match clients.pop() {
+            Some(last) => Ok(Opening {
+                gate,
+                taker,
+                closer,
+                clients,
+                last,
+            }),
+            None => unreachable!(),
+        },
+        Err(fault) => Err(Unopened::Queue(fault)),
+    }
+}
+
+// Opens an applier, with the first board that its pages show.
+fn open_log(
+    alloc: Global,
+    table: ObjectTable,
+    moment: Moment,
+    limit: u32,
+) -> Result<(Applier, Mutex<Board>), Unopened>
+    ensures opened { IfOk result (λ log. log.0 ≡ opened table moment limit) }
+    ensures fault { IfErr result (λ fault.
+        (workers capacity : ℕ) → IsUnopened workers capacity limit fault) }
+{
+    match Applier::open(alloc, table, moment, limit) {
+        Ok(applier) => {
+            let board = Mutex::new(Board::of(alloc, &applier)?);
+            Ok((applier, board))
+        }
+        Err(fault) => Err(Unopened::Applier(fault.cause)),
+    }
+}
+
+// A gateway's parts, before its threads start.
+#[derive(Drop)]
+pub(crate) struct Parts {
+    pub(crate) opening: Opening,
+    pub(crate) applier: Applier,
+    pub(crate) collected: Collected,
+    pub(crate) board: Mutex<Board>,
+}
+
+// Makes room for what the workers return, and opens the applier and the gate.
+pub(crate) fn open_parts(
+    alloc: Global,
+    workers: u32,
+    capacity: usize,
+    limit: u32,
+    table: ObjectTable,
+    now: Moment,
+) -> Result<Parts, Unopened>
+    requires { workers ≤ 63 }
+    ensures gate { IfOk result (λ parts. parts.opening.gate.limits.clients ≡ workers + 1) }
+    ensures taker { IfOk result (λ parts. (parts.opening.taker.gate ≡ parts.opening.gate)
+        × (parts.opening.taker.ended ≡ []) × (parts.opening.taker.taken ≡ [])) }
+    ensures closer { IfOk result (λ parts.
+        parts.opening.closer.cell ≡ parts.opening.gate.cell) }
+    ensures clients { IfOk result (λ parts.
+        parts.opening.clients.items ≡ new_clients parts.opening.gate workers) }
+    ensures count { IfOk result (λ parts. length parts.opening.clients.items ≡ workers) }
+    ensures last { IfOk result (λ parts.
+        parts.opening.last ≡ client_state parts.opening.gate (workers + 1) [] None) }
+    ensures applier { IfOk result (λ parts. parts.applier ≡ opened table now limit) }
+    ensures none { IfOk result (λ parts. parts.collected.ended.items ≡ []) }
+    ensures room { IfOk result (λ parts. (workers + 1 ≤ parts.collected.ended.cap)
+        × (workers + 1 ≤ parts.collected.reports.cap)) }
+    ensures fault { IfErr result (λ fault. IsUnopened workers capacity limit fault) }
+{
+    let collected = Collected::with_room(alloc, workers as usize + 1)?;
+    let (applier, board) = open_log(alloc, table, now, limit)?;
+    let opening = open_gate(alloc, workers, capacity)?;
+    Ok(Parts {
+        opening,
+        applier,
+        collected,
+        board,
+    })
+}
