@@ -1,5 +1,5 @@
 -- What a gateway that did not finish reports. Own rules.
-use Rattle.std.specs.Prelude.{◌≡◌, ℕ, ◌+◌, ◌<◌, ⊥, List, ◌∷◌, ◌++◌, map, length, false}
+use Rattle.std.specs.Prelude.{◌≡◌, ℕ, ◌+◌, ◌<◌, List, ◌∷◌, ◌++◌, map, length, false}
 use Rattle.gate_model.specs.declared.object.ObjectLine.{ObjectLine}
 use Rattle.gate_model.specs.declared.submission.Numbered.{Numbered}
 use Rattle.gate_core.specs.Limits.{default_quota, IsOpenFault}
@@ -40,4 +40,4 @@ IsGatewayFault workers capacity limit table (fault.CloseAll gate drain reports) 
     × CanClose gate (close_parts drain.taker drain.ended.items drain.applier)
     × (drain.applier.table ≡ table) × (drain.applier.limit ≡ limit)
     × IsDrainFault drain.cause (map (λ pair. pair.0) reports.items)
-        (map (λ pair. reported_numbers pair.1.items) reports.items) drain.applier
+    (map (λ pair. reported_numbers pair.1.items) reports.items) drain.applier
