@@ -45,7 +45,8 @@ def check(what, found, expected):
 class Daemon:
     """A running `nscagate serve`, and the addresses that it printed."""
 
-    def __init__(self, program, folder, configuration):
+    def __init__(self, program, folder, configuration, host="127.0.0.1"):
+        self.host = host
         path = os.path.join(folder, "gateway.toml")
         with open(path, "w", encoding="latin-1") as file:
             file.write(configuration)
@@ -59,7 +60,7 @@ class Daemon:
             self.ports[name] = int(words[1].rsplit(":", 1)[1])
 
     def connect(self, name):
-        connection = socket.create_connection(("127.0.0.1", self.ports[name]), PATIENCE)
+        connection = socket.create_connection((self.host, self.ports[name]), PATIENCE)
         connection.settimeout(PATIENCE)
         return connection
 
@@ -241,6 +242,36 @@ def play_few_sessions(program, folder):
     check("all is logged", output.split("\n", 1)[0], "log 4")
 
 
+def play_a_silent_sender(program, folder):
+    """A sender that connects and sends nothing is let go of after 10 seconds, and the next one is served."""
+    daemon = Daemon(program, folder, CONFIGURATION)
+    with daemon.connect("agents") as silent:
+        check("a silent sender is greeted", len(read_exactly(silent, 132)), 132)
+        began = time.monotonic()
+        send(daemon, [(b"web1", b"HTTP", 2, b"after the silence")])
+        waited = time.monotonic() - began
+        check("the next sender waits for some 10 seconds", 8 < waited < 15, True)
+        check("the silent sender is let go of", read_all(silent), b"")
+    check("what the next one sent is applied", "CRITICAL" in daemon.page_with("CRITICAL"), True)
+    check("a daemon with a silent sender closes", ask(daemon, "[1] SHUTDOWN_PROGRAM"), ["closing"])
+    check("its status", daemon.end()[0], 0)
+
+
+def play_on_version_6(program, folder):
+    """All three addresses may be of version 6 of the protocol, where the machine has it."""
+    try:
+        with socket.create_server(("::1", 0), family=socket.AF_INET6):
+            pass
+    except OSError:
+        print("addresses of version 6 ... skipped: this machine has none")
+        return
+    daemon = Daemon(program, folder, CONFIGURATION.replace("127.0.0.1:0", "[::1]:0"), host="::1")
+    send(daemon, [(b"web1", b"HTTP", 1, b"by version 6")])
+    check("a result that came by version 6 is shown", "by version 6" in daemon.page_with("by version 6"), True)
+    check("an operator is answered by version 6", ask(daemon, "[1] SHUTDOWN_PROGRAM"), ["closing"])
+    check("the status by version 6", daemon.end()[0], 0)
+
+
 def refuse(program, folder, configuration, expected_status, expected_error):
     path = os.path.join(folder, "faulty.toml")
     with open(path, "w", encoding="latin-1") as file:
@@ -258,6 +289,8 @@ def main():
         play_a_full_log(program, folder)
         play_an_old_packet(program, folder)
         play_few_sessions(program, folder)
+        play_a_silent_sender(program, folder)
+        play_on_version_6(program, folder)
         refuse(program, folder, "colour = 1\n", 2, "config: UnknownKey colour")
         refuse(program, folder, "capacity = 0\n", 2, "config: BadValue capacity")
         missing = subprocess.run([program, "serve", "--config", os.path.join(folder, "nothing.toml")],
