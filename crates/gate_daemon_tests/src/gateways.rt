@@ -30,8 +30,8 @@ fn no_counts() -> Counts {
 // What a gateway left: how many records, how many clients were joined, and whose the first record
 // is; 0 where there is none. And how many packets were answered that they are queued.
 #[derive(Clone, Copy, Debug, PartialEq, Eq)]
-struct Left {
-    records: usize,
+pub struct Left {
+    pub records: usize,
     clients: usize,
     first: u32,
     queued: usize,
@@ -51,7 +51,7 @@ fn queued_by(worker: Option<&(u32, Vec<Report>)>) -> usize {
         .count()
 }
 
-fn left_by(finished: Result<Finished, GatewayFault>) -> Option<Left> {
+pub fn left_by(finished: Result<Finished, GatewayFault>) -> Option<Left> {
     let finished = finished.ok()?;
     let records = finished.closed.applier.records();
     Some(Left {

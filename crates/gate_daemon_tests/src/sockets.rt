@@ -1,7 +1,6 @@
 use crate::fakes::{config, packet};
-use gate_daemon::{
-    Accepted, Finished, GatewayFault, Knocks, NoHold, Post, SystemWatch, run_gateway,
-};
+use crate::gateways::left_by;
+use gate_daemon::{Accepted, Knocks, NoHold, Post, SystemWatch, run_gateway};
 use std::alloc::Global;
 use std::io::{Read, Write};
 use std::net::{Net, Shutdown, SocketAddr, TcpListener, TcpStream};
@@ -45,14 +44,7 @@ fn talk<R: Net<Listener = TcpListener, Stream = TcpStream>>(
     Ok(&queued == b"queued 1\n" && &page == b"status " && &closing == b"closing\n")
 }
 
-fn records(finished: Result<Finished, GatewayFault>) -> usize {
-    match finished {
-        Ok(finished) => finished.closed.applier.records().len(),
-        Err(_) => 0,
-    }
-}
-
-// Runs a gateway on these listeners.
+// Runs a gateway on these listeners: how many records it left.
 fn serve<R: Net<Listener = TcpListener, Stream = TcpStream> + Threads + Wait + Clock + Sync>(
     rt: &R,
     alloc: Global,
@@ -67,7 +59,7 @@ fn serve<R: Net<Listener = TcpListener, Stream = TcpStream> + Threads + Wait + C
         connections: Accepted::of_senders(rt, agents),
         hold: NoHold,
     });
-    Some(records(run_gateway(
+    let left = left_by(run_gateway(
         rt,
         alloc,
         config,
@@ -80,7 +72,8 @@ fn serve<R: Net<Listener = TcpListener, Stream = TcpStream> + Threads + Wait + C
         &SystemWatch { rt },
         NoHold,
         knocks,
-    )))
+    ))?;
+    Some(left.records)
 }
 
 fn is_served<R: Net<Listener = TcpListener, Stream = TcpStream> + Threads + Wait + Clock + Sync>(

@@ -48,19 +48,26 @@ fn result(alloc: Global, host: &str, code: i16, output: &[u8]) -> Option<Numbere
     })
 }
 
-fn applied(applier: Applier, item: Numbered, now: u32) -> Option<Applier> {
-    let ready = applier.prepare().ok()?;
+fn applied(applier: Option<Applier>, item: Option<Numbered>, now: u32) -> Option<Applier> {
+    let Some(item) = item else {
+        drop(applier);
+        return None;
+    };
+    let ready = applier?.prepare().ok()?;
     Some(ready.apply(item, Moment(now)).0)
 }
 
 /// A result of `web1` at 1100, and one of an unknown host once the clock went back to 1090.
 fn applied_twice(alloc: Global, limit: u32) -> Option<Applier> {
-    let applier = opened(alloc, limit)?;
-    let applier = applied(applier, result(alloc, "web1", 1, b"")?, 1100)?;
-    applied(applier, result(alloc, "db1", 0, b"")?, 1090)
+    let first = result(alloc, "web1", 1, b"");
+    let applier = applied(opened(alloc, limit), first, 1100);
+    applied(applier, result(alloc, "db1", 0, b""), 1090)
 }
 
-fn is_without_records(applier: &Applier, limit: u32) -> bool {
+fn is_without_records(applier: Option<Applier>, limit: u32) -> bool {
+    let Some(applier) = applier else {
+        return false;
+    };
     applier.opening() == Moment(1000)
         && applier.moment() == Moment(1000)
         && applier.limit() == limit
@@ -72,9 +79,8 @@ fn is_without_records(applier: &Applier, limit: u32) -> bool {
 #[test]
 fn a_log_may_be_limited_to_1_to_1000000_records(rt: HostRuntime) {
     for limit in [1, 1_000_000] {
-        let applier = opened(rt.alloc(), limit);
         assert!(rt;
-            applier.is_some_and(|applier| is_without_records(&applier, limit)),
+            is_without_records(opened(rt.alloc(), limit), limit),
             "{limit}"
         );
     }
@@ -96,7 +102,10 @@ fn other_limits_are_refused(rt: HostRuntime) {
     }
 }
 
-fn shows_both(applier: &Applier) -> bool {
+fn shows_both(applier: Option<Applier>) -> bool {
+    let Some(applier) = applier else {
+        return false;
+    };
     applier.moment() == Moment(1100)
         && applier.outcomes() == [Outcome::Accepted, Outcome::NoSuchHost].as_slice()
         && applier
@@ -108,28 +117,26 @@ fn shows_both(applier: &Applier) -> bool {
 
 #[test]
 fn a_clock_that_goes_back_records_at_the_latest_moment(rt: HostRuntime) {
-    let applier = applied_twice(rt.alloc(), 10);
-    assert!(rt; applier.is_some_and(|applier| shows_both(&applier)));
+    assert!(rt; shows_both(applied_twice(rt.alloc(), 10)));
 }
 
-fn prepare_cause(applier: Applier) -> Option<PrepareCause> {
-    let fault = applier.prepare().err()?;
+fn prepare_cause(applier: Option<Applier>) -> Option<PrepareCause> {
+    let fault = applier?.prepare().err()?;
     Some(fault.cause)
 }
 
 #[test]
 fn an_applier_at_its_limit_is_full(rt: HostRuntime) {
-    let cause = applied_twice(rt.alloc(), 2).and_then(prepare_cause);
+    let cause = prepare_cause(applied_twice(rt.alloc(), 2));
     assert_eq!(rt; cause, Some(PrepareCause::LogFull));
 }
 
-fn given_back(applier: Applier) -> Option<Applier> {
-    let ready = applier.prepare().ok()?;
+fn given_back(applier: Option<Applier>) -> Option<Applier> {
+    let ready = applier?.prepare().ok()?;
     Some(ready.give_back())
 }
 
 #[test]
 fn an_applier_that_is_given_back_shows_what_it_showed(rt: HostRuntime) {
-    let applier = applied_twice(rt.alloc(), 10).and_then(given_back);
-    assert!(rt; applier.is_some_and(|applier| shows_both(&applier)));
+    assert!(rt; shows_both(given_back(applied_twice(rt.alloc(), 10))));
 }
