@@ -13,6 +13,7 @@ use Rattle.gate_reader.specs.declared.report.Report.{Report}
 use Rattle.gate_reader.specs.Sink.{SinkState, Delivers, FailsOnce}
 use Rattle.gate_replay.specs.Replay.{IsReported}
 use Rattle.gate_pages.specs.LogPage.{log_text}
+use Rattle.gate_daemon.specs.Faults.{LosesNothing}
 use Rattle.gate_daemon.specs.Numbers.{item_numbers, reported_numbers}
 use Rattle.gate_config.specs.declared.config.Config.{Config}
 use Rattle.gate_config.specs.declared.fault.ConfigFault.{ConfigFault}
@@ -94,32 +95,52 @@ pub record IsRun (table : List ObjectLine) (limit : ℕ) (before after : SinkSta
   pub few : length records ≤ limit
   pub printed : FollowsAddresses before after (page_of table records)
 
--- a daemon ran so as some text configures it
-pub record IsServed (before after : SinkState) : Type 0 where
+-- a daemon of these objects was closed, and not all that was queued could be applied. With some items that are left, its
+-- records hold for each client the items that its reports answer with Queued, in that order. Of how many records there
+-- are, this holds. Its addresses were printed, and then the log page of these records
+pub record IsUnfinished (Count : ℕ → Type 0) (table : List ObjectLine) (before after : SinkState) : Type 0 where
+  pub records : List Record
+  pub reports : List (ℕ × List Report)
+  pub clients : map (λ pair. pair.0) reports ≡ 2 ∷ 1 ∷ []
+  pub none_lost : LosesNothing (2 ∷ 1 ∷ []) (map (λ pair. reported_numbers pair.1) reports) (items_of_records records)
+  pub count : Count (length records)
+  pub printed : FollowsAddresses before after (page_of table records)
+
+-- the log of a daemon of these objects is full: its records number the limit
+abbrev pub IsFull : List ObjectLine → ℕ → SinkState → SinkState → Type 0
+IsFull table limit before after = IsUnfinished (λ count. count ≡ limit) table before after
+
+-- memory ran out for a daemon of these objects: after its addresses nothing was printed, or the log page of fewer
+-- records than the limit
+abbrev pub IsStarved : List ObjectLine → ℕ → SinkState → SinkState → Type 0
+IsStarved table limit before after =
+    FollowsAddresses before after [] ⊎ IsUnfinished (λ count. count < limit) table before after
+
+-- a daemon of these objects stopped: after its addresses nothing was printed, or the log page of some records, at most
+-- as many as the limit
+abbrev pub IsStopped : List ObjectLine → ℕ → SinkState → SinkState → Type 0
+IsStopped table limit before after =
+    FollowsAddresses before after []
+    ⊎ ((records : List Record) × (length records ≤ limit) × FollowsAddresses before after (page_of table records))
+
+-- some text configures a daemon, and this holds for its objects and the limit of its log
+pub record IsServed (Ran : List ObjectLine → ℕ → Type 0) : Type 0 where
   pub text : List ℕ
   pub config : Config
   pub configured : Configures text config
-  pub run : IsRun config.table config.limits.limit before after
+  pub ran : Ran config.table config.limits.limit
 
--- the addresses were printed, and then the log page of some records
-abbrev pub IsLogPrinted : SinkState → SinkState → Type 0
-IsLogPrinted before after =
-    (table : List ObjectLine) × (records : List Record) × FollowsAddresses before after (page_of table records)
-
--- the addresses were printed, and then some text or none
-abbrev pub IsAnnounced : SinkState → SinkState → Type 0
-IsAnnounced before after = (page : List ℕ) × FollowsAddresses before after page
-
--- what is true of how the output grew, where a daemon ends without a fault or with this one. At OutOfMemory
--- nothing is claimed
+-- what is true of how the output grew, where a daemon ends without a fault or with this one. At OutOfMemory nothing was
+-- printed, or a call of the output failed, or the daemon had printed its addresses
 abbrev pub ServeEnds : SinkState → SinkState → Option ServeFault → Type 0
-ServeEnds before after None = IsServed before after
+ServeEnds before after None = IsServed (λ table limit. IsRun table limit before after)
 ServeEnds before after (Some fault.Unreadable) = after ≡ before
 ServeEnds before after (Some (fault.Config reported)) = IsFaulty reported × (after ≡ before)
 ServeEnds before after (Some (fault.Bind address)) = IsAddress address × (after ≡ before)
-ServeEnds before after (Some fault.LogFull) = IsLogPrinted before after
-ServeEnds before after (Some fault.OutOfMemory) = Unit {0}
-ServeEnds before after (Some fault.Spawn) = IsAnnounced before after
+ServeEnds before after (Some fault.LogFull) = IsServed (λ table limit. IsFull table limit before after)
+ServeEnds before after (Some fault.OutOfMemory) =
+    (after ≡ before) ⊎ FailsOnce before after ⊎ IsServed (λ table limit. IsStarved table limit before after)
+ServeEnds before after (Some fault.Spawn) = IsServed (λ table limit. IsStopped table limit before after)
 ServeEnds before after (Some fault.WriteFault) = FailsOnce before after
 
 -- the fault is reported in one line, and without a fault nothing is

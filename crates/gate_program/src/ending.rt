@@ -1,7 +1,7 @@
-ghost use Rattle.std.specs.Prelude.{◌≡◌, ◌⊎◌, ◌≤◌, length, IfErr, IfOk, IsErr, IsOk, OnOk};
-ghost use Rattle.gate_reader.specs.Sink.{sink_state, Delivers};
+ghost use Rattle.std.specs.Prelude.{◌≡◌, ◌≤◌, length, Err, IfErr, IfOk, IsErr, IsOk, OnOk};
+ghost use Rattle.gate_reader.specs.Sink.{SinkState, sink_state, Delivers};
 ghost use Rattle.gate_program.specs.Serve.{page_of};
-ghost use Rattle.gate_program.specs.inner.Serving.{IsWriteEnd, IsRunEnd};
+ghost use Rattle.gate_program.specs.inner.Serving.{IsWriteEnd, IsCloseEnd, IsRunEnd, fault_for};
 
 use crate::announcing::print;
 use crate::fault::ServeFault;
@@ -25,10 +25,9 @@ fn print_log<W: Sink>(alloc: Global, applier: &Applier, output: &mut W) -> Resul
     print(output, &page)
 }
 
-// Why a gateway did not apply all that was queued. A client is missing where its thread is.
+// The fault of a daemon whose gateway did not apply all. No client is ever missing.
 fn fault_of(cause: CloseAllCause) -> ServeFault
-    ensures { (result ≡ ServeFault.LogFull) ⊎ (result ≡ ServeFault.OutOfMemory)
-        ⊎ (result ≡ ServeFault.Spawn) }
+    ensures { result ≡ fault_for cause }
 {
     match cause {
         CloseAllCause::LogFull => ServeFault::LogFull,
@@ -41,7 +40,7 @@ fn fault_of(cause: CloseAllCause) -> ServeFault
 fn end_early<W: Sink>(alloc: Global, fault: CloseAllFault, output: &mut W) -> Result<(), ServeFault>
     ensures failed { IsErr result }
     ensures err { let state = sink_state W.contents W.pending W.failures in
-        IfErr result (IsRunEnd (state output.old) (state output.new)) }
+        IfErr result (IsCloseEnd fault.cause fault.applier (state output.old) (state output.new)) }
 {
     print_log(alloc, &fault.applier, output)?;
     Err(fault_of(fault.cause))
@@ -49,7 +48,7 @@ fn end_early<W: Sink>(alloc: Global, fault: CloseAllFault, output: &mut W) -> Re
 
 // The fault of a gateway that has no log.
 fn fault_without_log(fault: GatewayFault) -> ServeFault
-    ensures { (result ≡ ServeFault.OutOfMemory) ⊎ (result ≡ ServeFault.Spawn) }
+    ensures { (state : SinkState) → IsRunEnd (Err fault) state state result }
 {
     match fault {
         GatewayFault::Spawn => ServeFault::Spawn,
@@ -72,7 +71,7 @@ pub(crate) fn end<W: Sink>(
     ensures few { IfOk ran (λ finished. let applier = finished.closed.applier in
         length applier.records ≤ applier.limit) }
     ensures err { let state = sink_state W.contents W.pending W.failures in
-        IfErr result (IsRunEnd (state output.old) (state output.new)) }
+        IfErr result (IsRunEnd ran (state output.old) (state output.new)) }
 {
     match ran {
         Ok(finished) => print_log(alloc, &finished.closed.applier, output),

@@ -25,8 +25,9 @@ use std::time::Clock;
 /// The status is 0 where the daemon was shut down and all that was queued is applied and printed; 2
 /// where the file can't be read or configures nothing, and then nothing was printed; 4 where an
 /// address can't be bound, and then nothing was printed; 3 where the log is full with an item left,
-/// memory ran out, a thread can't be started or output failed. That a line can't be written to
-/// `errors` changes nothing. Own rules.
+/// memory ran out, a thread can't be started or output failed. Where the log is full, the addresses
+/// and the log page of all its records were printed. That a line can't be written to `errors` changes
+/// nothing. Own rules.
 pub fn run_serve<
     R: Files + Net<Listener = TcpListener, Stream = TcpStream> + Threads + Wait + Clock + Sync,
     W: Sink,

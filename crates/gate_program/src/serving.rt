@@ -1,5 +1,6 @@
-ghost use Rattle.std.specs.Prelude.{◌≡◌, ℕ, List, map, IfOk};
+ghost use Rattle.std.specs.Prelude.{◌≡◌, ℕ, List, map, IfErr, IfOk};
 ghost use Rattle.gate_reader.specs.Sink.{sink_state};
+ghost use Rattle.gate_daemon.specs.Faults.{IsGatewayFault};
 ghost use Rattle.gate_program.specs.Fault.{fault_in};
 ghost use Rattle.gate_program.specs.Serve.{Configures, ServeEnds, AreOfClients};
 ghost use Rattle.gate_program.specs.inner.Serving.{RunsOn};
@@ -69,6 +70,7 @@ fn run<R: Net<Listener = TcpListener, Stream = TcpStream> + Threads + Wait + Clo
         (map (λ pair. (pair.0, pair.1.items)) finished.reports.items)) }
     ensures table { IfOk result (λ finished. finished.closed.applier.table ≡ table) }
     ensures limit { IfOk result (λ finished. finished.closed.applier.limit ≡ limits.limit) }
+    ensures fault { IfErr result (IsGatewayFault 1 limits.capacity limits.limit table) }
 {
     let mut posts = Vec::with_capacity(alloc, 1)?;
     posts.push_reserved(post(Accepted::of_senders(rt, &listeners.agents.listener)));
@@ -143,9 +145,11 @@ fn serve_config<
 /// all that was queued could be applied.
 ///
 /// Unreadable, Config and Bind come before anything is printed: the file can't be read, it
-/// configures nothing, or an address can't be bound. LogFull is an item that finds the log full.
-/// Spawn is a thread that can't be started. WriteFault is a failed call of `output`, after which no
-/// other is made. OutOfMemory may come instead of any other answer. Own rules.
+/// configures nothing, or an address can't be bound. LogFull is an item that finds the log full: the
+/// log page has as many records as the limit, and nothing is lost, since with the items that are left
+/// they hold what was answered with Queued. Spawn is a thread that can't be started. WriteFault is a
+/// failed call of `output`, after which no other is made. OutOfMemory may come instead of any other
+/// answer; the log page is then printed only where it could be made. Own rules.
 pub fn serve<
     R: Files + Net<Listener = TcpListener, Stream = TcpStream> + Threads + Wait + Clock + Sync,
     W: Sink,

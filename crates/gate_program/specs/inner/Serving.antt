@@ -1,17 +1,22 @@
 -- Only proofs and private functions use this: how the steps of a daemon fail.
-use Rattle.std.specs.Prelude.{◌≡◌, ◌⊎◌, ◌<◌, ◌≤◌, ℕ, List, length, Option, Some, None}
+use Rattle.std.specs.Prelude.{◌≡◌, ◌⊎◌, ◌<◌, ◌≤◌, ℕ, List, length, Option, Some, None, Result, Ok, Err}
 use Rattle.toml.specs.Data.{Members}
 use Rattle.gate_model.specs.declared.object.ObjectLine.{ObjectLine}
-use Rattle.gate_model.specs.declared.record.Record.{Record}
 use Rattle.gate_config.specs.declared.fault.ConfigFault.{ConfigFault}
 use Rattle.gate_config.specs.declared.fault.ConfigFault.TheVariants as config_fault
 use Rattle.gate_config.specs.Check.{IsFirstFault}
 use Rattle.gate_config.specs.Config.{IsDocument}
 use Rattle.gate_config.specs.Document.{document_checks}
 use Rattle.gate_reader.specs.Sink.{SinkState, Delivers, FailsOnce}
+use Rattle.gate_applier.specs.Applier.{ApplierView}
+use Rattle.gate_queue.specs.declared.drained_close.CloseAllCause.{CloseAllCause}
+use Rattle.gate_queue.specs.declared.drained_close.CloseAllCause.TheVariants as cause
+use Rattle.gate_daemon.specs.declared.gateway.Finished.{Finished}
+use Rattle.gate_daemon.specs.declared.gateway.GatewayFault.{GatewayFault}
+use Rattle.gate_daemon.specs.declared.gateway.GatewayFault.TheVariants as gateway_fault
 use Rattle.gate_program.specs.declared.fault.ServeFault.{ServeFault}
 use Rattle.gate_program.specs.declared.fault.ServeFault.TheVariants.{Unreadable, Config, Bind, LogFull, OutOfMemory, Spawn, WriteFault}
-use Rattle.gate_program.specs.Serve.{IsNoDocument, IsFaulty, page_of, IsRun, IsLogPrinted, IsAnnounced}
+use Rattle.gate_program.specs.Serve.{IsNoDocument, IsFaulty, page_of, IsRun, IsFull, IsStarved, IsStopped}
 
 -- a file can't be read
 abbrev pub IsFileEnd : ServeFault → Type 0
@@ -46,28 +51,50 @@ IsBindEnd P _ = ⊥
 
 -- a write failed, or memory ran out for what was to be written
 abbrev pub IsWriteEnd : SinkState → SinkState → ServeFault → Type 0
-IsWriteEnd before after OutOfMemory = Unit {0}
+IsWriteEnd before after OutOfMemory = (after ≡ before) ⊎ FailsOnce before after
 IsWriteEnd before after WriteFault = FailsOnce before after
 IsWriteEnd before after _ = ⊥
 
--- the log page of some records was printed
-abbrev pub IsLogGiven : SinkState → SinkState → Type 0
-IsLogGiven before after =
-    (table : List ObjectLine) × (records : List Record) × Delivers before after (page_of table records)
+-- the daemon's fault where its gateway did not apply all for this cause
+abbrev pub fault_for : CloseAllCause → ServeFault
+fault_for cause.LogFull = LogFull
+fault_for cause.OutOfMemory = OutOfMemory
+fault_for cause.NotClosing = Spawn
+fault_for (cause.Missing client) = Spawn
 
--- a gateway ended with a fault, after a log page where it has one
-abbrev pub IsRunEnd : SinkState → SinkState → ServeFault → Type 0
-IsRunEnd before after LogFull = IsLogGiven before after
-IsRunEnd before after OutOfMemory = Unit {0}
-IsRunEnd before after Spawn = (after ≡ before) ⊎ IsLogGiven before after
-IsRunEnd before after WriteFault = FailsOnce before after
-IsRunEnd before after _ = ⊥
+-- the log page of this applier was printed
+pub record IsPageGiven (applier : ApplierView) (before after : SinkState) : Type 0 where
+  pub few : length applier.records ≤ applier.limit
+  pub printed : Delivers before after (page_of applier.table applier.records)
+
+-- a close that failed for this cause ended with a fault, after the log page of its applier
+abbrev pub IsCloseEnd : CloseAllCause → ApplierView → SinkState → SinkState → ServeFault → Type 0
+IsCloseEnd why applier before after LogFull = (why ≡ cause.LogFull) × IsPageGiven applier before after
+IsCloseEnd why applier before after OutOfMemory =
+    (after ≡ before) ⊎ FailsOnce before after ⊎ ((why ≡ cause.OutOfMemory) × IsPageGiven applier before after)
+IsCloseEnd why applier before after Spawn = IsPageGiven applier before after
+IsCloseEnd why applier before after WriteFault = FailsOnce before after
+IsCloseEnd why applier before after _ = ⊥
+
+-- a gateway that has no log ended with a fault
+abbrev pub IsLoglessEnd : SinkState → SinkState → ServeFault → Type 0
+IsLoglessEnd before after OutOfMemory = after ≡ before
+IsLoglessEnd before after Spawn = after ≡ before
+IsLoglessEnd before after _ = ⊥
+
+-- a gateway, which had ended so, ended with a fault
+abbrev pub IsRunEnd : Result Finished GatewayFault → SinkState → SinkState → ServeFault → Type 0
+IsRunEnd (Ok finished) before after found = IsWriteEnd before after found
+IsRunEnd (Err (gateway_fault.CloseAll gate drain reports)) before after found =
+    IsCloseEnd drain.cause drain.applier before after found
+IsRunEnd (Err _) before after found = IsLoglessEnd before after found
 
 -- a daemon of these objects, whose log has this limit, ended without a fault or with this one
 abbrev pub RunsOn : List ObjectLine → ℕ → SinkState → SinkState → Option ServeFault → Type 0
 RunsOn table limit before after None = IsRun table limit before after
-RunsOn table limit before after (Some LogFull) = IsLogPrinted before after
-RunsOn table limit before after (Some OutOfMemory) = Unit {0}
-RunsOn table limit before after (Some Spawn) = IsAnnounced before after
+RunsOn table limit before after (Some LogFull) = IsFull table limit before after
+RunsOn table limit before after (Some OutOfMemory) =
+    (after ≡ before) ⊎ FailsOnce before after ⊎ IsStarved table limit before after
+RunsOn table limit before after (Some Spawn) = IsStopped table limit before after
 RunsOn table limit before after (Some WriteFault) = FailsOnce before after
 RunsOn table limit before after (Some _) = ⊥

@@ -6,4 +6,4 @@ pub returns-in-Err-clause-replay : goal.returns-in-Err-clause-replay
 returns-in-Err-clause-replay g c = λ is. unknown_replay IsAllowed _ _ _ _ _ c.in-Err.fault c.from.result _ c.from.ensures c.in-Err.ensures.refused is c.end.ensures
 
 pub returns-in-Err-clause-serve : goal.returns-in-Err-clause-serve
-returns-in-Err-clause-serve g c = λ path is. unknown_serve path _ _ _ _ _ c.in-Err.fault c.from.result _ c.from.ensures c.in-Err.ensures.refused is c.end.ensures
+returns-in-Err-clause-serve g c = λ path is. unknown_serve path _ _ _ _ c.in-Err.fault c.from.result _ c.from.ensures c.in-Err.ensures.refused is c.end.ensures
