@@ -9,8 +9,9 @@ use std::thread::Threads;
 use std::time::Clock;
 use std::{io, thread};
 
-// Sends these bytes, and reads as many as it wants of the answer.
-fn tell<R: Net<Listener = TcpListener, Stream = TcpStream>>(
+// Sends these bytes, reads the beginning of the answer, and waits for what comes after it, since a
+// sender's connection ends once its packet is queued.
+fn exchange<R: Net<Listener = TcpListener, Stream = TcpStream>>(
     rt: &R,
     address: SocketAddr,
     bytes: &[u8],
@@ -19,7 +20,9 @@ fn tell<R: Net<Listener = TcpListener, Stream = TcpStream>>(
     let mut stream = TcpStream::connect(rt, address)?;
     stream.write_all(bytes)?;
     stream.shutdown(Shutdown::Write)?;
-    stream.read_exact(answer)
+    stream.read_exact(answer)?;
+    stream.read(&mut [0])?;
+    Ok(())
 }
 
 // A sender's packet, an operator's comment, a page, and then the shutdown.
@@ -29,18 +32,18 @@ fn talk<R: Net<Listener = TcpListener, Stream = TcpStream>>(
     bytes: &[u8],
 ) -> io::Result<bool> {
     let mut greeting = [0; 132];
-    tell(rt, addresses.0, bytes, &mut greeting)?;
+    exchange(rt, addresses.0, bytes, &mut greeting)?;
     let mut queued = [0; 9];
-    tell(
+    exchange(
         rt,
         addresses.1,
         b"[1] ADD_HOST_COMMENT;web1;0;ann;hi\n",
         &mut queued,
     )?;
     let mut page = [0; 7];
-    tell(rt, addresses.2, b"", &mut page)?;
+    exchange(rt, addresses.2, b"", &mut page)?;
     let mut closing = [0; 8];
-    tell(rt, addresses.1, b"[1] SHUTDOWN_PROGRAM\n", &mut closing)?;
+    exchange(rt, addresses.1, b"[1] SHUTDOWN_PROGRAM\n", &mut closing)?;
     Ok(&queued == b"queued 1\n" && &page == b"status " && &closing == b"closing\n")
 }
 
