@@ -4,7 +4,6 @@ use Rattle.std.specs.Prelude.{Result, Ok, Err, OnOk, IfOk, IfErr, IsOk}
 use Rattle.std.specs.declared.net.socket_addr.SocketAddr.{SocketAddr}
 use Rattle.std.proofs.lemmas.List.{append-nil}
 use Rattle.std.proofs.lemmas.Simd.{map-map}
-use Rattle.toml.specs.Data.{Members}
 use Rattle.gate_model.specs.declared.object.ObjectLine.{ObjectLine}
 use Rattle.gate_model.specs.declared.record.Record.{Record}
 use Rattle.gate_model.specs.declared.submission.Numbered.{Numbered}
@@ -16,11 +15,6 @@ use Rattle.gate_queue.specs.declared.drained_close.CloseAllCause.{CloseAllCause}
 use Rattle.gate_queue.specs.declared.drained_close.CloseAllCause.TheVariants as cause
 use Rattle.gate_queue.specs.DrainedClose.{items_of_records}
 use Rattle.gate_config.specs.declared.config.Config.{Config}
-use Rattle.gate_config.specs.declared.fault.ConfigFault.{ConfigFault}
-use Rattle.gate_config.specs.declared.fault.ConfigFault.TheVariants as config_fault
-use Rattle.gate_config.specs.Check.{IsFirstFault}
-use Rattle.gate_config.specs.Config.{IsDocument, IsConfigOf}
-use Rattle.gate_config.specs.Document.{document_checks}
 use Rattle.gate_reader.specs.Sink.{SinkState, Delivers, FailsOnce}
 use Rattle.gate_reader.specs.declared.report.Report.{Report}
 use Rattle.gate_daemon.specs.Numbers.{item_numbers, reported_numbers, numbers_after}
@@ -35,22 +29,14 @@ use Rattle.gate_words.specs.declared.words.WordsFault.TheVariants as words_fault
 use Rattle.gate_replay.specs.Replay.{IsReplayRun}
 use Rattle.gate_replay.specs.declared.fault.ReplayFault.TheVariants as replay_fault
 use Rattle.gate_replay.proofs.Outputs.{fails_then, delivers_on}
-use Rattle.gate_program.specs.declared.fault.ServeFault.{ServeFault}
-use Rattle.gate_program.specs.declared.fault.ServeFault.TheVariants as fault
+use Rattle.gate_setup.specs.declared.fault.ServeFault.{ServeFault}
+use Rattle.gate_setup.specs.declared.fault.ServeFault.TheVariants as fault
 use Rattle.gate_program.specs.declared.fault.ProgramFault.{ProgramFault}
-use Rattle.gate_program.specs.Fault.{fault_in}
+use Rattle.gate_setup.specs.Fault.{fault_in}
 use Rattle.gate_program.specs.Program.{program_fault, IsRefusal}
-use Rattle.gate_program.specs.Serve.{Configures, IsNoDocument, ServeEnds, IsServeRun, AreOfClients, FollowsAddresses, IsUnfinished, page_of, address_lines}
-use Rattle.gate_program.specs.inner.Serving.{IsWriteEnd, IsPageGiven, IsCloseEnd, IsLoglessEnd, IsRunEnd, IsReadFault, IsConfigEnd, IsBindEnd, RunsOn, fault_for}
-
--- a failed write, or no memory for it
-pub write_end : (before after : SinkState) (found : ServeFault) → (found ≡ fault.OutOfMemory) ⊎ (found ≡ fault.WriteFault) → FailsOnce before after → IsWriteEnd before after found
-write_end before after found (inl same) failed = subst (λ (f : ServeFault). IsWriteEnd before after f) (sym same) (inr failed)
-write_end before after found (inr same) failed = subst (λ (f : ServeFault). IsWriteEnd before after f) (sym same) failed
-
--- no memory for what was to be written
-pub unwritten : (state : SinkState) (found : ServeFault) → found ≡ fault.OutOfMemory → IsWriteEnd state state found
-unwritten state found same = subst (λ (f : ServeFault). IsWriteEnd state state f) (sym same) (inl refl)
+use Rattle.gate_setup.specs.Setup.{Configures, IsBindEnd, IsConfigEnd, IsWriteEnd, address_lines}
+use Rattle.gate_program.specs.Serve.{ServeEnds, IsServeRun, AreOfClients, FollowsAddresses, IsUnfinished, page_of}
+use Rattle.gate_program.specs.inner.Serving.{IsPageGiven, IsCloseEnd, IsLoglessEnd, IsRunEnd, RunsOn, fault_for}
 
 -- a failed write ends the end of a gateway that did not apply all
 pub write_ends_close : (why : CloseAllCause) (applier : ApplierView) (before after : SinkState) (found : ServeFault) → IsWriteEnd before after found → IsCloseEnd why applier before after found
@@ -137,28 +123,6 @@ unbound text config state fault.LogFull is k = absurd k
 unbound text config state fault.OutOfMemory is k = absurd k
 unbound text config state fault.Spawn is k = absurd k
 unbound text config state fault.WriteFault is k = absurd k
-
-abbrev read : Config → Result Config ConfigFault
-read config = Ok config
-
-abbrev not_read : ConfigFault → Result Config ConfigFault
-not_read found = Err found
-
--- a text that was read configures what was read
-pub configures_of : (text : List ℕ) (config : Config) → (1048576 < length text → read config ≡ Err config_fault.TooLarge) → (length text ≤ 1048576 → IsNoDocument text → (read config ≡ Err config_fault.NotToml) ⊎ (read config ≡ Err config_fault.OutOfMemory)) → ((document : Members) → IsDocument text document → IsConfigOf document config) → Configures text config
-configures_of text config too_large not_toml document = record {
-  not_large = λ large. let e = too_large large in absurd (cc);
-  is_document = λ small none. elim (not_toml small none) [ inl e ↦ absurd (cc) | inr e ↦ absurd (cc) ];
-  config_of = document;
-}
-
--- what is known where the reading of a text fails
-pub read_fault_of : (text : List ℕ) (found : ConfigFault) → (1048576 < length text → not_read found ≡ Err config_fault.TooLarge) → (length text ≤ 1048576 → IsNoDocument text → (not_read found ≡ Err config_fault.NotToml) ⊎ (not_read found ≡ Err config_fault.OutOfMemory)) → ((document : Members) → IsDocument text document → IsFirstFault (document_checks document) found) → IsReadFault text found
-read_fault_of text found too_large not_toml first = record {
-  too_large = λ large. let e = too_large large in cc;
-  not_toml = λ small none. elim (not_toml small none) [ inl e ↦ inl (cc) | inr e ↦ inr (cc) ];
-  first = first;
-}
 
 -- ---- a gateway of one worker of packets
 

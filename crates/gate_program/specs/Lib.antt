@@ -1,4 +1,3 @@
-pub mod Fault
 pub mod Program
 pub mod Serve
 pub mod inner

@@ -1,15 +1,15 @@
 ghost use Rattle.std.specs.Prelude.{◌≡◌, ◌≤◌, length, Err, IfErr, IfOk, IsErr, IsOk, OnOk};
 ghost use Rattle.gate_reader.specs.Sink.{SinkState, sink_state, Delivers};
+ghost use Rattle.gate_setup.specs.Setup.{IsWriteEnd};
 ghost use Rattle.gate_program.specs.Serve.{page_of};
-ghost use Rattle.gate_program.specs.inner.Serving.{IsWriteEnd, IsCloseEnd, IsRunEnd, fault_for};
+ghost use Rattle.gate_program.specs.inner.Serving.{IsCloseEnd, IsRunEnd, fault_for};
 
-use crate::announcing::print;
-use crate::fault::ServeFault;
 use gate_applier::Applier;
 use gate_daemon::{Finished, GatewayFault};
 use gate_pages::log_page;
 use gate_queue::{CloseAllCause, CloseAllFault};
 use gate_reader::Sink;
+use gate_setup::{ServeFault, print};
 use std::alloc::Global;
 
 // Prints the log page, and flushes.

@@ -3,15 +3,11 @@
 //! one line on standard error where it isn't 0.
 #![tactic(auto)]
 
-mod announcing;
-mod configuring;
 mod ending;
 mod fault;
-mod listening;
 mod program;
-mod reporting;
 mod serving;
 
-pub use fault::{ProgramFault, ServeFault};
+pub use fault::ProgramFault;
 pub use program::{run_program, run_serve};
 pub use serving::serve;

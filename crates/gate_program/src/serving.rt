@@ -1,21 +1,19 @@
 ghost use Rattle.std.specs.Prelude.{◌≡◌, ℕ, List, map, IfErr, IfOk};
 ghost use Rattle.gate_reader.specs.Sink.{sink_state};
 ghost use Rattle.gate_daemon.specs.Faults.{IsGatewayFault};
-ghost use Rattle.gate_program.specs.Fault.{fault_in};
-ghost use Rattle.gate_program.specs.Serve.{Configures, ServeEnds, AreOfClients};
+ghost use Rattle.gate_setup.specs.Fault.{fault_in};
+ghost use Rattle.gate_setup.specs.Setup.{Configures};
+ghost use Rattle.gate_program.specs.Serve.{ServeEnds, AreOfClients};
 ghost use Rattle.gate_program.specs.inner.Serving.{RunsOn};
 
-use crate::announcing::announce;
-use crate::configuring::configuration;
 use crate::ending::end;
-use crate::fault::ServeFault;
-use crate::listening::{Listeners, listen};
 use gate_config::{Config, Limits};
 use gate_daemon::{
     Accepted, Finished, GatewayFault, Knocks, NoHold, Post, SystemWatch, WorkerLimits, run_gateway,
 };
 use gate_model::ObjectTable;
 use gate_reader::{SessionLimits, Sink};
+use gate_setup::{Listeners, ServeFault, announce, configuration, listen};
 use std::alloc::Global;
 use std::fs::Files;
 use std::net::{Net, TcpListener, TcpStream};

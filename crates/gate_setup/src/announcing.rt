@@ -1,7 +1,6 @@
 ghost use Rattle.std.specs.Prelude.{◌≡◌, ◌⊎◌, ◌++◌, IfOk, IfErr, OnOk};
 ghost use Rattle.gate_reader.specs.Sink.{sink_state, Delivers};
-ghost use Rattle.gate_program.specs.Serve.{address_line, address_lines};
-ghost use Rattle.gate_program.specs.inner.Serving.{IsWriteEnd};
+ghost use Rattle.gate_setup.specs.Setup.{address_line, address_lines, IsWriteEnd};
 
 use crate::fault::ServeFault;
 use crate::reporting::report_line;
@@ -22,7 +21,7 @@ fn write_fault(error: &io::Error) -> ServeFault
 }
 
 /// Prints a text, and flushes.
-pub(crate) fn print<W: Sink>(output: &mut W, text: &[u8]) -> Result<(), ServeFault>
+pub fn print<W: Sink>(output: &mut W, text: &[u8]) -> Result<(), ServeFault>
     ensures ok { let state = sink_state W.contents W.pending W.failures in
         OnOk result (Delivers (state output.old) (state output.new) text.now) }
     ensures err { let state = sink_state W.contents W.pending W.failures in
@@ -65,7 +64,7 @@ fn address_lines(
 }
 
 /// Prints the three addresses, each on a line, and flushes.
-pub(crate) fn announce<W: Sink>(
+pub fn announce<W: Sink>(
     alloc: Global,
     agents: SocketAddr,
     operators: SocketAddr,

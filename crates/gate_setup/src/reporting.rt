@@ -5,7 +5,7 @@ use gate_reader::Sink;
 use std::io;
 
 /// Writes a text, and flushes.
-pub(crate) fn report_line<E: Sink>(errors: &mut E, line: &[u8]) -> io::Result<()>
+pub fn report_line<E: Sink>(errors: &mut E, line: &[u8]) -> io::Result<()>
     ensures ok { let state = sink_state E.contents E.pending E.failures in
         OnOk result (Delivers (state errors.old) (state errors.new) line.now) }
     ensures err { let state = sink_state E.contents E.pending E.failures in
@@ -16,7 +16,7 @@ pub(crate) fn report_line<E: Sink>(errors: &mut E, line: &[u8]) -> io::Result<()
 }
 
 /// Writes a line of two texts, and flushes.
-pub(crate) fn report_text<E: Sink>(errors: &mut E, before: &[u8], text: &[u8]) -> io::Result<()>
+pub fn report_text<E: Sink>(errors: &mut E, before: &[u8], text: &[u8]) -> io::Result<()>
     ensures ok { let state = sink_state E.contents E.pending E.failures in
         OnOk result (Delivers (state errors.old) (state errors.new)
         (before.now ++ text.now ++ codes "\n")) }

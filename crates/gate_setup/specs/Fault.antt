@@ -8,8 +8,8 @@ use Rattle.gate_config.specs.Keys.{name_of}
 use Rattle.gate_config.specs.declared.fault.ConfigFault.{ConfigFault}
 use Rattle.gate_config.specs.declared.fault.ConfigFault.TheVariants as config_fault
 use Rattle.gate_pages.specs.Escaping.{escaped}
-use Rattle.gate_program.specs.declared.fault.ServeFault.{ServeFault}
-use Rattle.gate_program.specs.declared.fault.ServeFault.TheVariants.{Unreadable, Config, Bind, LogFull, OutOfMemory, Spawn, WriteFault}
+use Rattle.gate_setup.specs.declared.fault.ServeFault.{ServeFault}
+use Rattle.gate_setup.specs.declared.fault.ServeFault.TheVariants.{Unreadable, Config, Bind, LogFull, OutOfMemory, Spawn, WriteFault}
 
 -- a fault of the object's line of this number
 abbrev pub line_text : ℕ → List ℕ → List ℕ

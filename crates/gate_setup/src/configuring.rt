@@ -1,8 +1,8 @@
 ghost use Rattle.std.specs.Prelude.{◌≡◌, ◌++◌, ℕ, List, IfOk, IfErr, codes};
 ghost use Rattle.gate_pages.specs.Escaping.{escaped};
-ghost use Rattle.gate_program.specs.Fault.{text_of, table_text, line_text};
-ghost use Rattle.gate_program.specs.Serve.{Configures};
-ghost use Rattle.gate_program.specs.inner.Serving.{IsFileEnd, IsReadFault, IsTextEnd, IsConfigEnd};
+ghost use Rattle.gate_setup.specs.Fault.{text_of, table_text, line_text};
+ghost use Rattle.gate_setup.specs.Setup.{Configures, IsConfigEnd};
+ghost use Rattle.gate_setup.specs.inner.Reading.{IsFileEnd, IsReadFault, IsTextEnd};
 
 use crate::fault::ServeFault;
 use gate_config::{CONFIG_BYTES, Config, ConfigFault, read_config};
@@ -121,11 +121,7 @@ fn configure(alloc: Global, text: &[u8]) -> Result<Config, ServeFault>
 }
 
 /// Reads the configuration in the file of this path.
-pub(crate) fn configuration<F: Files>(
-    files: &F,
-    alloc: Global,
-    path: &str,
-) -> Result<Config, ServeFault>
+pub fn configuration<F: Files>(files: &F, alloc: Global, path: &str) -> Result<Config, ServeFault>
     ensures ok { IfOk result (λ config. (text : List ℕ) × Configures text config) }
     ensures err { IfErr result IsConfigEnd }
 {

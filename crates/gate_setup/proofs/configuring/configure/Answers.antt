@@ -1,5 +1,5 @@
-use Rattle.gate_program.proofs.Steps.{configures_of, read_fault_of}
-use Rattle.gate_program.proofs.configuring.configure.Goals as goal
+use Rattle.gate_setup.proofs.Steps.{configures_of, read_fault_of}
+use Rattle.gate_setup.proofs.configuring.configure.Goals as goal
 
 pub returns-in-Ok-clause-ok : goal.returns-in-Ok-clause-ok
 returns-in-Ok-clause-ok c = configures_of c.args.text.now c.in-Ok.config c.in-Ok.ensures.too_large c.in-Ok.ensures.not_toml c.in-Ok.ensures.document

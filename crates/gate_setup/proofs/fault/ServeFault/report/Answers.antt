@@ -1,4 +1,4 @@
-use Rattle.gate_program.proofs.fault.ServeFault.report.Goals as goal
+use Rattle.gate_setup.proofs.fault.ServeFault.report.Goals as goal
 
 pub returns-in-Bind-clause-ok : goal.returns-in-Bind-clause-ok
 returns-in-Bind-clause-ok g c = rw (c.in-Bind.is) (rw (c.bytes-in-Bind.ensures) at c.report_text-in-Bind.ensures.ok)

@@ -1,5 +1,5 @@
 ghost use Rattle.std.specs.Prelude.{◌≡◌, ◌⊎◌, IfErr};
-ghost use Rattle.gate_program.specs.inner.Serving.{IsBindEnd};
+ghost use Rattle.gate_setup.specs.Setup.{IsBindEnd};
 
 use crate::fault::ServeFault;
 use gate_config::Address;
@@ -8,17 +8,17 @@ use std::net::{Net, SocketAddr, TcpListener, TcpStream};
 /// A listener with the address that it is bound to. Where a configuration has port 0, the system
 /// chose the port.
 #[derive(Drop)]
-pub(crate) struct Bound {
-    pub(crate) listener: TcpListener,
-    pub(crate) address: SocketAddr,
+pub struct Bound {
+    pub listener: TcpListener,
+    pub address: SocketAddr,
 }
 
 /// The daemon's three listeners.
 #[derive(Drop)]
-pub(crate) struct Listeners {
-    pub(crate) agents: Bound,
-    pub(crate) operators: Bound,
-    pub(crate) pages: Bound,
+pub struct Listeners {
+    pub agents: Bound,
+    pub operators: Bound,
+    pub pages: Bound,
 }
 
 fn bind<R: Net<Listener = TcpListener, Stream = TcpStream>>(
@@ -40,7 +40,7 @@ fn bind<R: Net<Listener = TcpListener, Stream = TcpStream>>(
 }
 
 /// Binds the addresses of agents, of operators and of pages, in this order.
-pub(crate) fn listen<R: Net<Listener = TcpListener, Stream = TcpStream>>(
+pub fn listen<R: Net<Listener = TcpListener, Stream = TcpStream>>(
     rt: &R,
     agents: Address,
     operators: Address,

@@ -1,0 +1,2 @@
+-- Only proofs and private functions use these.
+pub mod Reading
