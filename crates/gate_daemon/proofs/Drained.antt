@@ -49,19 +49,21 @@ any_number c (e ∷ es) = ap (λ b. eqb e.number c || b) (any_number c es)
 left_merged : {Y : Type 0} (workers : ℕ) (es : List ClientState) (rs : List Y) (number : Y → ℕ) (answered : Y → List ℕ) (log : List Numbered)
     → map {B = ℕ × List ℕ} (λ e. (e.number, item_numbers e.queued)) es ≡ map (λ r. (number r, answered r)) rs
     → numbers_of es ≡ suc workers ∷ numbers_after 0 workers
-    → LeavesSome (suc workers) (queued_by es []) log → LosesNothing (map number rs) (map answered rs) log
+    → LeavesSome (suc workers) (queued_by es []) log → LosesNothing (suc workers) (map number rs) (map answered rs) log
 left_merged workers es rs number answered log reported all leaves = record {
-  left = leaves.next ∷ leaves.rest;
+  next = leaves.next;
+  rest = leaves.rest;
   each = map_twice (λ c. item_numbers (of_client c (log ++ leaves.next ∷ leaves.rest))) number rs
       ∙ reports_agree es rs (λ x. x.number) (λ x. x.queued) number answered (log ++ leaves.next ∷ leaves.rest) reported
       (all_merged workers (log ++ leaves.next ∷ leaves.rest) es all leaves.merge);
+  items = leaves.merge.clients;
 }
 
 stopped_left : {Y : Type 0} (workers : ℕ) (now : Moment) (old new : CloseParts) (rs : List Y) (number : Y → ℕ) (answered : Y → List ℕ)
     → old.taker.ended ≡ []
     → map {B = ℕ × List ℕ} (λ e. (e.number, item_numbers e.queued)) old.clients ≡ map (λ r. (number r, answered r)) rs
     → numbers_of old.clients ≡ suc workers ∷ numbers_after 0 workers
-    → IsStopped (suc workers) now old new → LosesNothing (map number rs) (map answered rs) (items_of_records new.applier.records)
+    → IsStopped (suc workers) now old new → LosesNothing (suc workers) (map number rs) (map answered rs) (items_of_records new.applier.records)
 stopped_left workers now old new rs number answered none reported all stopped =
     left_merged workers old.clients rs number answered _ reported all
     (subst (λ (o : List EndedList). LeavesSome (suc workers) (queued_by old.clients o) (items_of_records new.applier.records)) none stopped.left)
@@ -70,7 +72,7 @@ pub drain_fault : {Y : Type 0} (why : CloseAllCause) (workers : ℕ) (now : Mome
     → old.taker.ended ≡ []
     → map {B = ℕ × List ℕ} (λ e. (e.number, item_numbers e.queued)) old.clients ≡ map (λ r. (number r, answered r)) rs
     → numbers_of old.clients ≡ suc workers ∷ numbers_after 0 workers
-    → IsCloseAllFault why (suc workers) now old new → IsDrainFault why (map number rs) (map answered rs) new.applier
+    → IsCloseAllFault why (suc workers) now old new → IsDrainFault (suc workers) why (map number rs) (map answered rs) new.applier
 drain_fault (cause.Missing c) workers now old new rs number answered none reported all fault =
     let missing : list_any (λ e. eqb e.number c) old.clients ≡ false = subst (λ (o : List EndedList). is_present old.clients o c ≡ false) none fault.0.missing in
     let found = any_number c old.clients ∙ ap (list_any (λ k. eqb k c)) all ∙ any_client workers c fault.0.client.0 fault.0.client.1 in

@@ -147,12 +147,12 @@ faults_of ran workers capacity of_capacity limit of_limit table of_table one sam
     (subst (λ (n : ℕ). IfErr ran (IsGatewayFault n capacity limit table)) one k)))
 
 -- it could not apply all, and loses nothing
-unfinished : {Reports : Type 0} (reports_of : Reports → List Report) (Count : ℕ → Type 0) (table : List ObjectLine) (before after : SinkState) (records : List Record) (pairs : List (ℕ × Reports)) → map (λ (pair : ℕ × Reports). pair.0) pairs ≡ 2 ∷ 1 ∷ [] → LosesNothing (map (λ (pair : ℕ × Reports). pair.0) pairs) (map (λ (pair : ℕ × Reports). reported_numbers (reports_of pair.1)) pairs) (items_of_records records) → Count (length records) → FollowsAddresses before after (page_of table records) → IsUnfinished Count table before after
+unfinished : {Reports : Type 0} (reports_of : Reports → List Report) (Count : ℕ → Type 0) (table : List ObjectLine) (before after : SinkState) (records : List Record) (pairs : List (ℕ × Reports)) → map (λ (pair : ℕ × Reports). pair.0) pairs ≡ 2 ∷ 1 ∷ [] → LosesNothing 2 (map (λ (pair : ℕ × Reports). pair.0) pairs) (map (λ (pair : ℕ × Reports). reported_numbers (reports_of pair.1)) pairs) (items_of_records records) → Count (length records) → FollowsAddresses before after (page_of table records) → IsUnfinished Count table before after
 unfinished {Reports = Reports} reports_of Count table before after records pairs clients lost count printed = record {
   records = records;
   reports = map (λ (pair : ℕ × Reports). (pair.0, reports_of pair.1)) pairs;
   clients = map-map _ _ pairs ∙ clients;
-  none_lost = subst (λ (answered : List (List ℕ)). LosesNothing (2 ∷ 1 ∷ []) answered (items_of_records records)) (sym (map-map _ _ pairs)) (subst (λ (numbers : List ℕ). LosesNothing numbers (map (λ (pair : ℕ × Reports). reported_numbers (reports_of pair.1)) pairs) (items_of_records records)) clients lost);
+  none_lost = subst (λ (answered : List (List ℕ)). LosesNothing 2 (2 ∷ 1 ∷ []) answered (items_of_records records)) (sym (map-map _ _ pairs)) (subst (λ (numbers : List ℕ). LosesNothing 2 numbers (map (λ (pair : ℕ × Reports). reported_numbers (reports_of pair.1)) pairs) (items_of_records records)) clients lost);
   count = count;
   printed = printed;
 }
@@ -188,12 +188,12 @@ fault_end (gateway_fault.CloseAll gate drain reports) table capacity limit a o p
 fault_end (gateway_fault.CloseAll gate drain reports) table capacity limit a o p before middle after (fault.Config text) printed known k = k
 fault_end (gateway_fault.CloseAll gate drain reports) table capacity limit a o p before middle after (fault.Bind text) printed known k = k
 fault_end (gateway_fault.CloseAll gate drain reports) table capacity limit a o p before middle after fault.LogFull printed (clients, can, of_table, of_limit, why) (is, given) =
-    let d = subst (λ (cause : CloseAllCause). IsDrainFault cause (map (λ pair. pair.0) reports.items) (map (λ pair. reported_numbers pair.1.items) reports.items) drain.applier) is why in
+    let d = subst (λ (cause : CloseAllCause). IsDrainFault 2 cause (map (λ pair. pair.0) reports.items) (map (λ pair. reported_numbers pair.1.items) reports.items) drain.applier) is why in
     unfinished (λ reports. reports.items) (λ count. count ≡ limit) table before after drain.applier.records reports.items clients d.0 (d.1 ∙ of_limit) (page_after table a o p before middle after drain.applier printed of_table given)
 fault_end (gateway_fault.CloseAll gate drain reports) table capacity limit a o p before middle after fault.OutOfMemory printed known (inl k) = inr (inr (inl (alone a o p before middle after printed k)))
 fault_end (gateway_fault.CloseAll gate drain reports) table capacity limit a o p before middle after fault.OutOfMemory printed known (inr (inl k)) = inr (inl (fails_after before middle after _ printed k))
 fault_end (gateway_fault.CloseAll gate drain reports) table capacity limit a o p before middle after fault.OutOfMemory printed (clients, can, of_table, of_limit, why) (inr (inr (is, given))) =
-    let d = subst (λ (cause : CloseAllCause). IsDrainFault cause (map (λ pair. pair.0) reports.items) (map (λ pair. reported_numbers pair.1.items) reports.items) drain.applier) is why in
+    let d = subst (λ (cause : CloseAllCause). IsDrainFault 2 cause (map (λ pair. pair.0) reports.items) (map (λ pair. reported_numbers pair.1.items) reports.items) drain.applier) is why in
     inr (inr (inr (unfinished (λ reports. reports.items) (λ count. count < limit) table before after drain.applier.records reports.items clients d.0 (subst (λ (n : ℕ). length drain.applier.records < n) of_limit d.1) (page_after table a o p before middle after drain.applier printed of_table given))))
 fault_end (gateway_fault.CloseAll gate drain reports) table capacity limit a o p before middle after fault.Spawn printed (clients, can, of_table, of_limit, why) given =
     inr (drain.applier.records, subst (λ (n : ℕ). length drain.applier.records ≤ n) of_limit given.few, page_after table a o p before middle after drain.applier printed of_table given)

@@ -47,14 +47,14 @@ pub record IsRun (table : List ObjectLine) (limit : ℕ) (before after : SinkSta
   pub few : length records ≤ limit
   pub printed : FollowsAddresses before after (page_of table records)
 
--- a daemon of these objects was closed, and not all that was queued could be applied. With some items that are left, its
--- records hold for each client the items that its reports answer with Queued, in that order. Of how many records there
--- are, this holds. Its addresses were printed, and then the log page of these records
+-- a daemon of these objects was closed, and not all that was queued could be applied. Its records, followed by at least
+-- one item that is left, hold for each client the items that its reports answer with Queued, in that order, and no
+-- others. Of how many records there are, this holds. Its addresses were printed, and then the log page of these records
 pub record IsUnfinished (Count : ℕ → Type 0) (table : List ObjectLine) (before after : SinkState) : Type 0 where
   pub records : List Record
   pub reports : List (ℕ × List Report)
   pub clients : map (λ pair. pair.0) reports ≡ 2 ∷ 1 ∷ []
-  pub none_lost : LosesNothing (2 ∷ 1 ∷ []) (map (λ pair. reported_numbers pair.1) reports) (items_of_records records)
+  pub none_lost : LosesNothing 2 (2 ∷ 1 ∷ []) (map (λ pair. reported_numbers pair.1) reports) (items_of_records records)
   pub count : Count (length records)
   pub printed : FollowsAddresses before after (page_of table records)
 
