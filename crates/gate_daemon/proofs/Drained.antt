@@ -10,7 +10,7 @@ use Rattle.gate_queue.specs.declared.drained_close.CloseAllCause.{CloseAllCause}
 use Rattle.gate_queue.specs.declared.drained_close.CloseAllCause.TheVariants as cause
 use Rattle.gate_queue.specs.Client.{ClientState}
 use Rattle.gate_queue.specs.DrainedClose.{is_present, queued_by, items_of_records, CloseParts, IsCloseAllFault, IsStopped, LeavesSome}
-use Rattle.gate_daemon.specs.Numbers.{item_numbers, numbers_after}
+use Rattle.gate_worker.specs.Numbers.{item_numbers, numbers_after}
 use Rattle.gate_daemon.specs.Faults.{LosesNothing, IsDrainFault}
 use Rattle.gate_daemon.specs.inner.Collecting.{numbers_of}
 use Rattle.gate_daemon.proofs.Joined.{all_merged, reports_agree, map_twice}

@@ -8,7 +8,7 @@ use Rattle.gate_queue.specs.declared.rule.EndedList.{EndedList}
 use Rattle.gate_queue.specs.Client.{ClientState}
 use Rattle.gate_queue.specs.Taker.{ended_list, queued_of}
 use Rattle.gate_queue.specs.DrainedClose.{lists_with, queued_by}
-use Rattle.gate_daemon.specs.Numbers.{item_numbers, numbers_after}
+use Rattle.gate_worker.specs.Numbers.{item_numbers, numbers_after}
 use Rattle.gate_daemon.specs.inner.Collecting.{numbers_of}
 
 -- ---- distinct numbers

@@ -9,7 +9,7 @@ use Rattle.gate_applier.specs.declared.applier.OpenCause.TheVariants.{BadLimit}
 use Rattle.gate_queue.specs.declared.drained_close.CloseAllCause.{CloseAllCause}
 use Rattle.gate_queue.specs.declared.drained_close.CloseAllCause.TheVariants as cause
 use Rattle.gate_queue.specs.DrainedClose.{items_of_records, close_parts, CanClose}
-use Rattle.gate_daemon.specs.Numbers.{item_numbers, numbers_after, reported_numbers}
+use Rattle.gate_worker.specs.Numbers.{item_numbers, numbers_after, reported_numbers}
 use Rattle.gate_daemon.specs.declared.gateway.GatewayFault.{GatewayFault}
 use Rattle.gate_daemon.specs.declared.gateway.GatewayFault.TheVariants as fault
 

@@ -1,4 +1,3 @@
-pub mod Numbers
 pub mod Applying
 pub mod Faults
 pub mod inner

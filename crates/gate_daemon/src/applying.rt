@@ -4,12 +4,11 @@ ghost use Rattle.gate_daemon.specs.declared.applying.ApplierStop.TheVariants.{Cl
 ghost use Rattle.gate_daemon.specs.Applying.{IsSameLog};
 ghost use Rattle.gate_daemon.specs.declared.applying.Step.TheVariants as step;
 
-use crate::connections::{Hold, Point, Watch};
-use crate::pausing::pause;
 use gate_applier::{Applier, PrepareCause, PrepareFault, Ready};
 use gate_model::{Moment, Numbered};
 use gate_pages::{Board, publish};
 use gate_queue::{Gate, Taker};
+use gate_worker::{Hold, Point, Watch, pause};
 use std::alloc::Global;
 use std::sync::{Mutex, Wait};
 use std::time::Clock;

@@ -1,10 +1,10 @@
 ghost use Rattle.std.specs.Prelude.{◌≡◌, ◌≤◌, ◌<◌, ◌++◌, [], ◌∷◌, length, map, IfOk};
-ghost use Rattle.gate_daemon.specs.Numbers.{reported_numbers};
+ghost use Rattle.gate_worker.specs.Numbers.{reported_numbers};
 ghost use Rattle.gate_daemon.specs.inner.Collecting.{queued_by_each};
 
-use crate::worker::WorkerEnd;
 use gate_queue::Ended;
 use gate_reader::Report;
+use gate_worker::WorkerEnd;
 use std::alloc::{AllocError, Global};
 
 /// What joined workers returned: their clients, and the reports of each with its number. The items

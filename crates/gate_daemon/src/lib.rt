@@ -5,23 +5,15 @@
 
 mod applying;
 mod collected;
-mod connections;
 mod gateway;
 mod opening;
-mod pausing;
 mod settings;
 mod showing;
-mod sockets;
 mod starting;
 mod threads;
-mod waiting;
-mod worker;
 
 pub use applying::{ApplierStop, run_applier};
-pub use connections::{Connections, Hold, NoHold, Point, SharedClock, Wake, Watch};
 pub use gateway::{Finished, GatewayFault, run_gateway};
-pub use settings::{Config, WorkerLimits};
+pub use settings::Config;
 pub use showing::run_pages;
-pub use sockets::{Accepted, Knocks, SystemWatch};
 pub use starting::Post;
-pub use worker::{Cause, WorkerEnd, run_worker};

@@ -1,18 +1,5 @@
 use gate_model::ObjectTable;
-use gate_reader::SessionLimits;
-
-/// How much a worker serves.
-#[derive(Clone, Copy, Debug, PartialEq, Eq)]
-pub struct WorkerLimits {
-    /// How many connections a worker serves at most: 1 to 1,000,000. A gateway's operator is served
-    /// without such a limit.
-    pub sessions: u32,
-    /// How many packets or lines each of them may have answered, 1 to 1,000,000, and how many reads
-    /// it may take, 1 to 4,294,967,295.
-    pub session: SessionLimits,
-    /// The greatest age of a packet in seconds: 0 to 900. With 0 no packet is stale.
-    pub greatest_age: u32,
-}
+use gate_worker::WorkerLimits;
 
 /// What a gateway is run with.
 #[derive(Drop)]

@@ -1,9 +1,8 @@
 ghost use Rattle.std.specs.Prelude.{◌≡◌};
 
-use crate::connections::Connections;
-use crate::pausing::pause;
 use gate_pages::{Board, status_page};
 use gate_reader::Sink;
+use gate_worker::{Connections, pause};
 use std::alloc::{AllocError, Global};
 use std::sync::{Mutex, Wait};
 use std::time::Clock;

@@ -3,12 +3,10 @@ ghost use Rattle.gate_queue.specs.DrainedClose.{items_of_records};
 ghost use Rattle.gate_daemon.specs.Applying.{IsSameLog};
 
 use crate::applying::{ApplierStop, run_applier};
-use crate::connections::{Connections, Hold, Watch};
-use crate::settings::WorkerLimits;
-use crate::worker::{WorkerEnd, run_worker};
 use gate_applier::Applier;
 use gate_pages::Board;
 use gate_queue::{Client, Closer, Gate, Taker};
+use gate_worker::{Connections, Hold, Watch, WorkerEnd, WorkerLimits, run_worker};
 use std::alloc::Global;
 use std::snapshot::Snapshot;
 use std::sync::{Mutex, Wait};

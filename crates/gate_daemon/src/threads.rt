@@ -1,22 +1,19 @@
 ghost use Rattle.std.specs.Prelude.{◌≡◌, ◌+◌, ◌≤◌, [], ◌∷◌, length, vec_len, IfOk, IsTrue};
 ghost use Rattle.gate_queue.specs.Opening.{new_clients};
 ghost use Rattle.gate_queue.specs.DrainedClose.{items_of_records};
-ghost use Rattle.gate_daemon.specs.Numbers.{numbers_after};
+ghost use Rattle.gate_worker.specs.Numbers.{numbers_after};
 ghost use Rattle.gate_daemon.specs.Applying.{IsSameLog};
 ghost use Rattle.gate_daemon.specs.inner.Collecting.{numbers_of, AreOf};
 
 use crate::collected::Collected;
-use crate::connections::{Connections, Hold, Wake, Watch};
-use crate::pausing::pause;
-use crate::settings::WorkerLimits;
 use crate::showing::run_pages;
 use crate::starting::{Post, Unstarted, start_applier, start_worker};
-use crate::worker::{Cause, WorkerEnd};
 use gate_applier::Applier;
 use gate_model::Moment;
 use gate_pages::{Board, publish};
 use gate_queue::{Client, CloseFault, Closer, Gate, Taker};
 use gate_reader::Stop;
+use gate_worker::{Cause, Connections, Hold, Wake, Watch, WorkerEnd, WorkerLimits, pause};
 use std::alloc::Global;
 use std::sync::{Mutex, Wait};
 use std::thread;

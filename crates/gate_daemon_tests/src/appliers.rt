@@ -3,9 +3,10 @@ ghost use Rattle.gate_queue.specs.DrainedClose.{items_of_records};
 
 use crate::fakes::{AlwaysAt, one_client};
 use gate_applier::Applier;
-use gate_daemon::{ApplierStop, NoHold, run_applier};
+use gate_daemon::{ApplierStop, run_applier};
 use gate_model::{Body, Moment, ObjectLine, ObjectTable, Text};
 use gate_pages::{Board, status_page};
+use gate_worker::NoHold;
 use std::alloc::Global;
 use std::sync::{Mutex, Wait};
 use std::time::Clock;

@@ -1,10 +1,11 @@
 ghost use Rattle.std.specs.Prelude.{◌≡◌, [], IfSome};
 
-use gate_daemon::{Config, Connections, Hold, Point, Wake, Watch, WorkerLimits};
+use gate_daemon::Config;
 use gate_model::{Moment, ObjectTable};
 use gate_packet::{PACKET_SIZE, Packet, encode};
 use gate_queue::{Client, Gate, Taker, open};
 use gate_reader::SessionLimits;
+use gate_worker::{Connections, Hold, Point, Wake, Watch, WorkerLimits};
 use std::alloc::Global;
 use std::sync::atomic::{AtomicU64, Ordering};
 use std::thread;

@@ -1,8 +1,9 @@
 ghost use Rattle.std.specs.Prelude.{◌≡◌};
 
 use crate::fakes::{AlwaysAt, Keeping, NoWake, Sending, config, packet};
-use gate_daemon::{Config, Finished, GatewayFault, Point, Post, run_gateway};
+use gate_daemon::{Config, Finished, GatewayFault, Post, run_gateway};
 use gate_reader::{Answer, Report};
+use gate_worker::Point;
 use std::alloc::Global;
 use std::sync::Wait;
 use std::sync::atomic::{AtomicU64, Ordering};

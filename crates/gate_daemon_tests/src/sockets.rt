@@ -1,6 +1,7 @@
 use crate::fakes::{config, packet};
 use crate::gateways::left_by;
-use gate_daemon::{Accepted, Knocks, NoHold, Post, SystemWatch, run_gateway};
+use gate_daemon::{Post, run_gateway};
+use gate_worker::{Accepted, Knocks, NoHold, SystemWatch};
 use std::alloc::Global;
 use std::io::{Read, Write};
 use std::net::{Net, Shutdown, SocketAddr, TcpListener, TcpStream};

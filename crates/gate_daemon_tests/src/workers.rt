@@ -1,9 +1,9 @@
 ghost use Rattle.std.specs.Prelude.{◌≡◌, []};
 
 use crate::fakes::{AlwaysAt, Sending, limits, one_client, packet};
-use gate_daemon::{Cause, NoHold, WorkerEnd, run_worker};
 use gate_queue::{Client, Gate, Taker};
 use gate_reader::{Answer, Report, Stop};
+use gate_worker::{Cause, NoHold, WorkerEnd, run_worker};
 use std::alloc::Global;
 use std::sync::Wait;
 use std::time::Clock;

@@ -17,7 +17,7 @@ use Rattle.gate_queue.specs.DrainedClose.{items_of_records}
 use Rattle.gate_config.specs.declared.config.Config.{Config}
 use Rattle.gate_reader.specs.Sink.{SinkState, Delivers, FailsOnce}
 use Rattle.gate_reader.specs.declared.report.Report.{Report}
-use Rattle.gate_daemon.specs.Numbers.{item_numbers, reported_numbers, numbers_after}
+use Rattle.gate_worker.specs.Numbers.{item_numbers, reported_numbers, numbers_after}
 use Rattle.gate_daemon.specs.declared.gateway.Finished.{Finished}
 use Rattle.gate_daemon.specs.Faults.{LosesNothing, IsDrainFault, IsGatewayFault}
 use Rattle.gate_daemon.specs.declared.gateway.GatewayFault.{GatewayFault}

@@ -12,7 +12,7 @@ use Rattle.gate_reader.specs.Sink.{SinkState, Delivers, FailsOnce}
 use Rattle.gate_replay.specs.Replay.{IsReported}
 use Rattle.gate_pages.specs.LogPage.{log_text}
 use Rattle.gate_daemon.specs.Faults.{LosesNothing}
-use Rattle.gate_daemon.specs.Numbers.{item_numbers, reported_numbers}
+use Rattle.gate_worker.specs.Numbers.{item_numbers, reported_numbers}
 use Rattle.gate_config.specs.declared.config.Config.{Config}
 use Rattle.gate_setup.specs.declared.fault.ServeFault.{ServeFault}
 use Rattle.gate_setup.specs.declared.fault.ServeFault.TheVariants as fault

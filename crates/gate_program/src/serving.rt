@@ -8,12 +8,11 @@ ghost use Rattle.gate_program.specs.inner.Serving.{RunsOn};
 
 use crate::ending::end;
 use gate_config::{Config, Limits};
-use gate_daemon::{
-    Accepted, Finished, GatewayFault, Knocks, NoHold, Post, SystemWatch, WorkerLimits, run_gateway,
-};
+use gate_daemon::{Finished, GatewayFault, Post, run_gateway};
 use gate_model::ObjectTable;
 use gate_reader::{SessionLimits, Sink};
 use gate_setup::{Listeners, ServeFault, announce, configuration, listen};
+use gate_worker::{Accepted, Knocks, NoHold, SystemWatch, WorkerLimits};
 use std::alloc::Global;
 use std::fs::Files;
 use std::net::{Net, TcpListener, TcpStream};

@@ -2,7 +2,7 @@
 use Rattle.std.specs.Prelude.{◌≡◌, ℕ, List, map, All}
 use Rattle.gate_queue.specs.Gate.{GateId}
 use Rattle.gate_queue.specs.Client.{ClientState}
-use Rattle.gate_daemon.specs.Numbers.{item_numbers}
+use Rattle.gate_worker.specs.Numbers.{item_numbers}
 
 -- the clients' numbers, in order
 abbrev pub numbers_of : List ClientState → List ℕ

@@ -4,7 +4,7 @@ use Rattle.gate_model.specs.declared.submission.Numbered.{Numbered}
 use Rattle.gate_core.specs.Merge.{IsMerge, IsClient}
 use Rattle.gate_queue.specs.declared.rule.EndedList.{EndedList}
 use Rattle.gate_queue.specs.DrainedClose.{queued_by, items_of_records, close_parts, IsCloseAllFault}
-use Rattle.gate_daemon.specs.Numbers.{numbers_after, reported_numbers}
+use Rattle.gate_worker.specs.Numbers.{numbers_after, reported_numbers}
 use Rattle.gate_daemon.specs.Faults.{IsDrainFault}
 use Rattle.gate_daemon.specs.inner.Collecting.{numbers_of}
 use Rattle.gate_daemon.proofs.Drained.{drain_fault, drain_same}
@@ -53,5 +53,5 @@ returns-in-Err-clause-fault g c capacity =
       (drain_same c.in-Err.fault.cause (suc w) c.args.now old new fault).0,
       (drain_same c.in-Err.fault.cause (suc w) c.args.now old new fault).1,
       subst (λ (n : ℕ). IsDrainFault n c.in-Err.fault.cause (map (λ p. p.0) rs) (map (λ p. reported_numbers p.1.items) rs) c.in-Err.fault.applier) (sym e)
-      (drain_fault c.in-Err.fault.cause w c.args.now old new rs (λ p. p.0) (λ p. reported_numbers p.1.items) c.requires.taker.1 c.args.collected.reported all fault),
+          (drain_fault c.in-Err.fault.cause w c.args.now old new rs (λ p. p.0) (λ p. reported_numbers p.1.items) c.requires.taker.1 c.args.collected.reported all fault),
     )

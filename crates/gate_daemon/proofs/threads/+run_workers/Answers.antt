@@ -1,9 +1,9 @@
 use Rattle.std.proofs.Common.{sym, ap, ◌∙◌, subst, ◌≡◌, ◌+◌, ℕ, suc, List, [], ◌∷◌, ◌++◌, length, refl, arith, length-append}
 use Rattle.std.proofs.lemmas.List.Elements.{All-push}
 use Rattle.gate_queue.specs.Client.{ClientState}
-use Rattle.gate_daemon.specs.Numbers.{numbers_after}
+use Rattle.gate_worker.specs.Numbers.{numbers_after}
 use Rattle.gate_daemon.specs.inner.Collecting.{numbers_of, AreOf}
-use Rattle.gate_daemon.proofs.Numbering.{numbers_after-next}
+use Rattle.gate_worker.proofs.Numbering.{numbers_after-next}
 use Rattle.gate_daemon.proofs.Clients.{last_client, numbers_of-append}
 use Rattle.gate_daemon.proofs.threads.+run_workers.Goals as goal
 

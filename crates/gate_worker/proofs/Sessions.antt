@@ -13,8 +13,8 @@ use Rattle.gate_reader.specs.Sink.{SinkState}
 use Rattle.gate_reader.specs.Session.{ClientView, Parties, Handled, SessionKind, LeadsTo, Queues, IsSession, queued_as, queued_among, answers_of, AreNumberedAfter}
 use Rattle.gate_reader.specs.Packets.{AnswersBlock, HandlesBlock, packets, IsPacketSession}
 use Rattle.gate_reader.specs.Lines.{OperatorView, AnswersLine, HandlesLine, lines, IsLineSession}
-use Rattle.gate_daemon.specs.Numbers.{number_in, queued_numbers, item_numbers, numbers_after}
-use Rattle.gate_daemon.proofs.Numbering.{item_numbers-append, numbers_of_items}
+use Rattle.gate_worker.specs.Numbers.{number_in, queued_numbers, item_numbers, numbers_after}
+use Rattle.gate_worker.proofs.Numbering.{item_numbers-append, numbers_of_items}
 
 -- an item that reports a body, or was not answered with Queued
 abbrev QueuedHasBody : Option Body → Answer → Type 0

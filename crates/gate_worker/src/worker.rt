@@ -1,10 +1,10 @@
 ghost use Rattle.std.specs.Prelude.{◌≡◌, [], length, IfSome, IsSome, vec_len};
-ghost use Rattle.gate_daemon.specs.declared.worker.Cause.TheVariants.{Closing, TooManySessions};
-ghost use Rattle.gate_daemon.specs.Numbers.{item_numbers, numbers_after, reported_numbers};
-ghost use Rattle.gate_daemon.specs.inner.Serving.{Extends};
+ghost use Rattle.gate_worker.specs.declared.worker.Cause.TheVariants.{Closing, TooManySessions};
+ghost use Rattle.gate_worker.specs.Numbers.{item_numbers, numbers_after, reported_numbers};
+ghost use Rattle.gate_worker.specs.inner.Serving.{Extends};
 
 use crate::connections::{Connections, Hold, Point, SharedClock, Watch};
-use crate::settings::WorkerLimits;
+use crate::limits::WorkerLimits;
 use crate::waiting::WaitingClient;
 use gate_queue::{Client, Closer, Ended, Gate, GateOperator};
 use gate_reader::{Report, Sink, Source, serve_lines, serve_packets};

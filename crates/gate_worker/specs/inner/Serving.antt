@@ -2,7 +2,7 @@
 use Rattle.std.specs.Prelude.{◌≡◌, List, ◌++◌, length}
 use Rattle.gate_model.specs.declared.submission.Numbered.{Numbered}
 use Rattle.gate_reader.specs.declared.report.Answer.{Answer}
-use Rattle.gate_daemon.specs.Numbers.{queued_numbers, item_numbers, numbers_after}
+use Rattle.gate_worker.specs.Numbers.{queued_numbers, item_numbers, numbers_after}
 
 -- more items were queued: their numbers are those that were answered with Queued, and go on from the old ones
 abbrev pub Extends : List Numbered → List Numbered → List Answer → Type 0

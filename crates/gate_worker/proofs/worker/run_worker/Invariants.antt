@@ -1,7 +1,7 @@
 use Rattle.std.proofs.Common.{◌≡◌, length}
 use Rattle.std.specs.Prelude.{IfSome}
-use Rattle.gate_daemon.specs.Numbers.{item_numbers, numbers_after, reported_numbers}
-use Rattle.gate_daemon.proofs.worker.run_worker.Given as goal
+use Rattle.gate_worker.specs.Numbers.{item_numbers, numbers_after, reported_numbers}
+use Rattle.gate_worker.proofs.worker.run_worker.Given as goal
 
 abbrev pub invariant-loop : goal.invariant-loop
 invariant-loop g l =

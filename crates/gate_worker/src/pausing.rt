@@ -7,12 +7,12 @@ const PAUSE_MILLIS: u64 = 2;
 // A tenth of the applier's pause: a queue that it has emptied isn't left empty for long.
 const SHORT_PAUSE_MICROS: u64 = 200;
 
-/// Waits before what can't be done yet is tried again.
-pub(crate) fn pause<R: Clock>(rt: &R) {
+/// Waits 2 ms, before what can't be done yet is tried again.
+pub fn pause<R: Clock>(rt: &R) {
     thread::sleep(rt, Duration::from_millis(PAUSE_MILLIS));
 }
 
-/// Waits before a full queue is tried again.
+/// Waits 0.2 ms, before a full queue is tried again.
 pub(crate) fn pause_shortly<R: Clock>(rt: &R) {
     thread::sleep(rt, Duration::from_micros(SHORT_PAUSE_MICROS));
 }

@@ -1,6 +1,6 @@
 use Rattle.std.proofs.Common.{sym, ap, ◌∙◌, subst}
-use Rattle.gate_daemon.proofs.Sessions.{lines_grow}
-use Rattle.gate_daemon.proofs.worker.serve_operator.Goals as goal
+use Rattle.gate_worker.proofs.Sessions.{lines_grow}
+use Rattle.gate_worker.proofs.worker.serve_operator.Goals as goal
 
 pub returns-clause-queued : goal.returns-clause-queued
 returns-clause-queued g c =

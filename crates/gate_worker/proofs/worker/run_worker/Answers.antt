@@ -1,8 +1,8 @@
 use Rattle.std.proofs.Common.{rules, sym, ap, ◌∙◌, subst, ◌≡◌, List, [], ◌∷◌, ◌++◌, length}
-use Rattle.gate_daemon.specs.Numbers.{item_numbers, numbers_after, reported_numbers}
-use Rattle.gate_daemon.specs.inner.Serving.{Extends}
-use Rattle.gate_daemon.proofs.Numbering.{reported_next}
-use Rattle.gate_daemon.proofs.worker.run_worker.Goals as goal
+use Rattle.gate_worker.specs.Numbers.{item_numbers, numbers_after, reported_numbers}
+use Rattle.gate_worker.specs.inner.Serving.{Extends}
+use Rattle.gate_worker.proofs.Numbering.{reported_next}
+use Rattle.gate_worker.proofs.worker.run_worker.Goals as goal
 
 pub loop-preserved : goal.loop-preserved
 loop-preserved g c =

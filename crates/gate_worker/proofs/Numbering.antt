@@ -4,8 +4,8 @@ use Rattle.std.proofs.lemmas.List.{append-nil, append_assoc, map-append}
 use Rattle.gate_model.specs.declared.submission.Numbered.{Numbered}
 use Rattle.gate_reader.specs.declared.report.Report.{Report}
 use Rattle.gate_reader.specs.Session.{AreNumberedAfter}
-use Rattle.gate_daemon.specs.Numbers.{queued_numbers, reported_numbers, item_numbers, numbers_after}
-use Rattle.gate_daemon.specs.inner.Serving.{Extends}
+use Rattle.gate_worker.specs.Numbers.{queued_numbers, reported_numbers, item_numbers, numbers_after}
+use Rattle.gate_worker.specs.inner.Serving.{Extends}
 
 pub item_numbers-append : (xs ys : List Numbered) → item_numbers (xs ++ ys) ≡ item_numbers xs ++ item_numbers ys
 item_numbers-append [] ys = refl
