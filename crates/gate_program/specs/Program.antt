@@ -7,8 +7,7 @@ use Rattle.gate_words.specs.declared.words.WordsFault.{WordsFault}
 use Rattle.gate_words.specs.declared.words.WordsFault.TheVariants as words
 use Rattle.gate_program.specs.declared.fault.ProgramFault.{ProgramFault}
 use Rattle.gate_program.specs.declared.fault.ProgramFault.TheVariants.{BadArguments, OutOfMemory}
-use Rattle.gate_reader.specs.Sink.{SinkState}
-use Rattle.gate_replay.specs.Replay.{IsReported}
+use Rattle.gate_reader.specs.Sink.{SinkState, IsReported}
 
 -- an error on the words is out of memory, or they are bad arguments
 pub record IsWordsFault (error : Error) (fault : ProgramFault) : Type 0 where

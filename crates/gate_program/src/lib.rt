@@ -3,11 +3,8 @@
 //! one line on standard error where it isn't 0.
 #![tactic(auto)]
 
-mod ending;
 mod fault;
 mod program;
-mod serving;
 
 pub use fault::ProgramFault;
-pub use program::{run_program, run_serve};
-pub use serving::serve;
+pub use program::run_program;

@@ -4,12 +4,12 @@ ghost use Rattle.gate_reader.specs.Sink.{sink_state};
 ghost use Rattle.gate_words.specs.Words.{asked_of, replay, serve};
 ghost use Rattle.gate_replay.specs.Replay.{IsReplayRun};
 ghost use Rattle.gate_program.specs.Program.{IsRefused};
-ghost use Rattle.gate_program.specs.Serve.{IsServeRun};
+ghost use Rattle.gate_serve.specs.Serve.{IsServeRun};
 
 use crate::fault::ProgramFault;
-use crate::serving::serve;
 use gate_reader::Sink;
 use gate_replay::run_replay;
+use gate_serve::run_serve;
 use gate_words::{Request, read_words};
 use std::alloc::Global;
 use std::fs::Files;
@@ -18,34 +18,6 @@ use std::net::{Net, TcpListener, TcpStream};
 use std::sync::Wait;
 use std::thread::Threads;
 use std::time::Clock;
-
-/// Runs the daemon as `serve` does, reports what stops it in one line on `errors`, and returns the
-/// exit status.
-///
-/// The status is 0 where the daemon was shut down and all that was queued is applied and printed; 2
-/// where the file can't be read or configures nothing, and then nothing was printed; 4 where an
-/// address can't be bound, and then nothing was printed; 3 where the log is full with an item left,
-/// memory ran out, a thread can't be started or output failed. Where the log is full, the addresses
-/// and the log page of all its records were printed. That a line can't be written to `errors` changes
-/// nothing. Own rules.
-pub fn run_serve<
-    R: Files + Net<Listener = TcpListener, Stream = TcpStream> + Threads + Wait + Clock + Sync,
-    W: Sink,
-    E: Sink,
->(rt: &R, alloc: Global, path: &str, output: &mut W, errors: &mut E) -> u8
-    ensures { let of_output = sink_state W.contents W.pending W.failures in
-        let of_errors = sink_state E.contents E.pending E.failures in
-        IsServeRun (of_output output.old) (of_output output.new)
-        (of_errors errors.old) (of_errors errors.new) result }
-{
-    match serve(rt, alloc, path, output) {
-        Ok(()) => 0,
-        Err(fault) => {
-            let _ = fault.report(errors);
-            fault.status()
-        }
-    }
-}
 
 /// Runs the program with the words after its name, and returns the exit status.
 ///

@@ -2,7 +2,6 @@ mod ScriptRows
 pub mod ScriptSteps
 pub mod Drains
 pub mod SessionSteps
-pub mod Outputs
 pub mod DeskSteps
 pub mod PlaySteps
 pub mod ReplayTexts

@@ -27,7 +27,7 @@ use Rattle.gate_replay.specs.declared.script.Setup.{Setup}
 use Rattle.gate_replay.specs.Gateway.{Gateway, Heard, body_of_line, carries_out, is_session, serves, drains, plays, gateway_after, steps_of, records_item, Finishes, IsWhole, BeginsDrain, IsWholeSoFar}
 use Rattle.gate_replay.specs.inner.Sessions.{queued_in, Answers, AnswersStep}
 use Rattle.gate_replay.specs.inner.Playing.{DeskView, Setting, setting, Shows, IsNew, IsUnderWay, IsReady, Serves, Drains, DrainsFull, Ends, Stays, DrainsPart, Plays, PlaysFull, PlaysPart, PlayedTo, PlayedFull, PlayedPart, IsWriteEnd, StopsBy}
-use Rattle.gate_replay.proofs.Outputs.{fails_then, writes_none, writes_on}
+use Rattle.gate_reader.proofs.Outputs.{fails_then, writes_none, writes_on}
 use Rattle.gate_replay.proofs.DeskSteps.{queued_few, holds_same}
 
 abbrev nothing_heard : List (Option Numbered) → Heard

@@ -18,7 +18,7 @@ use Rattle.gate_replay.specs.declared.script.Script.{Script}
 use Rattle.gate_replay.specs.Gateway.{Gateway, gateway_after, IsPlayedSoFar}
 use Rattle.gate_replay.specs.Replay.{fault_in}
 use Rattle.gate_replay.specs.inner.Playing.{DeskView, setting, IsShown, IsShownSoFar, IsEnded, PlayedTo, PlayedFull, PlayedPart, IsWriteEnd, IsLogEnd, IsPrinted, IsPrintedSoFar, EndsPlaying}
-use Rattle.gate_replay.proofs.Outputs.{fails_then, delivers_on}
+use Rattle.gate_reader.proofs.Outputs.{fails_then, delivers_on}
 use Rattle.gate_replay.proofs.PlaySteps.{whole_so_far}
 
 page_again : (table other : List ObjectLine) (records more : List Record) → records ≡ more → table ≡ other → log_text records (outcomes_of table records) ≡ log_text more (outcomes_of other more)

@@ -6,7 +6,7 @@ use Rattle.std.specs.Prelude.{◌≡◌, ℕ, ◌<◌, ◌≤◌, ◌⊎◌, Opt
 use Rattle.gate_model.specs.Meaning.{outcomes_of}
 use Rattle.gate_core.specs.Limits.{Limits}
 use Rattle.gate_core.specs.Legal.{Run}
-use Rattle.gate_reader.specs.Sink.{SinkState, Delivers, FailsOnce}
+use Rattle.gate_reader.specs.Sink.{SinkState, Delivers, FailsOnce, IsReported}
 use Rattle.gate_pages.specs.LogPage.{log_text}
 use Rattle.gate_replay.specs.declared.script.Script.{Script}
 use Rattle.gate_replay.specs.declared.fault.ReplayFault.{ReplayFault}
@@ -78,10 +78,6 @@ EndsWith rules input before after (Some WriteFault) = FailsOnce before after
 abbrev pub fault_in : Result (Unit {0}) ReplayFault → Option ReplayFault
 fault_in (Ok done) = None
 fault_in (Err fault) = Some fault
-
--- the line was written and delivered, or one call failed
-abbrev pub IsReported : List ℕ → SinkState → SinkState → Type 0
-IsReported line before after = Delivers before after line ⊎ FailsOnce before after
 
 -- the fault is reported in one line, and without a fault nothing is
 abbrev pub IsFaultReported : Option ReplayFault → SinkState → SinkState → Type 0

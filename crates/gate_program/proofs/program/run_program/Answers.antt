@@ -1,5 +1,5 @@
 use Rattle.gate_desk.specs.Allowed.{IsAllowed}
-use Rattle.gate_program.proofs.Steps.{unknown_replay, unknown_serve}
+use Rattle.gate_program.proofs.Unknown.{unknown_replay, unknown_serve}
 use Rattle.gate_program.proofs.program.run_program.Goals as goal
 
 pub returns-in-Err-clause-replay : goal.returns-in-Err-clause-replay

@@ -7,8 +7,6 @@ use Rattle.std.proofs.lemmas.Simd.{map-map}
 use Rattle.gate_model.specs.declared.object.ObjectLine.{ObjectLine}
 use Rattle.gate_model.specs.declared.record.Record.{Record}
 use Rattle.gate_model.specs.declared.submission.Numbered.{Numbered}
-use Rattle.gate_core.specs.Limits.{Limits}
-use Rattle.gate_core.specs.Legal.{Run}
 use Rattle.gate_core.specs.Merge.{IsClient, of_client}
 use Rattle.gate_applier.specs.Applier.{ApplierView}
 use Rattle.gate_queue.specs.declared.drained_close.CloseAllCause.{CloseAllCause}
@@ -22,21 +20,13 @@ use Rattle.gate_daemon.specs.declared.gateway.Finished.{Finished}
 use Rattle.gate_daemon.specs.Faults.{LosesNothing, IsDrainFault, IsGatewayFault}
 use Rattle.gate_daemon.specs.declared.gateway.GatewayFault.{GatewayFault}
 use Rattle.gate_daemon.specs.declared.gateway.GatewayFault.TheVariants as gateway_fault
-use Rattle.gate_words.specs.Words.{Asked, replay, serve}
-use Rattle.gate_words.specs.declared.words.Request.{Request}
-use Rattle.gate_words.specs.declared.words.WordsFault.{WordsFault}
-use Rattle.gate_words.specs.declared.words.WordsFault.TheVariants as words_fault
-use Rattle.gate_replay.specs.Replay.{IsReplayRun}
-use Rattle.gate_replay.specs.declared.fault.ReplayFault.TheVariants as replay_fault
-use Rattle.gate_replay.proofs.Outputs.{fails_then, delivers_on}
+use Rattle.gate_reader.proofs.Outputs.{fails_then, delivers_on}
 use Rattle.gate_setup.specs.declared.fault.ServeFault.{ServeFault}
 use Rattle.gate_setup.specs.declared.fault.ServeFault.TheVariants as fault
-use Rattle.gate_program.specs.declared.fault.ProgramFault.{ProgramFault}
 use Rattle.gate_setup.specs.Fault.{fault_in}
-use Rattle.gate_program.specs.Program.{program_fault, IsRefusal}
 use Rattle.gate_setup.specs.Setup.{Configures, IsBindEnd, IsConfigEnd, IsWriteEnd, address_lines}
-use Rattle.gate_program.specs.Serve.{ServeEnds, IsServeRun, AreOfClients, FollowsAddresses, IsUnfinished, page_of}
-use Rattle.gate_program.specs.inner.Serving.{IsPageGiven, IsCloseEnd, IsLoglessEnd, IsRunEnd, RunsOn, fault_for}
+use Rattle.gate_serve.specs.Serve.{ServeEnds, AreOfClients, FollowsAddresses, IsUnfinished, page_of}
+use Rattle.gate_serve.specs.inner.Serving.{IsPageGiven, IsCloseEnd, IsLoglessEnd, IsRunEnd, RunsOn, fault_for}
 
 -- a failed write ends the end of a gateway that did not apply all
 pub write_ends_close : (why : CloseAllCause) (applier : ApplierView) (before after : SinkState) (found : ServeFault) → IsWriteEnd before after found → IsCloseEnd why applier before after found
@@ -211,22 +201,3 @@ ends_on (Ok finished) (Ok done) table capacity limit a o p before middle after p
 ends_on (Err why) (Ok done) table capacity limit a o p before middle after printed clients of_table of_limit known is_finished page few ended = absurd (cc)
 ends_on (Ok finished) (Err found) table capacity limit a o p before middle after printed clients of_table of_limit known is_finished page few ended = page_end table limit a o p before middle after found printed ended
 ends_on (Err why) (Err found) table capacity limit a o p before middle after printed clients of_table of_limit known is_finished page few ended = fault_end why table capacity limit a o p before middle after found printed known ended
-
--- ---- words that ask for a command, where memory ran out before that was known
-
-abbrev not_asked : WordsFault → Result Request WordsFault
-not_asked found = Err found
-
--- a replay
-pub unknown_replay : (rules : Limits → Run → Type 0) (input : Option (List ℕ)) (output errors errors_after : SinkState) (status : ℕ) (found : WordsFault) (made : ProgramFault) (asked : Option Asked) → made ≡ program_fault found → (not_asked found ≡ Err words_fault.BadArguments → asked ≡ None) → asked ≡ Some replay → IsRefusal made errors errors_after status → IsReplayRun rules input output output errors errors_after status
-unknown_replay rules input output errors errors_after status words_fault.BadArguments made asked same refused is k = let e = refused refl in absurd (cc)
-unknown_replay rules input output errors errors_after status words_fault.OutOfMemory made asked same refused is k =
-    let r = subst (λ (f : ProgramFault). IsRefusal f errors errors_after status) same k in
-    record { fault = Some replay_fault.OutOfMemory; status_is = r.status_is; ended = inl refl; reported = r.reported }
-
--- the daemon
-pub unknown_serve : (path : List ℕ) (output errors errors_after : SinkState) (status : ℕ) (found : WordsFault) (made : ProgramFault) (asked : Option Asked) → made ≡ program_fault found → (not_asked found ≡ Err words_fault.BadArguments → asked ≡ None) → asked ≡ Some (serve path) → IsRefusal made errors errors_after status → IsServeRun output output errors errors_after status
-unknown_serve path output errors errors_after status words_fault.BadArguments made asked same refused is k = let e = refused refl in absurd (cc)
-unknown_serve path output errors errors_after status words_fault.OutOfMemory made asked same refused is k =
-    let r = subst (λ (f : ProgramFault). IsRefusal f errors errors_after status) same k in
-    record { fault = Some fault.OutOfMemory; status_is = r.status_is; ended = inl refl; reported = r.reported }

@@ -1,8 +1,8 @@
 use Rattle.std.proofs.lemmas.Result.{err_from_is_err_and}
 use Rattle.gate_reader.specs.Sink.{sink_state}
 use Rattle.gate_setup.specs.Fault.{fault_in}
-use Rattle.gate_program.proofs.Steps.{unbound, served}
-use Rattle.gate_program.proofs.serving.serve_config.Goals as goal
+use Rattle.gate_serve.proofs.Steps.{unbound, served}
+use Rattle.gate_serve.proofs.serving.serve_config.Goals as goal
 
 pub returns-in_err-listeners : goal.returns-in_err-listeners
 returns-in_err-listeners g c =

@@ -3,8 +3,8 @@ ghost use Rattle.gate_reader.specs.Sink.{sink_state};
 ghost use Rattle.gate_daemon.specs.Faults.{IsGatewayFault};
 ghost use Rattle.gate_setup.specs.Fault.{fault_in};
 ghost use Rattle.gate_setup.specs.Setup.{Configures};
-ghost use Rattle.gate_program.specs.Serve.{ServeEnds, AreOfClients};
-ghost use Rattle.gate_program.specs.inner.Serving.{RunsOn};
+ghost use Rattle.gate_serve.specs.Serve.{ServeEnds, AreOfClients, IsServeRun};
+ghost use Rattle.gate_serve.specs.inner.Serving.{RunsOn};
 
 use crate::ending::end;
 use gate_config::{Config, Limits};
@@ -156,4 +156,32 @@ pub fn serve<
 {
     let config = configuration(rt, alloc, path)?;
     serve_config(rt, alloc, config, output)
+}
+
+/// Runs the daemon as `serve` does, reports what stops it in one line on `errors`, and returns the
+/// exit status.
+///
+/// The status is 0 where the daemon was shut down and all that was queued is applied and printed; 2
+/// where the file can't be read or configures nothing, and then nothing was printed; 4 where an
+/// address can't be bound, and then nothing was printed; 3 where the log is full with an item left,
+/// memory ran out, a thread can't be started or output failed. Where the log is full, the addresses
+/// and the log page of all its records were printed. That a line can't be written to `errors` changes
+/// nothing. Own rules.
+pub fn run_serve<
+    R: Files + Net<Listener = TcpListener, Stream = TcpStream> + Threads + Wait + Clock + Sync,
+    W: Sink,
+    E: Sink,
+>(rt: &R, alloc: Global, path: &str, output: &mut W, errors: &mut E) -> u8
+    ensures { let of_output = sink_state W.contents W.pending W.failures in
+        let of_errors = sink_state E.contents E.pending E.failures in
+        IsServeRun (of_output output.old) (of_output output.new)
+        (of_errors errors.old) (of_errors errors.new) result }
+{
+    match serve(rt, alloc, path, output) {
+        Ok(()) => 0,
+        Err(fault) => {
+            let _ = fault.report(errors);
+            fault.status()
+        }
+    }
 }

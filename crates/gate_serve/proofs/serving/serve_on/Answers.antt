@@ -1,6 +1,6 @@
 use Rattle.gate_reader.specs.Sink.{sink_state}
-use Rattle.gate_program.proofs.Steps.{ends_on}
-use Rattle.gate_program.proofs.serving.serve_on.Goals as goal
+use Rattle.gate_serve.proofs.Steps.{ends_on}
+use Rattle.gate_serve.proofs.serving.serve_on.Goals as goal
 
 pub returns : goal.returns
 returns g c =

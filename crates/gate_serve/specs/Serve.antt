@@ -8,8 +8,7 @@ use Rattle.gate_model.specs.Meaning.{outcomes_of}
 use Rattle.gate_core.specs.Merge.{IsClient, of_client}
 use Rattle.gate_queue.specs.DrainedClose.{items_of_records}
 use Rattle.gate_reader.specs.declared.report.Report.{Report}
-use Rattle.gate_reader.specs.Sink.{SinkState, Delivers, FailsOnce}
-use Rattle.gate_replay.specs.Replay.{IsReported}
+use Rattle.gate_reader.specs.Sink.{SinkState, Delivers, FailsOnce, IsReported}
 use Rattle.gate_pages.specs.LogPage.{log_text}
 use Rattle.gate_daemon.specs.Faults.{LosesNothing}
 use Rattle.gate_worker.specs.Numbers.{item_numbers, reported_numbers}

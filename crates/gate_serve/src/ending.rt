@@ -1,8 +1,8 @@
 ghost use Rattle.std.specs.Prelude.{◌≡◌, ◌≤◌, length, Err, IfErr, IfOk, IsErr, IsOk, OnOk};
 ghost use Rattle.gate_reader.specs.Sink.{SinkState, sink_state, Delivers};
 ghost use Rattle.gate_setup.specs.Setup.{IsWriteEnd};
-ghost use Rattle.gate_program.specs.Serve.{page_of};
-ghost use Rattle.gate_program.specs.inner.Serving.{IsCloseEnd, IsRunEnd, fault_for};
+ghost use Rattle.gate_serve.specs.Serve.{page_of};
+ghost use Rattle.gate_serve.specs.inner.Serving.{IsCloseEnd, IsRunEnd, fault_for};
 
 use gate_applier::Applier;
 use gate_daemon::{Finished, GatewayFault};

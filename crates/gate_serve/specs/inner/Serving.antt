@@ -11,7 +11,7 @@ use Rattle.gate_daemon.specs.declared.gateway.GatewayFault.TheVariants as gatewa
 use Rattle.gate_setup.specs.declared.fault.ServeFault.{ServeFault}
 use Rattle.gate_setup.specs.declared.fault.ServeFault.TheVariants.{LogFull, OutOfMemory, Spawn, WriteFault}
 use Rattle.gate_setup.specs.Setup.{IsWriteEnd}
-use Rattle.gate_program.specs.Serve.{page_of, IsRun, IsFull, IsStarved, IsStopped}
+use Rattle.gate_serve.specs.Serve.{page_of, IsRun, IsFull, IsStarved, IsStopped}
 
 -- the daemon's fault where its gateway did not apply all for this cause
 abbrev pub fault_for : CloseAllCause → ServeFault
