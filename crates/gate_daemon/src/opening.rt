@@ -81,11 +81,18 @@ fn open_log(
         (workers capacity : ℕ) → IsUnopened workers capacity limit fault) }
 {
     match Applier::open(alloc, table, moment, limit) {
-        Ok(applier) => {
-            let board = Mutex::new(Board::of(alloc, &applier)?);
-            Ok((applier, board))
+        Ok(applier) => match Board::of(alloc, &applier) {
+            Ok(board) => Ok((applier, Mutex::new(board))),
+            Err(_) => {
+                drop(applier);
+                Err(Unopened::OutOfMemory)
+            }
+        },
+        Err(fault) => {
+            let cause = fault.cause;
+            drop(fault);
+            Err(Unopened::Applier(cause))
         }
-        Err(fault) => Err(Unopened::Applier(fault.cause)),
     }
 }
 
@@ -126,11 +133,16 @@ pub(crate) fn open_parts(
 {
     let collected = Collected::with_room(alloc, workers as usize + 1)?;
     let (applier, board) = open_log(alloc, table, now, limit)?;
-    let opening = open_gate(alloc, workers, capacity)?;
-    Ok(Parts {
-        opening,
-        applier,
-        collected,
-        board,
-    })
+    match open_gate(alloc, workers, capacity) {
+        Ok(opening) => Ok(Parts {
+            opening,
+            applier,
+            collected,
+            board,
+        }),
+        Err(unopened) => {
+            drop((applier, collected, board));
+            Err(unopened)
+        }
+    }
 }

@@ -84,7 +84,10 @@ pub(crate) fn start_worker<
     };
     match scope.spawn_with(EndsClient { gate, number }, run) {
         Ok(handle) => Ok(handle),
-        Err(_) => Err(Unstarted),
+        Err(error) => {
+            drop(error);
+            Err(Unstarted)
+        }
     }
 }
 
@@ -138,6 +141,9 @@ pub(crate) fn start_applier<
     { run_applier(rt, alloc, gate, taker, applier, clock, hold, board) };
     match scope.spawn_with(KeepsLog { gate, before }, run) {
         Ok(handle) => Ok(handle),
-        Err(_) => Err(Unstarted),
+        Err(error) => {
+            drop(error);
+            Err(Unstarted)
+        }
     }
 }

@@ -197,6 +197,7 @@ fn run_workers<
             (closer, collected, all)
         }
         Err(Unstarted) => {
+            drop((clients, posts, operator, operator_post));
             let (closer, _) = close_gate(rt, alloc, gate, closer, clock.read());
             wake.agents();
             (closer, collected, false)
@@ -275,11 +276,13 @@ pub(crate) fn run_threads<
     let (taker, applier, closer) = parts;
     let Ok(applies) = start_applier(rt, alloc, scope, gate, taker, applier, clock, hold, board)
     else {
+        drop((crew, pages));
         return Err(Unstarted);
     };
     let Ok(shows) = scope.spawn(move || run_pages(rt, alloc, pages, board)) else {
         let _ = close_gate(rt, alloc, gate, closer, clock.read());
-        let _ = applies.join(rt);
+        drop(applies.join(rt));
+        drop(crew);
         return Err(Unstarted);
     };
     let Crew {
@@ -299,6 +302,7 @@ pub(crate) fn run_threads<
     if all {
         Ok((taker, applier, collected))
     } else {
+        drop((taker, applier, collected));
         Err(Unstarted)
     }
 }
