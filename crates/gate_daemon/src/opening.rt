@@ -141,7 +141,9 @@ pub(crate) fn open_parts(
             board,
         }),
         Err(unopened) => {
-            drop((applier, collected, board));
+            drop(applier);
+            drop(collected);
+            drop(board);
             Err(unopened)
         }
     }

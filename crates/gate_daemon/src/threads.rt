@@ -197,7 +197,10 @@ fn run_workers<
             (closer, collected, all)
         }
         Err(Unstarted) => {
-            drop((clients, posts, operator, operator_post));
+            drop(clients);
+            drop(posts);
+            drop(operator);
+            drop(operator_post);
             let (closer, _) = close_gate(rt, alloc, gate, closer, clock.read());
             wake.agents();
             (closer, collected, false)
@@ -276,12 +279,15 @@ pub(crate) fn run_threads<
     let (taker, applier, closer) = parts;
     let Ok(applies) = start_applier(rt, alloc, scope, gate, taker, applier, clock, hold, board)
     else {
-        drop((crew, pages));
+        drop(crew);
+        drop(pages);
         return Err(Unstarted);
     };
     let Ok(shows) = scope.spawn(move || run_pages(rt, alloc, pages, board)) else {
         let _ = close_gate(rt, alloc, gate, closer, clock.read());
-        drop(applies.join(rt));
+        let (taker, applier, _) = applies.join(rt);
+        drop(taker);
+        drop(applier);
         drop(crew);
         return Err(Unstarted);
     };
@@ -302,7 +308,9 @@ pub(crate) fn run_threads<
     if all {
         Ok((taker, applier, collected))
     } else {
-        drop((taker, applier, collected));
+        drop(taker);
+        drop(applier);
+        drop(collected);
         Err(Unstarted)
     }
 }

@@ -42,19 +42,24 @@ fn end_early<W: Sink>(alloc: Global, fault: CloseAllFault, output: &mut W) -> Re
     ensures err { let state = sink_state W.contents W.pending W.failures in
         IfErr result (IsCloseEnd fault.cause fault.applier (state output.old) (state output.new)) }
 {
-    print_log(alloc, &fault.applier, output)?;
-    Err(fault_of(fault.cause))
+    let printed = print_log(alloc, &fault.applier, output);
+    let cause = fault.cause;
+    drop(fault);
+    printed?;
+    Err(fault_of(cause))
 }
 
 // The fault of a gateway that has no log.
 fn fault_without_log(fault: GatewayFault) -> ServeFault
     ensures { (state : SinkState) → IsRunEnd (Err fault) state state result }
 {
-    match fault {
+    let found = match &fault {
         GatewayFault::Spawn => ServeFault::Spawn,
         // The queue and the applier take all limits that a configuration may have.
         _ => ServeFault::OutOfMemory,
-    }
+    };
+    drop(fault);
+    found
 }
 
 /// Prints the log page of a gateway that has ended, if it has one.
@@ -74,8 +79,22 @@ pub(crate) fn end<W: Sink>(
         IfErr result (IsRunEnd ran (state output.old) (state output.new)) }
 {
     match ran {
-        Ok(finished) => print_log(alloc, &finished.closed.applier, output),
-        Err(GatewayFault::CloseAll { fault, .. }) => end_early(alloc, fault, output),
+        Ok(finished) => {
+            let printed = print_log(alloc, &finished.closed.applier, output);
+            drop(finished);
+            printed
+        }
+        Err(
+            GatewayFault::CloseAll {
+                gate,
+                fault,
+                reports,
+            },
+        ) => {
+            drop(gate);
+            drop(reports);
+            end_early(alloc, fault, output)
+        }
         Err(fault) => Err(fault_without_log(fault)),
     }
 }
