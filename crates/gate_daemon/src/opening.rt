@@ -141,9 +141,7 @@ pub(crate) fn open_parts(
             board,
         }),
         Err(unopened) => {
-            drop(applier);
-            drop(collected);
-            drop(board);
+            drop((applier, collected, board));
             Err(unopened)
         }
     }

@@ -84,10 +84,7 @@ pub(crate) fn start_worker<
     };
     match scope.spawn_with(EndsClient { gate, number }, run) {
         Ok(handle) => Ok(handle),
-        Err(error) => {
-            drop(error);
-            Err(Unstarted)
-        }
+        Err(_) => Err(Unstarted),
     }
 }
 
@@ -141,9 +138,6 @@ pub(crate) fn start_applier<
     { run_applier(rt, alloc, gate, taker, applier, clock, hold, board) };
     match scope.spawn_with(KeepsLog { gate, before }, run) {
         Ok(handle) => Ok(handle),
-        Err(error) => {
-            drop(error);
-            Err(Unstarted)
-        }
+        Err(_) => Err(Unstarted),
     }
 }
