@@ -133,16 +133,11 @@ pub(crate) fn open_parts(
 {
     let collected = Collected::with_room(alloc, workers as usize + 1)?;
     let (applier, board) = open_log(alloc, table, now, limit)?;
-    match open_gate(alloc, workers, capacity) {
-        Ok(opening) => Ok(Parts {
-            opening,
-            applier,
-            collected,
-            board,
-        }),
-        Err(unopened) => {
-            drop((applier, collected, board));
-            Err(unopened)
-        }
-    }
+    let opening = open_gate(alloc, workers, capacity)?;
+    Ok(Parts {
+        opening,
+        applier,
+        collected,
+        board,
+    })
 }
