@@ -197,10 +197,6 @@ fn run_workers<
             (closer, collected, all)
         }
         Err(Unstarted) => {
-            drop(clients);
-            drop(posts);
-            drop(operator);
-            drop(operator_post);
             let (closer, _) = close_gate(rt, alloc, gate, closer, clock.read());
             wake.agents();
             (closer, collected, false)
