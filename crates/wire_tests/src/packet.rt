@@ -20,10 +20,13 @@ fn new_packet(
 }
 
 fn cause(alloc: Global, texts: [&[u8]; 3]) -> Option<ContentFault> {
-    match new_packet(alloc, 1000, 0, texts)? {
+    let made = new_packet(alloc, 1000, 0, texts)?;
+    let cause = match &made {
         Ok(_) => None,
         Err(refused) => Some(refused.cause),
-    }
+    };
+    drop(made);
+    cause
 }
 
 // The service result that the tests send.
@@ -33,17 +36,18 @@ fn timeout_of_http(alloc: Global, timestamp: u32) -> Option<Packet> {
 
 fn bytes_sent(alloc: Global, timestamp: u32) -> Result<[u8; PACKET_SIZE], Fail> {
     let packet = timeout_of_http(alloc, timestamp).ok_or("no packet")?;
-    Ok(encode(&packet))
+    let bytes = encode(&packet);
+    drop(packet);
+    Ok(bytes)
 }
 
 fn is_timeout_of_http(alloc: Global, bytes: &[u8; PACKET_SIZE]) -> bool {
-    match (
-        decode(alloc, bytes, Moment(1005), 30),
-        timeout_of_http(alloc, 1000),
-    ) {
-        (Ok(read), Some(sent)) => read == sent,
-        _ => false,
-    }
+    let read = decode(alloc, bytes, Moment(1005), 30).ok();
+    let sent = timeout_of_http(alloc, 1000);
+    let same = sent.is_some() && read == sent;
+    drop(read);
+    drop(sent);
+    same
 }
 
 fn fault(alloc: Global, bytes: &[u8; PACKET_SIZE], now: u32, age: u32) -> Option<PacketFault> {
@@ -165,7 +169,9 @@ fn a_packet_is_stale_past_the_greatest_age(rt: HostRuntime) -> Result<(), Fail> 
 
 fn host_read(alloc: Global, bytes: &[u8; PACKET_SIZE]) -> Option<Vec<u8>> {
     let packet = decode(alloc, bytes, Moment(1005), 30).ok()?;
-    packet.host().bytes().to_vec(alloc).ok()
+    let host = packet.host().bytes().to_vec(alloc).ok();
+    drop(packet);
+    host
 }
 
 #[test]
@@ -211,14 +217,24 @@ fn the_first_fault_of_a_content_is_reported(rt: HostRuntime) {
     }
 }
 
+fn comes_back(alloc: Global, sent: &Packet) -> bool {
+    let read = round_trip(alloc, sent, Moment(1000), 30);
+    let same = match &read {
+        Ok(packet) => *packet == *sent,
+        Err(_) => false,
+    };
+    drop(read);
+    same
+}
+
 fn is_read_again(alloc: Global, code: i16, texts: [&[u8]; 3]) -> bool {
-    match new_packet(alloc, 1000, code, texts) {
-        Some(Ok(sent)) => match round_trip(alloc, &sent, Moment(1000), 30) {
-            Ok(read) => read == sent,
-            Err(_) => false,
-        },
+    let sent = new_packet(alloc, 1000, code, texts);
+    let same = match &sent {
+        Some(Ok(packet)) => comes_back(alloc, packet),
         _ => false,
-    }
+    };
+    drop(sent);
+    same
 }
 
 #[test]
@@ -237,16 +253,16 @@ fn body_sent(alloc: Global) -> Option<Body> {
 #[test]
 fn an_empty_service_is_a_result_of_the_host(rt: HostRuntime) {
     let body = body_sent(rt.alloc());
-    assert!(rt;
-        matches!(
-            &body,
-            Some(Body::Result {
-                service: None,
-                code: -1,
-                ..
-            })
-        )
+    let of_the_host = matches!(
+        &body,
+        Some(Body::Result {
+            service: None,
+            code: -1,
+            ..
+        })
     );
+    drop(body);
+    assert!(rt; of_the_host);
 }
 
 fn fed(alloc: Global, pieces: [&[u8]; 3]) -> Option<Cutter> {
