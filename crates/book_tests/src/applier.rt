@@ -53,8 +53,18 @@ fn applied(applier: Option<Applier>, item: Option<Numbered>, now: u32) -> Option
         drop(applier);
         return None;
     };
-    let ready = applier?.prepare().ok()?;
-    Some(ready.apply(item, Moment(now)).0)
+    let Some(applier) = applier else {
+        drop(item);
+        return None;
+    };
+    match applier.prepare() {
+        Ok(ready) => Some(ready.apply(item, Moment(now)).0),
+        Err(fault) => {
+            drop(fault);
+            drop(item);
+            None
+        }
+    }
 }
 
 /// A result of `web1` at 1100, and one of an unknown host once the clock went back to 1090.
@@ -68,12 +78,14 @@ fn is_without_records(applier: Option<Applier>, limit: u32) -> bool {
     let Some(applier) = applier else {
         return false;
     };
-    applier.opening() == Moment(1000)
+    let shown = applier.opening() == Moment(1000)
         && applier.moment() == Moment(1000)
         && applier.limit() == limit
         && applier.table().len() == 1
         && applier.records().is_empty()
-        && applier.state(WEB1) == State::Pending
+        && applier.state(WEB1) == State::Pending;
+    drop(applier);
+    shown
 }
 
 #[test]
@@ -88,7 +100,9 @@ fn a_log_may_be_limited_to_1_to_1000000_records(rt: HostRuntime) {
 
 fn open_cause(alloc: Global, limit: u32) -> Option<OpenCause> {
     let fault = Applier::open(alloc, table(alloc)?, Moment(1000), limit).err()?;
-    Some(fault.cause)
+    let cause = fault.cause;
+    drop(fault);
+    Some(cause)
 }
 
 #[test]
@@ -106,13 +120,15 @@ fn shows_both(applier: Option<Applier>) -> bool {
     let Some(applier) = applier else {
         return false;
     };
-    applier.moment() == Moment(1100)
+    let shown = applier.moment() == Moment(1100)
         && applier.outcomes() == [Outcome::Accepted, Outcome::NoSuchHost].as_slice()
         && applier
             .records()
             .iter()
             .all(|applied| applied.moment == Moment(1100))
-        && applier.state(WEB1) == State::Down
+        && applier.state(WEB1) == State::Down;
+    drop(applier);
+    shown
 }
 
 #[test]
@@ -122,7 +138,9 @@ fn a_clock_that_goes_back_records_at_the_latest_moment(rt: HostRuntime) {
 
 fn prepare_cause(applier: Option<Applier>) -> Option<PrepareCause> {
     let fault = applier?.prepare().err()?;
-    Some(fault.cause)
+    let cause = fault.cause;
+    drop(fault);
+    Some(cause)
 }
 
 #[test]

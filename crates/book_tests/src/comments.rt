@@ -30,7 +30,9 @@ fn two_adds(alloc: Global, first_id: u32) -> Option<[Result<u32, IdsSpent>; 2]> 
     let mut book = opened(alloc, first_id)?;
     let first = book.add(HTTP, Source::User, false, 0);
     let second = book.add(WEB1, Source::User, false, 1);
-    Some([first, second])
+    let answers = Some([first, second]);
+    drop(book);
+    answers
 }
 
 // Comment 1 on HTTP and comment 2 on web1.
@@ -46,7 +48,9 @@ fn deletions(alloc: Global) -> Option<[Result<(), DeleteFault>; 3]> {
     let other_kind = book.delete(Kind::Host, 1);
     let right_kind = book.delete(Kind::Service, 1);
     let again = book.delete(Kind::Service, 1);
-    Some([other_kind, right_kind, again])
+    let answers = Some([other_kind, right_kind, again]);
+    drop(book);
+    answers
 }
 
 fn ids(alloc: Global, book: &CommentBook) -> Option<Vec<u32>> {
@@ -60,7 +64,9 @@ fn ids(alloc: Global, book: &CommentBook) -> Option<Vec<u32>> {
 fn ids_without_those_on(alloc: Global, object: ObjectId) -> Option<Vec<u32>> {
     let mut book = on_both(alloc)?;
     book.delete_all(object);
-    ids(alloc, &book)
+    let left = ids(alloc, &book);
+    drop(book);
+    left
 }
 
 fn are_left_without(alloc: Global, object: ObjectId, want: &[u32]) -> bool {
@@ -95,14 +101,17 @@ fn steps_to_find(book: &CommentBook, id: u32) -> Option<u32> {
 }
 
 fn each_is_found_in_1_to_10_steps(alloc: Global) -> bool {
-    match thousand(alloc) {
+    let book = thousand(alloc);
+    let found = match &book {
         Some(book) => {
             (1..1001).all(
-                |id| matches!(steps_to_find(&book, id), Some(steps) if 1 <= steps && steps <= 10),
+                |id| matches!(steps_to_find(book, id), Some(steps) if 1 <= steps && steps <= 10),
             )
         }
         None => false,
-    }
+    };
+    drop(book);
+    found
 }
 
 #[test]

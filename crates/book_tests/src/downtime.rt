@@ -353,13 +353,15 @@ fn begins_and_deletes_a_chain(alloc: Global) -> bool {
     let Ok(mut book) = DowntimeBook::open(alloc, 2, 1, Moment(1100)) else {
         return false;
     };
-    chains(&mut book)
+    let kept = chains(&mut book)
         && advances(&mut book, 1250)
         && changes(&mut book, HTTP)
         && is_as_deep(&book, WEB1, CHAIN - 1)
         && book.cancel(Kind::Service, 1) == Ok(())
         && is_as_deep(&book, WEB1, 0)
-        && !book.is_live(CHAIN)
+        && !book.is_live(CHAIN);
+    drop(book);
+    kept
 }
 
 #[test]
@@ -404,14 +406,17 @@ fn steps_to_find(book: &DowntimeBook, id: u32) -> Option<u32> {
 }
 
 fn each_is_found_in_1_to_10_steps(alloc: Global) -> bool {
-    match thousand(alloc) {
+    let book = thousand(alloc);
+    let found = match &book {
         Some(book) => {
             (1..1001).all(
-                |id| matches!(steps_to_find(&book, id), Some(steps) if 1 <= steps && steps <= 10),
+                |id| matches!(steps_to_find(book, id), Some(steps) if 1 <= steps && steps <= 10),
             )
         }
         None => false,
-    }
+    };
+    drop(book);
+    found
 }
 
 #[test]
@@ -430,12 +435,14 @@ fn deepens_and_empties(alloc: Global) -> bool {
     let Some(mut book) = thousand(alloc) else {
         return false;
     };
-    is_as_deep_at(&mut book, 1100, 0)
+    let kept = is_as_deep_at(&mut book, 1100, 0)
         && is_as_deep_at(&mut book, 1600, 500)
         && is_as_deep_at(&mut book, 2100, 1000)
         && is_as_deep_at(&mut book, 2101, 999)
         && is_as_deep_at(&mut book, 3099, 1)
-        && is_as_deep_at(&mut book, 3100, 0)
+        && is_as_deep_at(&mut book, 3100, 0);
+    drop(book);
+    kept
 }
 
 #[test]
@@ -451,7 +458,9 @@ fn ends_400_at_once(alloc: Global) -> bool {
     let Some(mut book) = thousand(alloc) else {
         return false;
     };
-    is_as_deep_at(&mut book, 2500, 600) && returns_the_gone_in_order(&mut book)
+    let kept = is_as_deep_at(&mut book, 2500, 600) && returns_the_gone_in_order(&mut book);
+    drop(book);
+    kept
 }
 
 #[test]
@@ -478,7 +487,7 @@ fn lists_what_is_live(alloc: Global) -> bool {
     let Ok(mut book) = DowntimeBook::open(alloc, 2, 1, Moment(1100)) else {
         return false;
     };
-    schedules(&mut book, WEB1, fixed(1100, 1200, 0), Ok(1))
+    let kept = schedules(&mut book, WEB1, fixed(1100, 1200, 0), Ok(1))
         && schedules(&mut book, HTTP, flexible(1100, 1300, 0, 100), Ok(2))
         && schedules(&mut book, HTTP, fixed(1100, 1150, 1), Ok(3))
         && advances(&mut book, 1150)
@@ -490,7 +499,9 @@ fn lists_what_is_live(alloc: Global) -> bool {
             ],
         )
         && book.cancel(Kind::Host, 1) == Ok(())
-        && lists(&book, &[(2, HTTP, flexible(1100, 1300, 0, 100))])
+        && lists(&book, &[(2, HTTP, flexible(1100, 1300, 0, 100))]);
+    drop(book);
+    kept
 }
 
 #[test]
@@ -502,12 +513,14 @@ fn ended_are_left_out(alloc: Global) -> bool {
     let Some(mut book) = thousand(alloc) else {
         return false;
     };
-    advances(&mut book, 2101)
+    let kept = advances(&mut book, 2101)
         && book.find(1, &mut Steps::new()).is_none()
         && book.find(2, &mut Steps::new()) == Some(0)
         && advances(&mut book, 2500)
         && book.find(401, &mut Steps::new()) == Some(0)
-        && book.live().count() == 600
+        && book.live().count() == 600;
+    drop(book);
+    kept
 }
 
 #[test]

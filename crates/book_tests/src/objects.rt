@@ -45,7 +45,9 @@ fn opened(alloc: Global) -> Option<ObjectBook>
 {
     let lines = lines(alloc)?;
     let table = ObjectTable::build(alloc, lines).ok()?;
-    ObjectBook::open(alloc, &table, Moment(1000)).ok()
+    let book = ObjectBook::open(alloc, &table, Moment(1000)).ok();
+    drop(table);
+    book
 }
 
 // HTTP is WARNING from 1100 on and acknowledged at 1110.
@@ -61,32 +63,42 @@ fn acknowledged(alloc: Global, sticky: bool) -> Option<ObjectBook>
 fn after_critical(alloc: Global, sticky: bool) -> Option<(Change, bool)> {
     let mut book = acknowledged(alloc, sticky)?;
     let change = book.result(HTTP, 2, 2, Moment(1120));
-    Some((change, book.ack(HTTP).is_some()))
+    let answer = Some((change, book.ack(HTTP).is_some()));
+    drop(book);
+    answer
 }
 
 fn after_critical_and_ok(alloc: Global, sticky: bool) -> Option<(Change, bool)> {
     let mut book = acknowledged(alloc, sticky)?;
     book.result(HTTP, 2, 2, Moment(1120));
     let change = book.result(HTTP, 0, 3, Moment(1130));
-    Some((change, book.ack(HTTP).is_some()))
+    let answer = Some((change, book.ack(HTTP).is_some()));
+    drop(book);
+    answer
 }
 
 fn acknowledged_while_ok(alloc: Global) -> Option<Result<(), NoProblem>> {
     let mut book = opened(alloc)?;
     book.result(HTTP, 0, 0, Moment(1100));
-    Some(book.acknowledge(HTTP, true, 1))
+    let answer = Some(book.acknowledge(HTTP, true, 1));
+    drop(book);
+    answer
 }
 
 fn removed_twice(alloc: Global) -> Option<[Result<(), NotAcknowledged>; 2]> {
     let mut book = acknowledged(alloc, true)?;
     let first = book.remove_ack(HTTP);
     let second = book.remove_ack(HTTP);
-    Some([first, second])
+    let answers = Some([first, second]);
+    drop(book);
+    answers
 }
 
 fn stale_without_a_result(alloc: Global, moment: u32) -> Option<bool> {
     let book = opened(alloc)?;
-    Some(book.stale(HTTP, Moment(moment)))
+    let stale = Some(book.stale(HTTP, Moment(moment)));
+    drop(book);
+    stale
 }
 
 fn with_a_result_at_1400(alloc: Global) -> Option<ObjectBook>
@@ -99,12 +111,16 @@ fn with_a_result_at_1400(alloc: Global) -> Option<ObjectBook>
 
 fn stale_after_a_result(alloc: Global, moment: u32) -> Option<bool> {
     let book = with_a_result_at_1400(alloc)?;
-    Some(book.stale(HTTP, Moment(moment)))
+    let stale = Some(book.stale(HTTP, Moment(moment)));
+    drop(book);
+    stale
 }
 
 fn all_stale(alloc: Global, moment: u32) -> Option<Vec<ObjectId>> {
     let book = with_a_result_at_1400(alloc)?;
-    book.stale_list(Moment(moment)).collect(alloc).ok()
+    let stale = book.stale_list(Moment(moment)).collect(alloc).ok();
+    drop(book);
+    stale
 }
 
 fn are_stale(alloc: Global, moment: u32, want: &[ObjectId]) -> bool {
@@ -118,7 +134,9 @@ fn state_by(alloc: Global, host: bool, code: i16) -> Option<State> {
     let mut book = opened(alloc)?;
     let object = if host { WEB1 } else { HTTP };
     book.result(object, code, 0, Moment(1100));
-    Some(book.state(object))
+    let state = Some(book.state(object));
+    drop(book);
+    state
 }
 
 const NEITHER: Change = Change {

@@ -35,8 +35,18 @@ fn applied(applier: Option<Applier>, body: Option<Body>, now: u32) -> Option<App
         number: 1,
         body,
     };
-    let ready = applier?.prepare().ok()?;
-    Some(ready.apply(item, Moment(now)).0)
+    let Some(applier) = applier else {
+        drop(item);
+        return None;
+    };
+    match applier.prepare() {
+        Ok(ready) => Some(ready.apply(item, Moment(now)).0),
+        Err(fault) => {
+            drop(fault);
+            drop(item);
+            None
+        }
+    }
 }
 
 fn comment(alloc: Global) -> Option<Body> {
@@ -95,14 +105,18 @@ fn acknowledged_in_downtime(alloc: Global) -> Option<Applier> {
 fn board_at(alloc: Global, applier: Option<Applier>, now: u32) -> Option<Board> {
     let mut applier = applier?;
     applier.advance(Moment(now));
-    Board::of(alloc, &applier).ok()
+    let board = Board::of(alloc, &applier).ok();
+    drop(applier);
+    board
 }
 
 fn is_shown(alloc: Global, board: Option<Board>, expected: &[u8]) -> bool {
     let Some(board) = board else {
         return false;
     };
-    status_page(alloc, &board).is_ok_and(|page| page.as_slice() == expected)
+    let shown = status_page(alloc, &board).is_ok_and(|page| page.as_slice() == expected);
+    drop(board);
+    shown
 }
 
 const DURING: &[u8] = b"status 1260\n\
@@ -140,7 +154,10 @@ closing;1200\n";
 
 fn published(alloc: Global) -> Option<Board> {
     let mut board = board_at(alloc, opened(alloc), 1100)?;
-    let next = board_at(alloc, opened(alloc), 1000)?;
+    let Some(next) = board_at(alloc, opened(alloc), 1000) else {
+        drop(board);
+        return None;
+    };
     publish(&mut board, next.closing(Moment(1200)));
     Some(board)
 }
@@ -173,7 +190,9 @@ fn log_of_two(alloc: Global) -> Option<Vec<u8>> {
         result(alloc, 2, b"a\\b\tc\x7f\xc3\xa9")?,
         result(alloc, 0, b"up")?,
     ];
-    log_page(alloc, &records, &[Outcome::Accepted, Outcome::NoSuchHost]).ok()
+    let page = log_page(alloc, &records, &[Outcome::Accepted, Outcome::NoSuchHost]).ok();
+    drop(records);
+    page
 }
 
 #[test]
