@@ -50,12 +50,23 @@ fn print_item(alloc: Global, item: &Numbered, output: &mut impl Write) -> io::Re
     )
 }
 
+// Prints the item that was taken: whether there was one.
+fn print_taken(alloc: Global, reply: &Reply, output: &mut impl Write) -> io::Result<bool> {
+    let Reply::Taken(item) = reply else {
+        return Ok(false);
+    };
+    print_item(alloc, item, output)?;
+    Ok(true)
+}
+
 // Takes and prints each item of the queue.
 fn print_items(alloc: Global, world: &mut World, output: &mut impl Write) -> io::Result<()> {
     for _ in 0..65_536 {
-        match world.play(Event::Take) {
-            Reply::Taken(item) => print_item(alloc, &item, output)?,
-            _ => break,
+        let reply = world.play(Event::Take);
+        let printed = print_taken(alloc, &reply, output);
+        drop(reply);
+        if !printed? {
+            break;
         }
     }
     Ok(())
@@ -63,9 +74,15 @@ fn print_items(alloc: Global, world: &mut World, output: &mut impl Write) -> io:
 
 // Prints the moment of the first close, if there was one.
 fn print_close(world: &mut World, output: &mut impl Write) -> io::Result<()> {
-    match world.play(Event::Close(Moment(0))) {
-        Reply::AlreadyClosing(first) => write!(output, " closed {}", first.0),
-        _ => Ok(()),
+    let reply = world.play(Event::Close(Moment(0)));
+    let first = match &reply {
+        Reply::AlreadyClosing(first) => Some(*first),
+        _ => None,
+    };
+    drop(reply);
+    match first {
+        Some(first) => write!(output, " closed {}", first.0),
+        None => Ok(()),
     }
 }
 

@@ -29,7 +29,7 @@ fn client_of(alloc: Global, settings: &Settings) -> io::Result<LocalClient> {
     };
     for id in 0..settings.queued {
         let kind = Kind::Host;
-        let _reply = client.submit(Body::DelComment { kind, id });
+        drop(client.submit(Body::DelComment { kind, id }));
     }
     if settings.closed > 0 {
         let _reply = client.close(Moment(settings.closed));
