@@ -15,7 +15,9 @@ fn has_one_close(alloc: Global) -> bool {
         Some((gate, _, mut closer, _, _)) => {
             let mut other = closer.another();
             let first = closed(alloc, &gate, &mut closer, 1500);
-            first == Ok(1500) && closed(alloc, &gate, &mut other, 1600) == Err(Some(1500))
+            let second = closed(alloc, &gate, &mut other, 1600);
+            drop(gate);
+            first == Ok(1500) && second == Err(Some(1500))
         }
         None => false,
     }
@@ -62,7 +64,12 @@ fn answers_before_and_after_a_close<R: Threads + Wait>(
 fn is_found<R: Threads + Wait>(rt: &R, alloc: Global, capacity: usize, quota: u32) -> bool {
     match two_clients(alloc, capacity, quota) {
         Some((gate, mut taker, closer, mut one, _)) => {
-            answers_before_and_after_a_close(rt, alloc, &gate, closer, &mut one, &mut taker)
+            let answers = answers_before_and_after_a_close(
+                rt, alloc, &gate, closer, &mut one, &mut taker,
+            );
+            drop(gate);
+            drop(taker);
+            answers
                 == (
                     Answer::Queued(1),
                     Answer::Closing(1500, 6),

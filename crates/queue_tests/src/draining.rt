@@ -30,7 +30,9 @@ fn shown(closed: &Result<Closed, CloseAllFault>) -> Shown {
 }
 
 fn shown_of(closed: Result<Closed, CloseAllFault>) -> Shown {
-    shown(&closed)
+    let shown = shown(&closed);
+    drop(closed);
+    shown
 }
 
 // Calls the close again with the parts that it returned.

@@ -45,7 +45,9 @@ fn answer_in(answered: &Result<u64, Refused>) -> Answer {
 
 /// The answer, once the body that it may hold is dropped.
 pub(crate) fn answer_of(answered: Result<u64, Refused>) -> Answer {
-    answer_in(&answered)
+    let answer = answer_in(&answered);
+    drop(answered);
+    answer
 }
 
 /// Submits the body with this id.
@@ -61,7 +63,9 @@ fn numbers_in(item: &Numbered) -> (u32, u64, u32) {
 }
 
 fn numbers_of(item: Numbered) -> (u32, u64, u32) {
-    numbers_in(&item)
+    let numbers = numbers_in(&item);
+    drop(item);
+    numbers
 }
 
 /// The client, the number and the id of the item that is taken.

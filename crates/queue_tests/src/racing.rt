@@ -260,7 +260,10 @@ fn is_all_applied<R: Wait>(
     let ended = all_ended(rt, alloc, gate, done, &mut accounts);
     conservation(&taker);
     let closed = close_all(rt, gate, taker, ended, applier, Moment(1500));
-    are_whole_in(&closed, accounts.as_slice())
+    let are_whole = are_whole_in(&closed, accounts.as_slice());
+    drop(closed);
+    drop(accounts);
+    are_whole
 }
 
 // A gate of so many clients, with room for eight items.
@@ -314,7 +317,9 @@ fn is_drained<R: Threads + Wait + Sync>(
 ) -> bool {
     match opened(alloc, count) {
         Some((gate, taker, closer, clients)) => {
-            are_applied(rt, alloc, &gate, (clients, closer), taker, attempts)
+            let are_applied = are_applied(rt, alloc, &gate, (clients, closer), taker, attempts);
+            drop(gate);
+            are_applied
         }
         None => false,
     }

@@ -35,7 +35,10 @@ fn answers_with_room_for_one<R: Wait>(
 fn is_full_until_a_take<R: Wait>(rt: &R, alloc: Global) -> bool {
     match two_clients(alloc, 1, 9) {
         Some((gate, mut taker, _, mut one, mut two)) => {
-            answers_with_room_for_one(rt, &gate, &mut one, &mut two, &mut taker)
+            let is_full = answers_with_room_for_one(rt, &gate, &mut one, &mut two, &mut taker);
+            drop(gate);
+            drop(taker);
+            is_full
         }
         None => false,
     }
@@ -62,7 +65,11 @@ fn queued_before_full<R: Wait>(rt: &R, gate: &Gate, client: &mut Client) -> usiz
 
 fn room<R: Wait>(rt: &R, alloc: Global, capacity: usize) -> Option<usize> {
     match two_clients(alloc, capacity, 100_000) {
-        Some((gate, _, _, mut one, _)) => Some(queued_before_full(rt, &gate, &mut one)),
+        Some((gate, _, _, mut one, _)) => {
+            let count = queued_before_full(rt, &gate, &mut one);
+            drop(gate);
+            Some(count)
+        }
         None => None,
     }
 }
@@ -81,7 +88,9 @@ fn is_spent_after_one<R: Wait>(rt: &R, alloc: Global) -> bool {
     match two_clients(alloc, 9, 1) {
         Some((gate, _, _, mut one, _)) => {
             let first = submitted(rt, &gate, &mut one, 5);
-            first == Answer::Queued(1) && submitted(rt, &gate, &mut one, 6) == Answer::Spent(6)
+            let second = submitted(rt, &gate, &mut one, 6);
+            drop(gate);
+            first == Answer::Queued(1) && second == Answer::Spent(6)
         }
         None => false,
     }
@@ -148,7 +157,12 @@ fn taken_in(gate: &Gate, taker: &mut Taker, one: Client) -> (bool, bool)
 
 fn is_taken_in_alone(alloc: Global) -> bool {
     match two_clients(alloc, 9, 9) {
-        Some((gate, mut taker, _, one, _)) => taken_in(&gate, &mut taker, one) == (true, false),
+        Some((gate, mut taker, _, one, _)) => {
+            let ended = taken_in(&gate, &mut taker, one);
+            drop(gate);
+            drop(taker);
+            ended == (true, false)
+        }
         None => false,
     }
 }
