@@ -131,13 +131,16 @@ fn is_learned(alloc: Global) -> bool {
     match two_clients(alloc, 9, 9) {
         Some((gate, mut taker, mut closer, mut one, _)) => {
             let mut other = closer.another();
-            match notice(alloc, &gate, &mut closer) {
+            let is_learned = match notice(alloc, &gate, &mut closer) {
                 Some(notice) => {
                     found_with_a_notice(alloc, &gate, &notice, &mut one, &mut taker, &mut other)
                         == (Some(Moment(1500)), Some(Moment(1500)), Err(Some(1500)))
                 }
                 None => false,
-            }
+            };
+            drop(gate);
+            drop(taker);
+            is_learned
         }
         None => false,
     }

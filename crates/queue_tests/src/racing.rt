@@ -300,10 +300,17 @@ fn are_applied<R: Threads + Wait + Sync>(
             );
             match done {
                 Some(done) => is_all_applied(rt, alloc, gate, taker, applier, done),
-                None => false,
+                None => {
+                    drop(taker);
+                    drop(applier);
+                    false
+                }
             }
         }
-        None => false,
+        None => {
+            drop(taker);
+            false
+        }
     }
 }
 

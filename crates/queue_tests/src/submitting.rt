@@ -173,7 +173,9 @@ fn a_client_that_has_ended_is_taken_in_alone(rt: HostRuntime) {
 }
 
 fn is_text(alloc: Global, fault: Refused, text: &str) -> bool {
-    format!(in alloc; "{fault}").is_ok_and(|shown| shown.as_str() == text)
+    let shown = format!(in alloc; "{fault}");
+    drop(fault);
+    shown.is_ok_and(|shown| shown.as_str() == text)
 }
 
 #[test]
