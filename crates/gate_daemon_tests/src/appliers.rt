@@ -6,6 +6,7 @@ use gate_applier::Applier;
 use gate_daemon::{ApplierStop, run_applier};
 use gate_model::{Body, Moment, ObjectLine, ObjectTable, Text};
 use gate_pages::{Board, status_page};
+use gate_queue::{Client, Gate, Taker};
 use gate_worker::NoHold;
 use std::alloc::Global;
 use std::sync::{Mutex, Wait};
@@ -43,29 +44,80 @@ fn short_log(alloc: Global) -> Option<Applier>
 
 const LAST_PAGE: &[u8] = b"status 1000\nobject;web1;;UP;1000;fresh;-;0;second\n";
 
-// Queues three results and applies them to a log for two: whether the page shows both.
-fn shows_both<R: Wait + Clock>(rt: &R, alloc: Global) -> Option<bool> {
-    let (gate, taker, mut client) = one_client(alloc)?;
-    client.submit(rt, &gate, result(alloc, "first")?).ok()?;
-    client.submit(rt, &gate, result(alloc, "second")?).ok()?;
-    client.submit(rt, &gate, result(alloc, "third")?).ok()?;
+// Queues a result with this output: whether it was queued.
+fn is_queued<R: Wait>(rt: &R, alloc: Global, gate: &Gate, client: &mut Client, output: &str) -> bool
+    requires { client.old.gate ≡ gate.now }
+    ensures { client.new.gate ≡ gate.now }
+{
+    match result(alloc, output) {
+        Some(body) => {
+            let answered = client.submit(rt, gate, body);
+            let is_queued = answered.is_ok();
+            drop(answered);
+            is_queued
+        }
+        None => false,
+    }
+}
+
+// The short log, and its first board.
+fn shown_log(alloc: Global) -> Option<(Applier, Mutex<Board>)>
+    ensures { IfSome result (λ shown. shown.0.records ≡ []) }
+{
     let applier = short_log(alloc)?;
-    let board = Mutex::new(Board::of(alloc, &applier).ok()?);
-    let (_, _, stop) = run_applier(
+    match Board::of(alloc, &applier) {
+        Ok(board) => Some((applier, Mutex::new(board))),
+        Err(_) => {
+            drop(applier);
+            None
+        }
+    }
+}
+
+fn is_shown<R: Wait>(rt: &R, alloc: Global, board: &Mutex<Board>, page: &[u8]) -> bool {
+    status_page(alloc, &board.lock(rt)).is_ok_and(|shown| shown.as_slice() == page)
+}
+
+// Applies what is queued to a log for two: whether the page shows both.
+fn shows_both<R: Wait + Clock>(rt: &R, alloc: Global, gate: &Gate, taker: Taker) -> bool
+    requires { (taker.gate ≡ gate.now) × (taker.taken ≡ []) }
+{
+    let Some((applier, board)) = shown_log(alloc) else {
+        drop(taker);
+        return false;
+    };
+    let (taker, applier, stop) = run_applier(
         rt,
         alloc,
-        &gate,
+        gate,
         taker,
         applier,
         &AlwaysAt(1000),
         NoHold,
         &board,
     );
-    let page = status_page(alloc, &board.lock(rt)).ok()?;
-    Some(stop == ApplierStop::LogFull && page.as_slice() == LAST_PAGE)
+    drop(taker);
+    drop(applier);
+    let is_shown = is_shown(rt, alloc, &board, LAST_PAGE);
+    drop(board);
+    stop == ApplierStop::LogFull && is_shown
+}
+
+// Queues three results and applies them to a log for two: whether the page shows both.
+fn shows_both_of_three<R: Wait + Clock>(rt: &R, alloc: Global) -> bool {
+    let Some((gate, taker, mut client)) = one_client(alloc) else {
+        return false;
+    };
+    let first = is_queued(rt, alloc, &gate, &mut client, "first");
+    let second = is_queued(rt, alloc, &gate, &mut client, "second");
+    let third = is_queued(rt, alloc, &gate, &mut client, "third");
+    let shows_both = shows_both(rt, alloc, &gate, taker);
+    drop(client);
+    drop(gate);
+    first && second && third && shows_both
 }
 
 #[test]
 fn the_page_shows_all_of_a_full_log(rt: HostRuntime) {
-    assert!(rt; shows_both(&rt, rt.alloc()).unwrap_or(false));
+    assert!(rt; shows_both_of_three(&rt, rt.alloc()));
 }

@@ -55,7 +55,7 @@ fn queued_by(worker: Option<&(u32, Vec<Report>)>) -> usize {
 pub fn left_by(finished: Result<Finished, GatewayFault>) -> Option<Left> {
     let finished = finished.ok()?;
     let records = finished.closed.applier.records();
-    Some(Left {
+    let left = Left {
         records: records.len(),
         clients: finished.reports.len(),
         first: match records.first() {
@@ -63,7 +63,9 @@ pub fn left_by(finished: Result<Finished, GatewayFault>) -> Option<Left> {
             None => 0,
         },
         queued: queued_by(finished.reports.get(1)),
-    })
+    };
+    drop(finished);
+    Some(left)
 }
 
 // Two records, the first of them of the worker of packets.

@@ -71,16 +71,22 @@ fn is_next<R: Wait>(rt: &R, gate: &Gate, taker: &mut Taker, number: u64) -> bool
 
 // Whether two connections of a packet each are answered, and queued, one after the other.
 fn accounts_for_both<R: Wait + Clock>(rt: &R, alloc: Global) -> Option<bool> {
-    let (gate, mut taker, client) = one_client(alloc)?;
     let bytes = packet(alloc)?;
+    let (gate, mut taker, client) = one_client(alloc)?;
     let end = work(rt, alloc, &gate, client, 2, &bytes);
     let is_answered = match end.reports.as_slice() {
         [first, second] => is_queued(first, 1) && is_queued(second, 2),
         _ => false,
     };
+    drop(end);
     let is_first = is_next(rt, &gate, &mut taker, 1);
     let is_second = is_next(rt, &gate, &mut taker, 2);
-    Some(is_answered && is_first && is_second && taker.take(rt, &gate).is_none())
+    let third = taker.take(rt, &gate);
+    let is_empty = third.is_none();
+    drop(third);
+    drop(taker);
+    drop(gate);
+    Some(is_answered && is_first && is_second && is_empty)
 }
 
 #[test]
