@@ -1,5 +1,5 @@
 -- The tests of a document one after another, and what it configures.
-use Rattle.std.proofs.Common.{◌≡◌, ℕ, List, [], ◌∷◌, ◌++◌, Option, Some, None, map, option_map, unwrap_or, subst, ap, ◌∙◌, sym, inl}
+use Rattle.std.proofs.Common.{◌≡◌, ℕ, List, [], ◌∷◌, ◌++◌, Some, None, map, option_map, unwrap_or, subst, ap, ◌∙◌, sym, inl}
 use Rattle.std.specs.List.{flat_map}
 use Rattle.std.specs.declared.net.socket_addr.SocketAddr.{SocketAddr}
 use Rattle.std.specs.Net.Grammar.{IsSocketText}

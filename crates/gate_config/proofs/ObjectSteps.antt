@@ -1,5 +1,5 @@
 -- The tests of a host's or a service's table, one by one, and the lines that it gives.
-use Rattle.std.proofs.Common.{◌≡◌, ℕ, List, [], ◌∷◌, ◌++◌, Option, Some, None, map, option_map, unwrap_or, subst, refl, ap, ◌∙◌, sym, inl, inr}
+use Rattle.std.proofs.Common.{◌≡◌, ℕ, List, [], ◌∷◌, ◌++◌, Option, Some, None, map, option_map, unwrap_or, subst, ap, ◌∙◌, sym, inl, inr}
 use Rattle.std.specs.Option.{option_and_then}
 use Rattle.std.specs.List.{flat_map}
 use Rattle.toml.specs.Data.{Data, Members, as_str, as_table}

@@ -1,10 +1,10 @@
 -- An array of tables, and the values in it.
-use Rattle.std.proofs.Common.{◌≡◌, Bool, true, false, List, [], ◌∷◌, Option, Some, None, map, refl, ap, ◌∙◌, sym}
+use Rattle.std.proofs.Common.{◌≡◌, true, false, List, [], ◌∷◌, Option, Some, None, map, refl, ap}
 use Rattle.std.specs.List.{list_all}
 use Rattle.toml.specs.Data.{Data, as_array}
 use Rattle.toml.specs.View.{view, items_view}
 use Rattle.toml.specs.declared.value.Value.{Value}
-use Rattle.gate_config.specs.Values.{list_of, is_table, if_tables, tables_or_none}
+use Rattle.gate_config.specs.Values.{list_of, is_table, tables_or_none}
 
 pub list_of-items : (values : List Value) → list_of (items_view values) ≡ map view values
 list_of-items [] = refl

@@ -96,6 +96,27 @@ fn read_address<'a>(
     }
 }
 
+// The addresses as a configuration keeps them.
+fn copied_addresses(
+    alloc: Global,
+    agents: Written<'_>,
+    operators: Written<'_>,
+    pages: Written<'_>,
+) -> Result<(Address, Address, Address), AllocError>
+    ensures agents { IfOk result (λ addresses.
+        (addresses.0.text ≡ agents.entry.text.now) × (addresses.0.socket ≡ agents.entry.socket)) }
+    ensures operators { IfOk result (λ addresses.
+        (addresses.1.text ≡ operators.entry.text.now) × (addresses.1.socket ≡ operators.entry.socket)) }
+    ensures pages { IfOk result (λ addresses.
+        (addresses.2.text ≡ pages.entry.text.now) × (addresses.2.socket ≡ pages.entry.socket)) }
+{
+    Ok((
+        agents.copied(alloc)?,
+        operators.copied(alloc)?,
+        pages.copied(alloc)?,
+    ))
+}
+
 fn read_limits(document: &Table) -> Result<Limits, ConfigFault>
     ensures limits { IfOk result (AreLimitsOf (table_view document.now)) }
     ensures passed { OnOk result (AllPass (map (key_check (table_view document.now))
@@ -149,13 +170,19 @@ fn config_of(alloc: Global, document: &Table) -> Result<Config, ConfigFault>
     let limits = read_limits(document)?;
     let hosts = values::tables(document, Key::Host)?;
     let table = build_table(alloc, objects::read_hosts(alloc, hosts)?)?;
-    Ok(Config {
-        agents: agents.copied(alloc)?,
-        operators: operators.copied(alloc)?,
-        pages: pages.copied(alloc)?,
-        limits,
-        table,
-    })
+    match copied_addresses(alloc, agents, operators, pages) {
+        Ok((agents, operators, pages)) => Ok(Config {
+            agents,
+            operators,
+            pages,
+            limits,
+            table,
+        }),
+        Err(_) => {
+            drop(table);
+            Err(ConfigFault::OutOfMemory)
+        }
+    }
 }
 
 /// Reads a configuration.

@@ -1,4 +1,3 @@
-use Rattle.std.proofs.Common.{◌≡◌, None}
 use Rattle.std.proofs.lemmas.Result.{on_ok_weaker, IfErr-weaker}
 use Rattle.toml.specs.View.{table_view}
 use Rattle.gate_config.specs.Keys.{host_keys}
