@@ -1,6 +1,6 @@
 -- Numbers of items that go on from those before.
-use Rattle.std.proofs.Common.{◌≡◌, ℕ, zero, suc, ◌+◌, List, [], ◌∷◌, ◌++◌, length, map, refl, sym, ap, ◌∙◌, subst, arith, length-append}
-use Rattle.std.proofs.lemmas.List.{append-nil, append_assoc, map-append}
+use Rattle.std.proofs.Common.{◌≡◌, ℕ, zero, suc, ◌+◌, List, [], ◌∷◌, ◌++◌, length, refl, sym, ap, ◌∙◌, subst, arith, length-append}
+use Rattle.std.proofs.lemmas.List.{append-nil, append_assoc}
 use Rattle.gate_model.specs.declared.submission.Numbered.{Numbered}
 use Rattle.gate_reader.specs.declared.report.Report.{Report}
 use Rattle.gate_reader.specs.Session.{AreNumberedAfter}
@@ -48,10 +48,14 @@ reported_numbers-snoc [] report = append-nil (queued_numbers report.answers)
 reported_numbers-snoc (first ∷ reports) report = ap (λ l. queued_numbers first.answers ++ l) (reported_numbers-snoc reports report) ∙ sym (append_assoc (queued_numbers first.answers) (reported_numbers reports) (queued_numbers report.answers))
 
 -- with one more report, the items are still those that the reports answer with Queued, numbered from 1
-pub reported_next : (old new : List Numbered) (reports : List Report) (report : Report) → item_numbers old ≡ reported_numbers reports → reported_numbers reports ≡ numbers_after 0 (length old) → Extends old new report.answers
-    → (item_numbers new ≡ reported_numbers (reports ++ report ∷ [])) × (reported_numbers (reports ++ report ∷ []) ≡ numbers_after 0 (length new))
-reported_next old new reports report reported counted e =
+pub reported_next : (old looked new : List Numbered) (reports reserved pushed : List Report) (report : Report)
+    → item_numbers old ≡ reported_numbers reports → reported_numbers reports ≡ numbers_after 0 (length old)
+    → looked ≡ old → Extends looked new report.answers → reserved ≡ reports → pushed ≡ reserved ++ report ∷ []
+    → (item_numbers new ≡ reported_numbers pushed) × (reported_numbers pushed ≡ numbers_after 0 (length new))
+reported_next old looked new reports reserved pushed report reported counted same extends kept added =
+    let e = subst (λ l. Extends l new report.answers) same extends in
     let more = e.0 in
-    let first : item_numbers new ≡ reported_numbers (reports ++ report ∷ []) = ap item_numbers e.1 ∙ item_numbers-append old more ∙ ap (λ l. l ++ item_numbers more) reported ∙ ap (λ l. reported_numbers reports ++ l) e.2 ∙ sym (reported_numbers-snoc reports report) in
+    let all : pushed ≡ reports ++ report ∷ [] = added ∙ ap (λ l. l ++ report ∷ []) kept in
+    let first : item_numbers new ≡ reported_numbers pushed = ap item_numbers e.1 ∙ item_numbers-append old more ∙ ap (λ l. l ++ item_numbers more) reported ∙ ap (λ l. reported_numbers reports ++ l) e.2 ∙ sym (ap reported_numbers all ∙ reported_numbers-snoc reports report) in
     let second : item_numbers new ≡ numbers_after 0 (length new) = ap item_numbers e.1 ∙ numbers_go_on old more (reported ∙ counted) e.3 ∙ ap (λ l. numbers_after 0 (length l)) (sym e.1) in
     (first, sym first ∙ second)

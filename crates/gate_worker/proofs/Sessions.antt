@@ -1,5 +1,5 @@
 -- What a session answered with Queued is what it queued.
-use Rattle.std.proofs.Common.{◌≡◌, ℕ, ◌+◌, ◌⊎◌, inl, inr, List, [], ◌∷◌, ◌++◌, length, map, Option, Some, None, refl, sym, ap, ◌∙◌, subst, arith}
+use Rattle.std.proofs.Common.{◌≡◌, ℕ, inl, inr, List, [], ◌∷◌, ◌++◌, length, Option, Some, None, refl, sym, ap, ◌∙◌, subst}
 use Rattle.std.proofs.lemmas.List.{append-nil}
 use Rattle.gate_model.specs.declared.record.Moment.{Moment}
 use Rattle.gate_model.specs.declared.submission.Body.{Body}
@@ -10,9 +10,9 @@ use Rattle.gate_reader.specs.declared.report.SessionLimits.{SessionLimits}
 use Rattle.gate_reader.specs.declared.report.Stop.{Stop}
 use Rattle.gate_reader.specs.Source.{SourceState}
 use Rattle.gate_reader.specs.Sink.{SinkState}
-use Rattle.gate_reader.specs.Session.{ClientView, Parties, Handled, SessionKind, LeadsTo, Queues, IsSession, queued_as, queued_among, answers_of, AreNumberedAfter}
-use Rattle.gate_reader.specs.Packets.{AnswersBlock, HandlesBlock, packets, IsPacketSession}
-use Rattle.gate_reader.specs.Lines.{OperatorView, AnswersLine, HandlesLine, lines, IsLineSession}
+use Rattle.gate_reader.specs.Session.{ClientView, Parties, Handled, SessionKind, LeadsTo, IsSession, queued_as, queued_among, answers_of}
+use Rattle.gate_reader.specs.Packets.{AnswersBlock, packets, IsPacketSession}
+use Rattle.gate_reader.specs.Lines.{OperatorView, AnswersLine, lines, IsLineSession}
 use Rattle.gate_worker.specs.Numbers.{number_in, queued_numbers, item_numbers, numbers_after}
 use Rattle.gate_worker.proofs.Numbering.{item_numbers-append, numbers_of_items}
 

@@ -1,4 +1,4 @@
-ghost use Rattle.std.specs.Prelude.{◌≡◌, [], length, IfSome, IsSome, vec_len};
+ghost use Rattle.std.specs.Prelude.{◌≡◌, ◌<◌, [], length, IfSome, IfErr, IsSome, OnOk, vec_len, vec_capacity};
 ghost use Rattle.gate_worker.specs.declared.worker.Cause.TheVariants.{Closing, TooManySessions};
 ghost use Rattle.gate_worker.specs.Numbers.{item_numbers, numbers_after, reported_numbers};
 ghost use Rattle.gate_worker.specs.inner.Serving.{Extends};
@@ -130,6 +130,43 @@ fn serve_either<R: Wait + Clock, I: Source + Drop, O: Sink + Drop, K: Watch>(
     }
 }
 
+// The next connection to serve, with room for its report, or why the worker ends.
+fn next_connection<C: Connections>(
+    gate: &Gate,
+    client: &mut Client,
+    reports: &mut Vec<Report>,
+    connections: &mut C,
+    limits: WorkerLimits,
+) -> Result<(C::In, C::Out), Cause>
+    requires { client.old.gate ≡ gate.now }
+    ensures gate { client.new.gate ≡ client.old.gate }
+    ensures number { client.new.number ≡ client.old.number }
+    ensures queued { client.new.queued ≡ client.old.queued }
+    ensures reports { reports.new.items ≡ reports.old.items }
+    ensures room { OnOk result (vec_len reports.new < vec_capacity reports.new) }
+    ensures closing { IfErr result (λ cause.
+        cause ≡ Closing → IsSome client.new.known_close) }
+    ensures too_many { IfErr result (λ cause.
+        cause ≡ TooManySessions → vec_len reports.new ≡ limits.sessions) }
+{
+    if client.look(gate).is_some() {
+        return Err(Cause::Closing);
+    }
+    if reports.len() == limits.sessions as usize {
+        return Err(Cause::TooManySessions);
+    }
+    if reports.reserve(1).is_err() {
+        return Err(Cause::OutOfMemory);
+    }
+    let Some(connection) = connections.next() else {
+        return Err(Cause::NoMoreConnections);
+    };
+    if client.look(gate).is_some() {
+        return Err(Cause::Closing);
+    }
+    Ok(connection)
+}
+
 // A worker's end, with what its type keeps.
 fn end_of(client: Client, reports: Vec<Report>, cause: Cause) -> WorkerEnd
     requires reported { item_numbers client.queued ≡ reported_numbers reports.items }
@@ -176,29 +213,19 @@ pub fn run_worker<R: Wait + Clock, C: Connections + Drop, K: Watch, H: Hold + Dr
     let mut closer = closer;
     let mut reports = Vec::new(alloc);
     for _ in rt.forever() {
-        if client.look(gate).is_some() {
-            return end_of(client, reports, Cause::Closing);
+        match next_connection(gate, &mut client, &mut reports, &mut connections, limits) {
+            Ok(connection) => {
+                hold.pass(Point::Session);
+                let (served, kept, report) = serve_either(
+                    rt, alloc, gate, client, closer, connection, clock, limits,
+                );
+                client = served;
+                closer = kept;
+                reports.push_reserved(report);
+                hold.pass(Point::Answered);
+            }
+            Err(cause) => return end_of(client, reports, cause),
         }
-        if reports.len() == limits.sessions as usize {
-            return end_of(client, reports, Cause::TooManySessions);
-        }
-        if reports.reserve(1).is_err() {
-            return end_of(client, reports, Cause::OutOfMemory);
-        }
-        let Some(connection) = connections.next() else {
-            return end_of(client, reports, Cause::NoMoreConnections);
-        };
-        if client.look(gate).is_some() {
-            return end_of(client, reports, Cause::Closing);
-        }
-        hold.pass(Point::Session);
-        let (served, kept, report) = serve_either(
-            rt, alloc, gate, client, closer, connection, clock, limits,
-        );
-        client = served;
-        closer = kept;
-        reports.push_reserved(report);
-        hold.pass(Point::Answered);
     }
     unreachable!()
 }

@@ -1,4 +1,4 @@
-use Rattle.std.proofs.Common.{sym, ap, ◌∙◌, subst}
+use Rattle.std.proofs.Common.{ap, ◌∙◌}
 use Rattle.gate_worker.proofs.Sessions.{packets_grow}
 use Rattle.gate_worker.proofs.worker.serve_sender.Goals as goal
 
