@@ -1,8 +1,10 @@
 -- The last of all clients of a new gate.
-use Rattle.std.proofs.Common.{◌≡◌, ℕ, zero, suc, ◌+◌, List, [], ◌∷◌, ◌++◌, length, Option, Some, None, refl, sym, ap, ◌∙◌, arith, length-append}
+use Rattle.std.proofs.Common.{◌≡◌, ℕ, zero, suc, ◌+◌, List, [], ◌∷◌, ◌++◌, length, None, refl, sym, ap, ◌∙◌, arith, length-append}
 use Rattle.gate_queue.specs.Gate.{GateId}
 use Rattle.gate_queue.specs.Client.{ClientState, client_state}
 use Rattle.gate_queue.specs.Opening.{new_clients}
+use Rattle.gate_worker.specs.Numbers.{numbers_after}
+use Rattle.gate_worker.proofs.Numbering.{numbers_after-next}
 use Rattle.gate_daemon.specs.inner.Collecting.{numbers_of}
 
 abbrev head_or : {X : Type 0} → X → List X → X
@@ -35,3 +37,14 @@ last_client gate old new x all cut =
 pub numbers_of-append : (xs ys : List ClientState) → numbers_of (xs ++ ys) ≡ numbers_of xs ++ numbers_of ys
 numbers_of-append [] ys = refl
 numbers_of-append (x ∷ xs) ys = ap (λ l. x.number ∷ l) (numbers_of-append xs ys)
+
+-- once the last client has ended after the operator's and all below it, all have
+pub all_ended : (gate : GateId) (clients rest before ended : List ClientState) (last joined : ClientState) (operator : ℕ)
+    → clients ≡ new_clients gate (length clients) → clients ≡ rest ++ last ∷ [] → joined.number ≡ last.number → ended ≡ before ++ joined ∷ []
+    → numbers_of before ≡ operator ∷ numbers_after 0 (length rest) → numbers_of ended ≡ operator ∷ numbers_after 0 (length clients)
+all_ended gate clients rest before ended last joined operator all cut same added found =
+    let n = length rest in
+    let number : joined.number ≡ suc n = same ∙ ap (λ x. x.number) (last_client gate clients rest last all cut).0 in
+    let long : suc n ≡ length clients = let e = ap length cut in let f = length-append rest (last ∷ []) in omega arith in
+    ap numbers_of added ∙ numbers_of-append before (joined ∷ []) ∙ ap (λ l. l ++ joined.number ∷ []) found
+    ∙ ap (λ k. operator ∷ (numbers_after 0 n ++ k ∷ [])) number ∙ ap (λ l. operator ∷ l) (numbers_after-next n ∙ ap (numbers_after 0) long)

@@ -131,13 +131,29 @@ pub(crate) fn open_parts(
         × (workers + 1 ≤ parts.collected.reports.cap)) }
     ensures fault { IfErr result (λ fault. IsUnopened workers capacity limit fault) }
 {
-    let collected = Collected::with_room(alloc, workers as usize + 1)?;
-    let (applier, board) = open_log(alloc, table, now, limit)?;
-    let opening = open_gate(alloc, workers, capacity)?;
-    Ok(Parts {
-        opening,
-        applier,
-        collected,
-        board,
-    })
+    let Ok(collected) = Collected::with_room(alloc, workers as usize + 1) else {
+        drop(table);
+        return Err(Unopened::OutOfMemory);
+    };
+    let (applier, board) = match open_log(alloc, table, now, limit) {
+        Ok(log) => log,
+        Err(unopened) => {
+            drop(collected);
+            return Err(unopened);
+        }
+    };
+    match open_gate(alloc, workers, capacity) {
+        Ok(opening) => Ok(Parts {
+            opening,
+            applier,
+            collected,
+            board,
+        }),
+        Err(unopened) => {
+            drop(applier);
+            drop(board);
+            drop(collected);
+            Err(unopened)
+        }
+    }
 }

@@ -1,10 +1,8 @@
-use Rattle.std.proofs.Common.{sym, ap, ◌∙◌, subst, ◌≡◌, ◌+◌, ℕ, suc, List, [], ◌∷◌, ◌++◌, length, refl, arith, length-append}
+use Rattle.std.proofs.Common.{sym, ap, ◌∙◌, subst, ◌≡◌}
 use Rattle.std.proofs.lemmas.List.Elements.{All-push}
 use Rattle.gate_queue.specs.Client.{ClientState}
-use Rattle.gate_worker.specs.Numbers.{numbers_after}
-use Rattle.gate_daemon.specs.inner.Collecting.{numbers_of, AreOf}
-use Rattle.gate_worker.proofs.Numbering.{numbers_after-next}
-use Rattle.gate_daemon.proofs.Clients.{last_client, numbers_of-append}
+use Rattle.gate_daemon.specs.inner.Collecting.{AreOf}
+use Rattle.gate_daemon.proofs.Clients.{last_client, all_ended}
 use Rattle.gate_daemon.proofs.threads.+run_workers.Goals as goal
 
 pub start_worker-requires-clause-gate : goal.start_worker-requires-clause-gate
@@ -21,14 +19,8 @@ run_workers-closer-requires-clause-clients g t c κs within =
 
 pub returns-in-Ok-clause-all : goal.returns-in-Ok-clause-all
 returns-in-Ok-clause-all g t c all =
-    let rest = c.pop.new.self.items in
-    let n = length rest in
-    let last = (last_client c.args.gate.now c.args.clients.items rest c.in-Some.client c.requires.clients c.in-Some.ensures.items).0 in
-    let number : c.join.result.ended.number ≡ suc n = c.join.ensures.1 ∙ c.in-Ok.ensures.1 ∙ ap (λ x. x.number) last in
-    let long : suc n ≡ length c.args.clients.items = let e = ap length c.in-Some.ensures.items in let f = length-append rest (c.in-Some.client ∷ []) in omega arith in
-    let before = c.run_workers-closer.result.1.ended.items in
-    ap numbers_of c.add.ensures.ended ∙ numbers_of-append before (c.join.result.ended ∷ []) ∙ ap (λ l. l ++ c.join.result.ended.number ∷ []) (c.run_workers-closer.ensures.all all)
-    ∙ ap (λ k. c.args.operator.number ∷ (numbers_after 0 n ++ k ∷ [])) number ∙ ap (λ l. c.args.operator.number ∷ l) (numbers_after-next n ∙ ap (numbers_after 0) long)
+    all_ended c.args.gate.now c.args.clients.items c.pop.new.self.items c.run_workers-closer.result.1.ended.items _ c.in-Some.client c.join.result.ended c.args.operator.number
+    c.requires.clients c.in-Some.ensures.items (c.join.ensures.1 ∙ c.in-Ok.ensures.1) c.add.ensures.ended (c.run_workers-closer.ensures.all all)
 
 pub returns-in-Ok-clause-gates : goal.returns-in-Ok-clause-gates
 returns-in-Ok-clause-gates g t c =
