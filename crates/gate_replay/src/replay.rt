@@ -75,7 +75,9 @@ fn print_last_log<W: Sink>(
     ensures err { let state = sink_state W.contents W.pending W.failures in
         IfErr result (IsLogEnd (state output.old) (state output.new)) }
 {
-    print_log(alloc, &applier, output)
+    let printed = print_log(alloc, &applier, output);
+    drop(applier);
+    printed
 }
 
 // The fault after which the log was printed, unless printing it failed.
