@@ -8,103 +8,8 @@ import subprocess
 import sys
 import tempfile
 import time
-import zlib
 
-CONFIGURATION = """\
-agents = "127.0.0.1:0"
-operators = "127.0.0.1:0"
-pages = "127.0.0.1:0"
-capacity = 256
-greatest_age = 0
-limit = 100000
-
-[[host]]
-name = "web1"
-freshness = 300
-
-[[host.service]]
-name = "HTTP"
-freshness = 300
-"""
-
-PATIENCE = 20.0  # seconds
-passed = 0
-failed = 0
-
-
-def check(what, found, expected):
-    """Counts a test: what was found has to be what is expected."""
-    global passed, failed
-    if found == expected:
-        passed += 1
-    else:
-        failed += 1
-        print(f"{what} ... FAILED: {found!r}, not {expected!r}")
-
-
-class Daemon:
-    """A running `nscagate serve`, and the addresses that it printed."""
-
-    def __init__(self, program, folder, configuration, host="127.0.0.1"):
-        self.host = host
-        path = os.path.join(folder, "gateway.toml")
-        with open(path, "w", encoding="latin-1") as file:
-            file.write(configuration)
-        self.process = subprocess.Popen([program, "serve", "--config", path],
-                                        stdout=subprocess.PIPE, stderr=subprocess.PIPE)
-        self.ports = {}
-        for name in ("agents", "operators", "pages"):
-            words = self.process.stdout.readline().decode().split()
-            if len(words) != 2 or words[0] != name:
-                raise SystemExit(f"the daemon printed {words}, no address of its {name}")
-            self.ports[name] = int(words[1].rsplit(":", 1)[1])
-
-    def connect(self, name):
-        connection = socket.create_connection((self.host, self.ports[name]), PATIENCE)
-        connection.settimeout(PATIENCE)
-        return connection
-
-    def page(self):
-        with self.connect("pages") as connection:
-            return read_all(connection).decode("latin-1")
-
-    def page_with(self, text):
-        """A status page that has this text, asked for again and again; the last one after too long."""
-        end = time.monotonic() + PATIENCE
-        page = self.page()
-        while text not in page and time.monotonic() < end:
-            page = self.page()
-        return page
-
-    def end(self):
-        """The status and what was printed, once the daemon has ended."""
-        output, errors = self.process.communicate(timeout=PATIENCE)
-        return self.process.returncode, output.decode("latin-1"), errors.decode("latin-1")
-
-
-def read_all(connection):
-    pieces = []
-    while True:
-        piece = connection.recv(65536)
-        if not piece:
-            return b"".join(pieces)
-        pieces.append(piece)
-
-
-def read_exactly(connection, count):
-    found = b""
-    while len(found) < count:
-        piece = connection.recv(count - len(found))
-        if not piece:
-            return found
-        found += piece
-    return found
-
-
-def packet(timestamp, host, service, code, output):
-    """A data packet of 4304 bytes, as the sender's own structure has it."""
-    fields = struct.pack(">hxxIIh64s128s4096sxx", 3, 0, timestamp, code, host, service, output)
-    return fields[:4] + struct.pack(">I", zlib.crc32(fields)) + fields[8:]
+from daemon_clients import CONFIGURATION, PATIENCE, Daemon, ask, check, end_tests, packet, read_all, read_exactly
 
 
 def send(daemon, packets, rest=b""):
@@ -133,14 +38,6 @@ def send_result(daemon, folder, line):
                          input=line + "\n", capture_output=True, text=True, timeout=PATIENCE, check=False)
     check("send_nsca's status", ran.returncode, 0)
     return client
-
-
-def ask(daemon, *lines):
-    """What an operator is answered to these lines on one connection."""
-    with daemon.connect("operators") as connection:
-        connection.sendall("".join(line + "\n" for line in lines).encode("latin-1"))
-        connection.shutdown(socket.SHUT_WR)
-        return read_all(connection).decode("latin-1").splitlines()
 
 
 def without_moments(page):
@@ -242,21 +139,6 @@ def play_few_sessions(program, folder):
     check("all is logged", output.split("\n", 1)[0], "log 4")
 
 
-def play_a_silent_sender(program, folder):
-    """A sender that connects and sends nothing is let go of after 10 seconds, and the next one is served."""
-    daemon = Daemon(program, folder, CONFIGURATION)
-    with daemon.connect("agents") as silent:
-        check("a silent sender is greeted", len(read_exactly(silent, 132)), 132)
-        began = time.monotonic()
-        send(daemon, [(b"web1", b"HTTP", 2, b"after the silence")])
-        waited = time.monotonic() - began
-        check("the next sender waits for some 10 seconds", 8 < waited < 15, True)
-        check("the silent sender is let go of", read_all(silent), b"")
-    check("what the next one sent is applied", "CRITICAL" in daemon.page_with("CRITICAL"), True)
-    check("a daemon with a silent sender closes", ask(daemon, "[1] SHUTDOWN_PROGRAM"), ["closing"])
-    check("its status", daemon.end()[0], 0)
-
-
 def play_on_version_6(program, folder):
     """All three addresses may be of version 6 of the protocol, where the machine has it."""
     try:
@@ -289,7 +171,6 @@ def main():
         play_a_full_log(program, folder)
         play_an_old_packet(program, folder)
         play_few_sessions(program, folder)
-        play_a_silent_sender(program, folder)
         play_on_version_6(program, folder)
         refuse(program, folder, "colour = 1\n", 2, "config: UnknownKey colour")
         refuse(program, folder, "capacity = 0\n", 2, "config: BadValue capacity")
@@ -300,8 +181,7 @@ def main():
         with socket.create_server(("127.0.0.1", 0)) as other:
             address = f"127.0.0.1:{other.getsockname()[1]}"
             refuse(program, folder, f'agents = "{address}"\n', 4, f"bind {address}")
-    print(f"{passed} passed, {failed} failed")
-    sys.exit(failed > 0)
+    end_tests()
 
 
 main()

@@ -8,13 +8,11 @@ use gate_applier::{Applier, PrepareCause, PrepareFault, Ready};
 use gate_model::{Moment, Numbered};
 use gate_pages::{Board, publish};
 use gate_queue::{Gate, Taker};
+use gate_worker::times::BOARD_PAUSES;
 use gate_worker::{Hold, Point, Watch, pause};
 use std::alloc::Global;
 use std::sync::{Mutex, Wait};
 use std::time::Clock;
-
-// Turns of 2 ms: a board is made at most every 50 ms, since it copies all that a page shows.
-const BOARD_TURNS: u32 = 25;
 
 /// Why the applier stopped. Own rules.
 #[derive(Clone, Copy, Debug, PartialEq, Eq)]
@@ -111,7 +109,8 @@ struct Shown {
     is_complete: bool,
     // The board's moment, or that of the opening.
     moment: Moment,
-    // In how many more turns without an item the next board may be made.
+    // In how many more turns without an item the next board may be made: it copies all that a page
+    // shows.
     turns_left: u32,
 }
 
@@ -168,7 +167,7 @@ fn show_idle<R: Wait>(
     Shown {
         is_complete: try_show(rt, alloc, applier, board),
         moment: applier.moment(),
-        turns_left: BOARD_TURNS,
+        turns_left: BOARD_PAUSES,
     }
 }
 
@@ -189,8 +188,9 @@ fn show_last<R: Wait + Clock>(rt: &R, alloc: Global, applier: &Applier, board: &
 /// it is never empty a board is published each second.
 ///
 /// It stops where the queue is empty and the gate is closing, and where the log is full, once a
-/// board shows all of it: the queue fills up then. Where memory is missing, it tries again. It
-/// waits for items, and for other threads at the queue and at the board. Own rule.
+/// board shows all of it: the queue fills up then, and nobody waits for room in it. Where memory is
+/// missing, it tries again. It waits for items, and for other threads at the queue and at the board.
+/// Own rule.
 pub fn run_applier<R: Wait + Clock, K: Watch, H: Hold + Drop>(
     rt: &R,
     alloc: Global,
@@ -226,6 +226,7 @@ pub fn run_applier<R: Wait + Clock, K: Watch, H: Hold + Drop>(
         match step {
             Step::Applied => shown = show_busy(rt, alloc, &applier, shown, board),
             Step::LogFull => {
+                gate.stop_taking();
                 show_last(rt, alloc, &applier, board);
                 return (taker, applier, ApplierStop::LogFull);
             }

@@ -30,7 +30,7 @@ fn next_page<R: Wait + Clock>(rt: &R, alloc: Global, board: &Mutex<Board>) -> (V
 }
 
 // Writes a page. A reader that has gone doesn't get it.
-fn write_page<O: Sink + Drop>(mut output: O, page: &[u8]) {
+fn write_page<O: Sink>(output: &mut O, page: &[u8]) {
     if output.put(page).is_ok() {
         let _ = output.deliver();
     }
@@ -39,8 +39,8 @@ fn write_page<O: Sink + Drop>(mut output: O, page: &[u8]) {
 /// Writes the status page to each connection. It ends after the first connection that is served
 /// with a closing board, and where there are no more connections.
 ///
-/// What a connection sends isn't read. Where memory for a page is missing, it tries again. It waits
-/// for the connections and for the board. Own rule.
+/// What a connection sends isn't looked at. Where memory for a page is missing, it tries again. It
+/// waits for the connections and for the board. Own rule.
 pub fn run_pages<R: Wait + Clock, C: Connections + Drop>(
     rt: &R,
     alloc: Global,
@@ -48,11 +48,12 @@ pub fn run_pages<R: Wait + Clock, C: Connections + Drop>(
     board: &Mutex<Board>,
 ) {
     for _ in rt.forever() {
-        let Some((_input, output)) = connections.next() else {
+        let Some((input, mut output)) = connections.next() else {
             return;
         };
         let (page, is_last) = next_page(rt, alloc, board);
-        write_page(output, &page);
+        write_page(&mut output, &page);
+        connections.part(input, output);
         if is_last {
             return;
         }

@@ -1,4 +1,4 @@
-ghost use Rattle.std.specs.Prelude.{◌≡◌, ◌+◌, ◌≤◌, [], ◌∷◌, length, vec_len, IfOk, IsTrue};
+ghost use Rattle.std.specs.Prelude.{◌≡◌, ◌+◌, ◌≤◌, [], ◌∷◌, length, vec_len, IfOk, IsSome, IsTrue};
 ghost use Rattle.gate_queue.specs.Opening.{new_clients};
 ghost use Rattle.gate_queue.specs.DrainedClose.{items_of_records};
 ghost use Rattle.gate_worker.specs.Numbers.{numbers_after};
@@ -12,15 +12,15 @@ use gate_applier::Applier;
 use gate_model::Moment;
 use gate_pages::{Board, publish};
 use gate_queue::{Client, CloseFault, Closer, Gate, Taker};
-use gate_reader::Stop;
-use gate_worker::{Cause, Connections, Hold, Wake, Watch, WorkerEnd, WorkerLimits, pause};
+use gate_worker::{Cause, Connections, Hold, Wake, Watch, WorkerLimits, pause};
 use std::alloc::Global;
 use std::sync::{Mutex, Wait};
 use std::thread;
 use std::thread::{Scope, Threads};
 use std::time::Clock;
 
-// Closes the gate at this moment where nobody has, and returns the moment of the close.
+// Closes the gate at this moment where nobody has, and returns the moment of the close, which the
+// closer then knows.
 fn close_gate<R: Wait + Clock>(
     rt: &R,
     alloc: Global,
@@ -29,7 +29,8 @@ fn close_gate<R: Wait + Clock>(
     now: Moment,
 ) -> (Closer, Moment)
     requires { closer.cell ≡ gate.now.cell }
-    ensures { result.0.cell ≡ gate.now.cell }
+    ensures cell { result.0.cell ≡ gate.now.cell }
+    ensures known { IsSome result.0.known_close }
 {
     let mut closer = closer;
     for _ in rt.forever() {
@@ -42,13 +43,28 @@ fn close_gate<R: Wait + Clock>(
     unreachable!()
 }
 
-// Whether the operator's worker knew that the gate is closing.
-fn has_closed(end: &WorkerEnd) -> bool {
-    end.cause == Cause::Closing
-        || end
-            .reports
-            .iter()
-            .any(|report| report.stop == Stop::Shutdown)
+// Closes the gate where nobody has, and wakes the workers of packets.
+fn close_and_wake<R: Wait + Clock, W: Wake>(
+    rt: &R,
+    alloc: Global,
+    gate: &Gate,
+    closer: Closer,
+    now: Moment,
+    wake: &W,
+) -> Closer
+    requires { closer.cell ≡ gate.now.cell }
+    ensures { result.cell ≡ gate.now.cell }
+{
+    let (closer, _) = close_gate(rt, alloc, gate, closer, now);
+    wake_agents(wake, &closer);
+    closer
+}
+
+// Wakes the workers of packets. Woken before the close, they would end while senders still come.
+fn wake_agents<W: Wake>(wake: &W, _closer: &Closer)
+    requires { IsSome _closer.now.known_close }
+{
+    wake.agents();
 }
 
 // What the operator's worker serves: were its connections limited, nobody could shut the daemon
@@ -100,15 +116,15 @@ fn run_operator<
     match start_worker(rt, alloc, scope, gate, client, spare, post, clock, limits) {
         Ok(handle) => {
             let end = handle.join(rt);
-            if has_closed(&end) {
-                wake.agents();
-            }
+            let closer = match end.cause {
+                Cause::Closing => close_and_wake(rt, alloc, gate, closer, clock.read(), wake),
+                _ => closer,
+            };
             collected.add(end);
             (closer, collected, true)
         }
         Err(Unstarted) => {
-            let (closer, _) = close_gate(rt, alloc, gate, closer, clock.read());
-            wake.agents();
+            let closer = close_and_wake(rt, alloc, gate, closer, clock.read(), wake);
             (closer, collected, false)
         }
     }
@@ -197,8 +213,7 @@ fn run_workers<
             (closer, collected, all)
         }
         Err(Unstarted) => {
-            let (closer, _) = close_gate(rt, alloc, gate, closer, clock.read());
-            wake.agents();
+            let closer = close_and_wake(rt, alloc, gate, closer, clock.read(), wake);
             (closer, collected, false)
         }
     }

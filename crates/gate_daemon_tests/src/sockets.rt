@@ -1,7 +1,7 @@
 use crate::fakes::{config, packet};
 use crate::gateways::left_by;
 use gate_daemon::{Post, run_gateway};
-use gate_worker::{Accepted, Knocks, NoHold, SystemWatch};
+use gate_worker::{Accepted, Ending, NoHold, SystemWatch, by_turns};
 use std::alloc::Global;
 use std::io::{Read, Write};
 use std::net::{Net, Shutdown, SocketAddr, TcpListener, TcpStream};
@@ -52,15 +52,15 @@ fn talk<R: Net<Listener = TcpListener, Stream = TcpStream>>(
 fn serve<R: Net<Listener = TcpListener, Stream = TcpStream> + Threads + Wait + Clock + Sync>(
     rt: &R,
     alloc: Global,
-    agents: &TcpListener,
-    operators: &TcpListener,
-    pages: &TcpListener,
-    knocks: &Knocks<'_, R>,
+    agents: TcpListener,
+    operators: TcpListener,
+    pages: TcpListener,
 ) -> Option<usize> {
+    let ending = Ending::new();
     let config = config(alloc, 1)?;
     let mut posts = Vec::with_capacity(alloc, 1).ok()?;
     posts.push_reserved(Post {
-        connections: Accepted::of_senders(rt, agents),
+        connections: Accepted::of_agents(rt, agents, &ending),
         hold: NoHold,
     });
     let left = left_by(run_gateway(
@@ -69,13 +69,13 @@ fn serve<R: Net<Listener = TcpListener, Stream = TcpStream> + Threads + Wait + C
         config,
         posts,
         Post {
-            connections: Accepted::of_operators(rt, operators),
+            connections: Accepted::of_operators(rt, operators, &ending),
             hold: NoHold,
         },
-        Accepted::of_senders(rt, pages),
+        Accepted::of_readers(rt, pages, &ending),
         &SystemWatch { rt },
         NoHold,
-        knocks,
+        &ending,
     ))?;
     Some(left.records)
 }
@@ -87,24 +87,18 @@ fn is_served<R: Net<Listener = TcpListener, Stream = TcpStream> + Threads + Wait
     let Some(bytes) = packet(alloc) else {
         return Ok(None);
     };
-    let agents = TcpListener::bind(rt, "127.0.0.1:0")?;
-    let operators = TcpListener::bind(rt, "127.0.0.1:0")?;
-    let pages = TcpListener::bind(rt, "127.0.0.1:0")?;
+    let agents = by_turns(TcpListener::bind(rt, "127.0.0.1:0")?)?;
+    let operators = by_turns(TcpListener::bind(rt, "127.0.0.1:0")?)?;
+    let pages = by_turns(TcpListener::bind(rt, "127.0.0.1:0")?)?;
     let addresses = (
         agents.local_addr()?,
         operators.local_addr()?,
         pages.local_addr()?,
     );
-    let knocks = Knocks {
-        rt,
-        agents: addresses.0,
-        pages: addresses.2,
-        workers: 1,
-    };
     let (answered, records) = thread::join(
         rt,
         || talk(rt, addresses, &bytes),
-        || serve(rt, alloc, &agents, &operators, &pages, &knocks),
+        || serve(rt, alloc, agents, operators, pages),
     );
     Ok(Some(answered? && records == Some(2)))
 }

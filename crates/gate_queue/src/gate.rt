@@ -2,6 +2,7 @@ use crate::rule::Ring;
 use gate_model::Moment;
 use once_cell::race::OnceBox;
 use std::marker::Model;
+use std::sync::atomic::{AtomicBool, Ordering};
 
 /// The queue and the cell in which its close is noted. Clients, taker and closer share it, and each
 /// is used with the gate that it was opened with. Contracts see which gate it is, and its limits.
@@ -11,6 +12,7 @@ pub struct Gate {
     pub(crate) cell: OnceBox<Moment>,
     pub(crate) clients: u32,
     pub(crate) quota: u32,
+    pub(crate) is_taking: AtomicBool,
 }
 
 impl Model for Gate {
@@ -23,4 +25,17 @@ impl Model for Gate {
 
     ghost view = { λ g. gate_id g.ring.table.shared.table_id (cell_name g.cell)
         (limits_of g.clients g.quota (ruled_capacity g.ring)) };
+}
+
+impl Gate {
+    /// Notes that items are taken from the queue no more, but by a drained close. Nothing but waiting
+    /// for room depends on it. Own rule.
+    pub fn stop_taking(&self) {
+        self.is_taking.store(false, Ordering::SeqCst);
+    }
+
+    /// Whether items are taken from the queue, as far as was noted.
+    pub fn is_taking(&self) -> bool {
+        self.is_taking.load(Ordering::SeqCst)
+    }
 }

@@ -23,6 +23,7 @@ use gate_model::{Moment, Numbered};
 use once_cell::race::OnceBox;
 use std::alloc::{AllocError, Global};
 use std::marker::Brand;
+use std::sync::atomic::AtomicBool;
 
 // The numbers with which a gate is opened.
 #[derive(Clone, Copy)]
@@ -122,6 +123,7 @@ fn open_all(alloc: Global, bounds: Bounds) -> Result<(Gate, Taker, Closer, Vec<C
         cell,
         clients: bounds.clients,
         quota: bounds.quota,
+        is_taking: AtomicBool::new(true),
     };
     Ok((gate, taker, closer, clients))
 }

@@ -12,7 +12,7 @@ use gate_daemon::{Finished, GatewayFault, Post, run_gateway};
 use gate_model::ObjectTable;
 use gate_reader::{SessionLimits, Sink};
 use gate_setup::{Listeners, ServeFault, announce, configuration, listen};
-use gate_worker::{Accepted, Knocks, NoHold, SystemWatch, WorkerLimits};
+use gate_worker::{Accepted, Ending, NoHold, SystemWatch, WorkerLimits};
 use std::alloc::Global;
 use std::fs::Files;
 use std::net::{Net, TcpListener, TcpStream};
@@ -60,7 +60,7 @@ fn run<R: Net<Listener = TcpListener, Stream = TcpStream> + Threads + Wait + Clo
     alloc: Global,
     limits: Limits,
     table: ObjectTable,
-    listeners: &Listeners,
+    listeners: Listeners,
 ) -> Result<Finished, GatewayFault>
     ensures clients { IfOk result (λ finished.
         AreOfClients finished.closed.applier.records
@@ -69,24 +69,24 @@ fn run<R: Net<Listener = TcpListener, Stream = TcpStream> + Threads + Wait + Clo
     ensures limit { IfOk result (λ finished. finished.closed.applier.limit ≡ limits.limit) }
     ensures fault { IfErr result (IsGatewayFault 1 limits.capacity limits.limit table) }
 {
+    let Listeners {
+        agents,
+        operators,
+        pages,
+    } = listeners;
+    let ending = Ending::new();
     let mut posts = Vec::with_capacity(alloc, 1)?;
-    posts.push_reserved(post(Accepted::of_senders(rt, &listeners.agents.listener)));
-    let knocks = Knocks {
-        rt,
-        agents: listeners.agents.address,
-        pages: listeners.pages.address,
-        workers: 1,
-    };
+    posts.push_reserved(post(Accepted::of_agents(rt, agents.listener, &ending)));
     run_gateway(
         rt,
         alloc,
         gateway_config(limits, table),
         posts,
-        post(Accepted::of_operators(rt, &listeners.operators.listener)),
-        Accepted::of_senders(rt, &listeners.pages.listener),
+        post(Accepted::of_operators(rt, operators.listener, &ending)),
+        Accepted::of_readers(rt, pages.listener, &ending),
         &SystemWatch { rt },
         NoHold,
-        &knocks,
+        &ending,
     )
 }
 
@@ -99,7 +99,7 @@ fn serve_on<
     alloc: Global,
     limits: Limits,
     table: ObjectTable,
-    listeners: &Listeners,
+    listeners: Listeners,
     output: &mut W,
 ) -> Result<(), ServeFault>
     ensures { let state = sink_state W.contents W.pending W.failures in
@@ -133,7 +133,7 @@ fn serve_config<
         table,
     } = config;
     let listeners = listen(rt, agents, operators, pages)?;
-    serve_on(rt, alloc, limits, table, &listeners, output)
+    serve_on(rt, alloc, limits, table, listeners, output)
 }
 
 /// Runs the daemon as the file of this path configures it, with one worker of packets, until an

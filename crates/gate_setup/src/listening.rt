@@ -3,9 +3,11 @@ ghost use Rattle.gate_setup.specs.Setup.{IsBindEnd};
 
 use crate::fault::ServeFault;
 use gate_config::Address;
+use gate_worker::by_turns;
+use std::io;
 use std::net::{Net, SocketAddr, TcpListener, TcpStream};
 
-/// A listener with the address that it is bound to. Where a configuration has port 0, the system
+/// A listener whose `accept` waits for a turn at most, with the address that it is bound to. Where a configuration has port 0, the system
 /// chose the port.
 #[derive(Drop)]
 pub struct Bound {
@@ -21,20 +23,23 @@ pub struct Listeners {
     pub pages: Bound,
 }
 
+fn bind_socket<R: Net<Listener = TcpListener, Stream = TcpStream>>(
+    rt: &R,
+    socket: SocketAddr,
+) -> io::Result<Bound> {
+    let listener = by_turns(TcpListener::bind(rt, socket)?)?;
+    let address = listener.local_addr()?;
+    Ok(Bound { listener, address })
+}
+
 fn bind<R: Net<Listener = TcpListener, Stream = TcpStream>>(
     rt: &R,
     address: Address,
 ) -> Result<Bound, ServeFault>
     ensures { IfErr result (IsBindEnd (λ text. text ≡ address.text)) }
 {
-    let Ok(listener) = TcpListener::bind(rt, address.socket) else {
-        return Err(ServeFault::Bind(address.text));
-    };
-    match listener.local_addr() {
-        Ok(bound) => Ok(Bound {
-            listener,
-            address: bound,
-        }),
+    match bind_socket(rt, address.socket) {
+        Ok(bound) => Ok(bound),
         Err(_) => Err(ServeFault::Bind(address.text)),
     }
 }

@@ -9,6 +9,9 @@ pub trait Connections {
 
     /// The next connection: what it sends, and where its answers go. None: there are no more.
     fn next(&mut self) -> Option<(Self::In, Self::Out)>;
+
+    /// Ends a connection that was served, so that its peer receives all that was written.
+    fn part(&mut self, _input: Self::In, _output: Self::Out) {}
 }
 
 /// A point of a thread's way at which a `Hold` is called.
@@ -51,11 +54,12 @@ impl<'a, K: Watch> Clock for SharedClock<'a, K> {
     }
 }
 
-/// Wakes threads that wait for a connection, so that they look at the gate or the board again.
+/// Wakes threads that wait for a connection or for a peer, so that they look at the gate or the board
+/// again.
 pub trait Wake {
-    /// Wakes the workers that serve packets.
+    /// Wakes the workers that serve packets, once the gate is closing.
     fn agents(&self);
 
-    /// Wakes the thread that serves pages.
+    /// Wakes the thread that serves pages, once a board is published that is marked closing.
     fn pages(&self);
 }

@@ -5,13 +5,17 @@
 
 mod connections;
 mod limits;
+mod owed;
 mod pausing;
 mod sockets;
+mod timed;
+pub mod times;
 mod waiting;
 mod worker;
 
 pub use connections::{Connections, Hold, NoHold, Point, SharedClock, Wake, Watch};
 pub use limits::WorkerLimits;
 pub use pausing::pause;
-pub use sockets::{Accepted, Knocks, SystemWatch};
+pub use sockets::{Accepted, Ending, SystemWatch};
+pub use timed::{TimedInput, TimedOutput, by_turns};
 pub use worker::{Cause, WorkerEnd, run_worker};

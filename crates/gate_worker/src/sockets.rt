@@ -1,106 +1,147 @@
 use crate::connections::{Connections, Wake, Watch};
+use crate::owed::{Owed, owed_by_operator, owed_by_sender};
 use crate::pausing::pause;
+use crate::timed::{TimedInput, TimedOutput, sides};
+use crate::times::{ANSWER_MILLIS, GREETING_MILLIS, LAST_PAGE_MILLIS, PAGE_MILLIS};
 use gate_model::Moment;
-use std::io;
-use std::net::{Net, SocketAddr, TcpListener, TcpStream};
+use std::io::ErrorKind;
+use std::net::TcpListener;
 use std::sync::Wait;
+use std::sync::atomic::{AtomicBool, Ordering};
 use std::time::{Clock, Duration, SystemTime};
 
-// How many seconds a read or a write of a sender's connection, or of a page's, may take.
-const SENDER_PATIENCE: u64 = 10;
-// How many seconds a read or a write of an operator's connection may take.
-const OPERATOR_PATIENCE: u64 = 60;
+// How many bytes the reader of a page may send, which are read and dropped.
+const PAGE_REQUEST: usize = 65_536;
+// How many bytes an operator may send after its last answer, which are read and dropped.
+const LATE_LINES: usize = 16_777_216;
 
-// How often a connection that wakes a thread is tried.
-const ATTEMPTS: u32 = 1000;
+/// Whether the daemon is to end, as its threads see it that wait for connections and for peers.
+#[derive(Drop)]
+pub struct Ending {
+    agents: AtomicBool,
+    pages: AtomicBool,
+}
 
-/// The connections of a listener, which several workers may share. It always has one more.
+impl Ending {
+    /// Not yet.
+    pub fn new() -> Ending {
+        Ending {
+            agents: AtomicBool::new(false),
+            pages: AtomicBool::new(false),
+        }
+    }
+}
+
+impl Wake for Ending {
+    fn agents(&self) {
+        self.agents.store(true, Ordering::SeqCst);
+    }
+
+    fn pages(&self) {
+        self.pages.store(true, Ordering::SeqCst);
+    }
+}
+
+// Who connects.
+#[derive(Clone, Copy, Debug, PartialEq, Eq)]
+enum Peers {
+    Agents,
+    Operators,
+    Readers,
+}
+
+/// The connections of a listener, which is closed with it. It has one more until the daemon is to
+/// end, and then one that waits already, if any.
 #[derive(Drop)]
 pub struct Accepted<'a, R> {
     rt: &'a R,
-    listener: &'a TcpListener,
-    patience: Duration,
+    listener: TcpListener,
+    peers: Peers,
+    is_ending: &'a AtomicBool,
 }
 
 impl<'a, R> Accepted<'a, R> {
-    /// Connections of senders, or of readers of pages: a read or a write may take 10 seconds.
-    pub fn of_senders(rt: &'a R, listener: &'a TcpListener) -> Accepted<'a, R> {
+    fn new(
+        rt: &'a R,
+        listener: TcpListener,
+        peers: Peers,
+        is_ending: &'a AtomicBool,
+    ) -> Accepted<'a, R> {
         Accepted {
             rt,
             listener,
-            patience: Duration::from_secs(SENDER_PATIENCE),
+            peers,
+            is_ending,
         }
     }
 
-    /// Connections of operators: a read or a write may take 60 seconds.
-    pub fn of_operators(rt: &'a R, listener: &'a TcpListener) -> Accepted<'a, R> {
-        Accepted {
-            rt,
-            listener,
-            patience: Duration::from_secs(OPERATOR_PATIENCE),
-        }
+    /// Connections of senders. The greeting is to be taken within 10 seconds; within 8 more the first
+    /// packet has to come, and from then on at least 720 bytes in each 10 seconds. The listener is
+    /// one whose `accept` waits for a turn.
+    pub fn of_agents(rt: &'a R, listener: TcpListener, ending: &'a Ending) -> Accepted<'a, R> {
+        Accepted::new(rt, listener, Peers::Agents, &ending.agents)
+    }
+
+    /// Connections of operators. A line has to end within 60 seconds of the one before, and an answer
+    /// is to be taken within 60. The listener is one whose `accept` waits for a turn.
+    pub fn of_operators(rt: &'a R, listener: TcpListener, ending: &'a Ending) -> Accepted<'a, R> {
+        Accepted::new(rt, listener, Peers::Operators, &ending.agents)
+    }
+
+    /// Connections of readers of pages. A page is to be taken within 10 seconds, and within 2 where
+    /// the daemon is to end. The listener is one whose `accept` waits for a turn.
+    pub fn of_readers(rt: &'a R, listener: TcpListener, ending: &'a Ending) -> Accepted<'a, R> {
+        Accepted::new(rt, listener, Peers::Readers, &ending.pages)
     }
 }
 
-// Both sides of a stream, each with its time limit.
-fn sides(stream: TcpStream, patience: Duration) -> io::Result<(TcpStream, TcpStream)> {
-    stream.set_read_timeout(Some(patience))?;
-    stream.set_write_timeout(Some(patience))?;
-    let output = stream.try_clone()?;
-    Ok((stream, output))
+// What such a peer owes, and in what time it takes what is written to it. The reader of a page owes
+// nothing, since it isn't read from until it has its page.
+fn times_of(peers: Peers, is_ending: bool) -> (Owed, Duration) {
+    let (owed, millis) = match peers {
+        Peers::Agents => (owed_by_sender(), GREETING_MILLIS),
+        Peers::Operators => (owed_by_operator(), ANSWER_MILLIS),
+        Peers::Readers if is_ending => (owed_by_operator(), LAST_PAGE_MILLIS),
+        Peers::Readers => (owed_by_operator(), PAGE_MILLIS),
+    };
+    (owed, Duration::from_millis(millis))
 }
 
-impl<'a, R: Wait + Clock> Connections for Accepted<'a, R> {
-    type In = TcpStream;
+impl<'a, R: Wait + Clock + Sync> Connections for Accepted<'a, R> {
+    type In = TimedInput<'a, R>;
 
-    type Out = TcpStream;
+    type Out = TimedOutput<'a, R>;
 
     // What fails for now, for want of descriptors say, is tried again; a stream without time
     // limits could hold a worker for ever, so it is dropped.
-    fn next(&mut self) -> Option<(TcpStream, TcpStream)> {
+    fn next(&mut self) -> Option<(TimedInput<'a, R>, TimedOutput<'a, R>)> {
         for _ in self.rt.forever() {
-            match self.listener.accept() {
+            let accepted = self.listener.accept();
+            let is_ending = self.is_ending.load(Ordering::SeqCst);
+            match accepted {
                 Ok((stream, _)) => {
-                    if let Ok(both) = sides(stream, self.patience) {
+                    let (owed, limit) = times_of(self.peers, is_ending);
+                    if let Ok(both) = sides(self.rt, stream, owed, limit, self.is_ending) {
                         return Some(both);
                     }
                 }
+                Err(_) if is_ending => return None,
+                Err(error) if error.kind() == ErrorKind::WouldBlock => {}
                 Err(_) => pause(self.rt),
             }
         }
         unreachable!()
     }
-}
 
-/// Wakes threads by connecting to the daemon's own addresses.
-#[derive(Drop)]
-pub struct Knocks<'a, R> {
-    pub rt: &'a R,
-    pub agents: SocketAddr,
-    pub pages: SocketAddr,
-    /// How many workers wait for packets.
-    pub workers: u32,
-}
-
-// Connects once. Where that fails for now, it is tried again.
-fn knock<R: Net + Clock>(rt: &R, address: SocketAddr) {
-    for _ in 0..ATTEMPTS {
-        if TcpStream::connect(rt, address).is_ok() {
-            return;
-        }
-        pause(rt);
-    }
-}
-
-impl<'a, R: Net + Clock> Wake for Knocks<'a, R> {
-    fn agents(&self) {
-        for _ in 0..self.workers {
-            knock(self.rt, self.agents);
-        }
-    }
-
-    fn pages(&self) {
-        knock(self.rt, self.pages);
+    // A sender reads nothing after its greeting, so it loses nothing.
+    fn part(&mut self, mut input: TimedInput<'a, R>, output: TimedOutput<'a, R>) {
+        drop(output);
+        let most = match self.peers {
+            Peers::Agents => return,
+            Peers::Operators => LATE_LINES,
+            Peers::Readers => PAGE_REQUEST,
+        };
+        let _ = input.part(most);
     }
 }
 

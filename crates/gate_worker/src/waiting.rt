@@ -1,104 +1,111 @@
-ghost use Rattle.std.specs.Prelude.{◌≡◌, ◌+◌, ◌<◌, [], ◌∷◌, ◌++◌, length, None, IfOk, IfErr, OnOk};
+ghost use Rattle.std.specs.Prelude.{◌≡◌, ◌+◌, ℕ, List, [], ◌∷◌, ◌++◌, length, None, IfOk, IfErr, OnOk, OnErr};
+ghost use Rattle.gate_model.specs.declared.submission.Numbered.{Numbered};
 ghost use Rattle.gate_core.specs.Merge.{numbered};
-ghost use Rattle.gate_queue.specs.Client.{client_state, IsRefusal};
+ghost use Rattle.gate_core.specs.Submit.{Refuses};
 
-use crate::pausing::pause_shortly;
-use gate_core::{Refused, Submit};
+use crate::times::{ROOM_MILLIS, ROOM_PAUSE_MICROS};
+use gate_core::{CloseFault, Operator, Refused, Submit};
 use gate_model::{Body, Moment};
-use gate_queue::{Client, Gate, GateClient};
-use std::marker::Model;
-use std::sync::Wait;
-use std::time::Clock;
+use gate_queue::Gate;
+use std::thread;
+use std::time::{Clock, Duration, Instant};
 
-// How often a full queue is tried again: some second, with pauses of 0.2 ms.
-const TURNS: u32 = 5_000;
-
-/// A client of a gate that waits while the queue is full, for some second at most, so that the
-/// applier needn't keep up with a burst. Once a body has waited in vain, none waits until the next
-/// one is queued. Contracts see the client.
+/// A client that waits while the queue is full, for a second at most, so that the applier needn't
+/// keep up with a burst. Once a body has waited in vain, none waits until the next one is queued;
+/// and none waits where nothing is taken from the queue any more.
 #[derive(Drop)]
-pub(crate) struct WaitingClient<'a, R: Wait + Clock> {
+pub(crate) struct Waiting<'a, R, S> {
     rt: &'a R,
-    client: GateClient<'a, R>,
+    gate: &'a Gate,
+    pub(crate) client: S,
     has_waited: bool,
 }
 
-impl<'a, R: Wait + Clock> Model for WaitingClient<'a, R> {
-    ghost use Rattle.gate_queue.specs.Client.{ClientState};
-
-    ghost Value = { ClientState };
-
-    ghost view = { λ waiting. waiting.client };
-}
-
-impl<'a, R: Wait + Clock> WaitingClient<'a, R> {
-    /// Joins a client to references to its gate and the runtime.
-    pub(crate) fn new(rt: &'a R, gate: &'a Gate, client: Client) -> WaitingClient<'a, R>
-        requires { client.gate ≡ gate.now }
-        ensures { result ≡ client }
+impl<'a, R, S> Waiting<'a, R, S> {
+    pub(crate) fn new(rt: &'a R, gate: &'a Gate, client: S) -> Waiting<'a, R, S>
+        ensures { result.client ≡ client }
     {
-        WaitingClient {
+        Waiting {
             rt,
-            client: GateClient::new(rt, gate, client),
+            gate,
+            client,
             has_waited: false,
         }
     }
 
-    /// Returns the client.
-    pub(crate) fn into_parts(self) -> Client
-        ensures { result ≡ self.entry }
+    pub(crate) fn into_client(self) -> S
+        ensures { result ≡ self.entry.client }
     {
-        self.client.into_parts()
+        self.client
     }
 }
 
-// Submits a body, and again while the queue is full, at most so many times more.
-fn submit_again<R: Wait + Clock>(
+// Whether a second is over since the first call, or the clock can't be read.
+fn is_late<R: Clock>(rt: &R, began: &mut Option<Instant>) -> bool {
+    match *began {
+        Some(first) => !first
+            .elapsed(rt)
+            .is_ok_and(|waited| waited < Duration::from_millis(ROOM_MILLIS)),
+        None => {
+            *began = Instant::now(rt).ok();
+            began.is_none()
+        }
+    }
+}
+
+// Submits a body, and again while the queue is full and items are taken from it, for a second at
+// most.
+fn submit_again<R: Clock, S: Submit>(
     rt: &R,
-    client: &mut GateClient<'_, R>,
+    gate: &Gate,
+    client: &mut S,
     body: Body,
-    turns: u32,
 ) -> Result<u64, Refused>
-    ensures number { IfOk result (λ number. number ≡ length client.old.queued + 1) }
-    ensures queued { IfOk result (λ number. client.new ≡ client_state client.old.gate
-        client.old.number (client.old.queued ++ numbered client.old.number number body ∷ []) None) }
-    ensures open { OnOk result (client.old.known_close ≡ None) }
-    ensures unspent { OnOk result (length client.old.queued < client.old.gate.limits.quota) }
-    ensures refused { IfErr result (λ fault. IsRefusal fault body client.old client.new) }
+    ensures queued { IfOk result (λ number. (items : List Numbered) → S.stands client.old items →
+        (number ≡ length items + 1)
+        × S.stands client.new (items ++ numbered (S.named client.old) number body ∷ [])) }
+    ensures open { OnOk result ((S.knows client.old ≡ None) × (S.knows client.new ≡ None)) }
+    ensures kept { OnErr result
+        ((items : List Numbered) → S.stands client.old items → S.stands client.new items) }
+    ensures refused { IfErr result (λ refused.
+        Refuses refused body (S.knows client.old) (S.knows client.new)) }
+    ensures named { S.named client.new ≡ S.named client.old }
+    ensures keeps { S.keeps client.old client.new }
 {
     let mut body = body;
-    for _ in 0..turns {
+    let mut began = None;
+    for _ in 0..u64::MAX {
         match client.submit(body) {
-            Ok(number) => return Ok(number),
             Err(Refused::Full(returned)) => {
+                if !gate.is_taking() || is_late(rt, &mut began) {
+                    return Err(Refused::Full(returned));
+                }
                 body = returned;
-                pause_shortly(rt);
             }
-            Err(refused) => return Err(refused),
+            answer => return answer,
         }
+        thread::sleep(rt, Duration::from_micros(ROOM_PAUSE_MICROS));
     }
     client.submit(body)
 }
 
-impl<'a, R: Wait + Clock> Submit for WaitingClient<'a, R> {
-    ghost use Rattle.std.proofs.Common.{refl, ◌∙◌};
-    ghost use Rattle.gate_queue.specs.GateClient.{StandsFor, IsSameClient, Submits, Looks};
+impl<'a, R: Clock, S: Submit> Submit for Waiting<'a, R, S> {
+    ghost stands = { λ waiting items. S.stands waiting.client items };
 
-    ghost stands = { StandsFor };
+    ghost named = { λ waiting. S.named waiting.client };
 
-    ghost named = { λ client. client.number };
+    ghost knows = { λ waiting. S.knows waiting.client };
 
-    ghost knows = { λ client. client.known_close };
+    ghost looks = { λ old answer new. S.looks old.client answer new.client };
 
-    ghost answers = { Submits };
-
-    ghost looks = { Looks };
-
-    ghost keeps = { IsSameClient };
+    ghost keeps = { λ old new. S.keeps old.client new.client };
 
     fn submit(&mut self, body: Body) -> Result<u64, Refused> {
-        let turns = if self.has_waited { 0 } else { TURNS };
-        let answer = submit_again(self.rt, &mut self.client, body, turns);
+        let answer = if self.has_waited {
+            self.client.submit(body)
+        } else {
+            submit_again(self.rt, self.gate, &mut self.client, body)
+        };
         self.has_waited = matches!(answer, Err(Refused::Full(_)));
         answer
     }
@@ -115,8 +122,15 @@ impl<'a, R: Wait + Clock> Submit for WaitingClient<'a, R> {
         self.client.number()
     }
 
-    ghost keeps_itself = { λ x. record { gate = refl; number = refl } };
+    ghost keeps_itself = { λ x. S.keeps_itself x.client };
 
-    ghost keeps_on = { λ x y z p q.
-        record { gate = q.gate ∙ p.gate; number = q.number ∙ p.number } };
+    ghost keeps_on = { λ x y z p q. S.keeps_on x.client y.client z.client p q };
+}
+
+impl<'a, R: Clock, O: Operator> Operator for Waiting<'a, R, O> {
+    ghost closes = { λ old moment answer new. O.closes old.client moment answer new.client };
+
+    fn close(&mut self, moment: Moment) -> Result<Moment, CloseFault> {
+        self.client.close(moment)
+    }
 }

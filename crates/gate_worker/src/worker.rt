@@ -5,8 +5,8 @@ ghost use Rattle.gate_worker.specs.inner.Serving.{Extends};
 
 use crate::connections::{Connections, Hold, Point, SharedClock, Watch};
 use crate::limits::WorkerLimits;
-use crate::waiting::WaitingClient;
-use gate_queue::{Client, Closer, Ended, Gate, GateOperator};
+use crate::waiting::Waiting;
+use gate_queue::{Client, Closer, Ended, Gate, GateClient, GateOperator};
 use gate_reader::{Report, Sink, Source, serve_lines, serve_packets};
 use std::alloc::Global;
 use std::sync::Wait;
@@ -43,7 +43,7 @@ fn serve_sender<R: Wait + Clock, I: Source + Drop, O: Sink + Drop, K: Watch>(
     alloc: Global,
     gate: &Gate,
     client: Client,
-    connection: (I, O),
+    connection: &mut (I, O),
     clock: &K,
     limits: WorkerLimits,
 ) -> (Client, Report)
@@ -52,28 +52,27 @@ fn serve_sender<R: Wait + Clock, I: Source + Drop, O: Sink + Drop, K: Watch>(
     ensures number { result.0.number ≡ client.number }
     ensures queued { Extends client.queued result.0.queued result.1.answers }
 {
-    let (mut input, mut output) = connection;
-    let mut lent = WaitingClient::new(rt, gate, client);
+    let mut lent = Waiting::new(rt, gate, GateClient::new(rt, gate, client));
     let report = serve_packets(
         alloc,
-        &mut input,
-        &mut output,
+        &mut connection.0,
+        &mut connection.1,
         &mut SharedClock(clock),
         &mut lent,
         limits.session,
         limits.greatest_age,
     );
-    (lent.into_parts(), report)
+    (lent.into_client().into_parts(), report)
 }
 
 // Serves one connection of an operator.
-fn serve_operator<R: Wait, I: Source + Drop, O: Sink + Drop, K: Watch>(
+fn serve_operator<R: Wait + Clock, I: Source + Drop, O: Sink + Drop, K: Watch>(
     rt: &R,
     alloc: Global,
     gate: &Gate,
     client: Client,
     closer: Closer,
-    connection: (I, O),
+    connection: &mut (I, O),
     clock: &K,
     limits: WorkerLimits,
 ) -> (Client, Closer, Report)
@@ -84,17 +83,17 @@ fn serve_operator<R: Wait, I: Source + Drop, O: Sink + Drop, K: Watch>(
     ensures number { result.0.number ≡ client.number }
     ensures queued { Extends client.queued result.0.queued result.2.answers }
 {
-    let (mut input, mut output) = connection;
-    let mut lent = GateOperator::new(rt, alloc, gate, client, closer);
+    let operator = GateOperator::new(rt, alloc, gate, client, closer);
+    let mut lent = Waiting::new(rt, gate, operator);
     let report = serve_lines(
         alloc,
-        &mut input,
-        &mut output,
+        &mut connection.0,
+        &mut connection.1,
         &mut SharedClock(clock),
         &mut lent,
         limits.session,
     );
-    let (client, closer) = lent.into_parts();
+    let (client, closer) = lent.into_client().into_parts();
     (client, closer, report)
 }
 
@@ -105,7 +104,7 @@ fn serve_either<R: Wait + Clock, I: Source + Drop, O: Sink + Drop, K: Watch>(
     gate: &Gate,
     client: Client,
     closer: Option<Closer>,
-    connection: (I, O),
+    connection: &mut (I, O),
     clock: &K,
     limits: WorkerLimits,
 ) -> (Client, Option<Closer>, Report)
@@ -186,8 +185,9 @@ fn end_of(client: Client, reports: Vec<Report>, cause: Cause) -> WorkerEnd
 /// It ends where the gate is closing, where `limits.sessions` connections were served, where memory
 /// for one more report is missing, and where there are no more connections. It looks at the gate
 /// before it asks for a connection and after it; a connection that comes after the close isn't
-/// served. A packet for which the queue is full is submitted again for some second; a line is
-/// answered at once. It waits for the connections, and for other threads at the queue. Own rule.
+/// served. A packet or a line for which the queue is full is submitted again for a second at most,
+/// while items are taken from the queue. It waits for the connections, for room in the queue and for
+/// other threads at it. Own rule.
 pub fn run_worker<R: Wait + Clock, C: Connections + Drop, K: Watch, H: Hold + Drop>(
     rt: &R,
     alloc: Global,
@@ -214,13 +214,22 @@ pub fn run_worker<R: Wait + Clock, C: Connections + Drop, K: Watch, H: Hold + Dr
     let mut reports = Vec::new(alloc);
     for _ in rt.forever() {
         match next_connection(gate, &mut client, &mut reports, &mut connections, limits) {
-            Ok(connection) => {
+            Ok(mut connection) => {
                 hold.pass(Point::Session);
                 let (served, kept, report) = serve_either(
-                    rt, alloc, gate, client, closer, connection, clock, limits,
+                    rt,
+                    alloc,
+                    gate,
+                    client,
+                    closer,
+                    &mut connection,
+                    clock,
+                    limits,
                 );
                 client = served;
                 closer = kept;
+                let (input, output) = connection;
+                connections.part(input, output);
                 reports.push_reserved(report);
                 hold.pass(Point::Answered);
             }

@@ -1,0 +1,66 @@
+//! The times of the daemon, and how they fit together. Own rules.
+//!
+//! Each is the time that a peer may take for one thing that it owes, however many calls that needs;
+//! only waiting for the peer counts. Whoever waits looks after each turn whether the daemon is to
+//! end.
+
+/// How long a wait for a connection, for bytes or for room to write goes on before the waiting
+/// thread looks whether the daemon is to end.
+pub const TURN_MILLIS: u64 = 100;
+
+/// In what time a sender takes its greeting.
+pub const GREETING_MILLIS: u64 = 10_000;
+
+/// In what time a sender brings its first packet, from its greeting on.
+pub const FIRST_PACKET_MILLIS: u64 = 8_000;
+
+/// How long a `send_nsca` waits for its greeting.
+const SENDER_MILLIS: u64 = 10_000;
+
+// The sender that comes after a silent one is greeted before it gives up.
+const _: () = prove!(FIRST_PACKET_MILLIS + TURN_MILLIS < SENDER_MILLIS);
+
+/// In what time a sender brings each 720 bytes more, which is the least packet that there is.
+pub const NEXT_BYTES_MILLIS: u64 = 10_000;
+
+/// In what time an operator ends a line, from the end of the one before on.
+pub const LINE_MILLIS: u64 = 60_000;
+
+/// In what time an operator takes an answer.
+pub const ANSWER_MILLIS: u64 = 60_000;
+
+/// In what time the reader of a page takes it.
+pub const PAGE_MILLIS: u64 = 10_000;
+
+/// The same for a page that is begun after a close.
+pub const LAST_PAGE_MILLIS: u64 = 2_000;
+
+/// In what time an operator, or the reader of a page, ends its side after the last answer. What it
+/// sends until then is read and dropped.
+pub const PARTING_MILLIS: u64 = 500;
+
+/// In what time the daemon ends after the answer `closing`, whatever its peers do.
+const END_MILLIS: u64 = 15_000;
+
+// The operator parts; the workers of packets look whether they are to end; and of two pages, one that
+// is being written and one that waits, each is written and its reader parts.
+const _: () = prove!(
+    PARTING_MILLIS + TURN_MILLIS + PAGE_MILLIS + PARTING_MILLIS + LAST_PAGE_MILLIS + PARTING_MILLIS
+        < END_MILLIS
+);
+
+/// How long a submission waits for room in the queue.
+pub const ROOM_MILLIS: u64 = 1_000;
+
+/// How long the applier rests before it looks again at an empty queue. It is short enough that a
+/// result is applied within 5 milliseconds, and long enough that an idle daemon is idle.
+pub const PAUSE_MILLIS: u64 = 2;
+
+/// How long a submission rests before it looks again at a full queue: a tenth of the applier's, so
+/// that a queue that it has emptied isn't left empty for long.
+pub const ROOM_PAUSE_MICROS: u64 = 200;
+
+const _: () = prove!(ROOM_PAUSE_MICROS * 10 == PAUSE_MILLIS * 1_000);
+
+/// How many rests of the applier lie between two boards.
+pub const BOARD_PAUSES: u32 = 25;

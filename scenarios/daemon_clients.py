@@ -1,0 +1,118 @@
+"""What the tests of the running daemon share: the daemon, its clients' sockets, and the count of checks."""
+import os
+import socket
+import struct
+import subprocess
+import sys
+import time
+import zlib
+
+CONFIGURATION = """\
+agents = "127.0.0.1:0"
+operators = "127.0.0.1:0"
+pages = "127.0.0.1:0"
+capacity = 256
+greatest_age = 0
+limit = 100000
+
+[[host]]
+name = "web1"
+freshness = 300
+
+[[host.service]]
+name = "HTTP"
+freshness = 300
+"""
+
+PATIENCE = 20.0  # seconds
+passed = 0
+failed = 0
+
+
+def check(what, found, expected):
+    """Counts a test: what was found has to be what is expected."""
+    global passed, failed
+    if found == expected:
+        passed += 1
+    else:
+        failed += 1
+        print(f"{what} ... FAILED: {found!r}, not {expected!r}")
+
+
+class Daemon:
+    """A running `nscagate serve`, and the addresses that it printed."""
+
+    def __init__(self, program, folder, configuration, host="127.0.0.1"):
+        self.host = host
+        path = os.path.join(folder, "gateway.toml")
+        with open(path, "w", encoding="latin-1") as file:
+            file.write(configuration)
+        self.process = subprocess.Popen([program, "serve", "--config", path],
+                                        stdout=subprocess.PIPE, stderr=subprocess.PIPE)
+        self.ports = {}
+        for name in ("agents", "operators", "pages"):
+            words = self.process.stdout.readline().decode().split()
+            if len(words) != 2 or words[0] != name:
+                raise SystemExit(f"the daemon printed {words}, no address of its {name}")
+            self.ports[name] = int(words[1].rsplit(":", 1)[1])
+
+    def connect(self, name):
+        connection = socket.create_connection((self.host, self.ports[name]), PATIENCE)
+        connection.settimeout(PATIENCE)
+        return connection
+
+    def page(self):
+        with self.connect("pages") as connection:
+            return read_all(connection).decode("latin-1")
+
+    def page_with(self, text):
+        """A status page that has this text, asked for again and again; the last one after too long."""
+        end = time.monotonic() + PATIENCE
+        page = self.page()
+        while text not in page and time.monotonic() < end:
+            page = self.page()
+        return page
+
+    def end(self, patience=PATIENCE):
+        """The status and what was printed, once the daemon has ended."""
+        output, errors = self.process.communicate(timeout=patience)
+        return self.process.returncode, output.decode("latin-1"), errors.decode("latin-1")
+
+
+def read_all(connection):
+    pieces = []
+    while True:
+        piece = connection.recv(65536)
+        if not piece:
+            return b"".join(pieces)
+        pieces.append(piece)
+
+
+def read_exactly(connection, count):
+    found = b""
+    while len(found) < count:
+        piece = connection.recv(count - len(found))
+        if not piece:
+            return found
+        found += piece
+    return found
+
+
+def packet(timestamp, host, service, code, output):
+    """A data packet of 4304 bytes, as the sender's own structure has it."""
+    fields = struct.pack(">hxxIIh64s128s4096sxx", 3, 0, timestamp, code, host, service, output)
+    return fields[:4] + struct.pack(">I", zlib.crc32(fields)) + fields[8:]
+
+
+def ask(daemon, *lines):
+    """What an operator is answered to these lines on one connection."""
+    with daemon.connect("operators") as connection:
+        connection.sendall("".join(line + "\n" for line in lines).encode("latin-1"))
+        connection.shutdown(socket.SHUT_WR)
+        return read_all(connection).decode("latin-1").splitlines()
+
+
+def end_tests():
+    """Prints how many checks passed and failed, and ends with status 0 where none failed."""
+    print(f"{passed} passed, {failed} failed")
+    sys.exit(failed > 0)

@@ -1,0 +1,444 @@
+"""Plays slow, silent and many peers against the daemon: python3 slow_and_silent_peers_test.py PROGRAM [WORD]. Each play has
+a daemon of its own, and all run side by side; with a word only those whose name has it. Ends with a line 'N passed, M
+failed'."""
+import os
+import re
+import shutil
+import socket
+import subprocess
+import sys
+import tempfile
+import threading
+import time
+import traceback
+
+from daemon_clients import CONFIGURATION, PATIENCE, Daemon, ask, check, end_tests, packet, read_all, read_exactly
+
+END = 15.0  # seconds from the answer `closing` to the end of the daemon, at most
+SENDER = 10.0  # seconds after which a send_nsca gives up
+
+
+def limited(**keys):
+    """The configuration with other numbers."""
+    text = CONFIGURATION
+    for key, value in keys.items():
+        line = f"{key} = {value}"
+        text, count = re.subn(rf"^{key} = .*$", line, text, flags=re.MULTILINE)
+        if count == 0:
+            text = line + "\n" + text
+    return text
+
+
+def shut_down(daemon, what, within=END):
+    """Shuts the daemon down, and returns its status, its output and its errors; it has to end in time."""
+    check(f"{what}: a shutdown is answered", ask(daemon, "[1] SHUTDOWN_PROGRAM"), ["closing"])
+    began = time.monotonic()
+    try:
+        ended = daemon.end(90.0)
+    except subprocess.TimeoutExpired:
+        daemon.process.kill()
+        ended = (None, "", "")
+    took = time.monotonic() - began
+    print(f"{what}: ended {took:.2f} s after the answer", flush=True)
+    check(f"{what}: the daemon ends within {within} s", took < within, True)
+    check(f"{what}: its status", ended[0], 0)
+    return ended
+
+
+def send_one(daemon, output, patience=PATIENCE, host=b"web1"):
+    """Sends one packet as a send_nsca does: whether it was greeted in time."""
+    try:
+        with daemon.connect("agents") as connection:
+            connection.settimeout(patience)
+            greeting = read_exactly(connection, 132)
+            if len(greeting) < 132:
+                return False
+            connection.sendall(packet(int.from_bytes(greeting[128:], "big"), host, b"HTTP", 1, output))
+            return True
+    except OSError:
+        return False
+
+
+def play_many_senders(program, folder):
+    """A shutdown amid 400 senders at once ends the daemon."""
+    daemon = Daemon(program, folder, CONFIGURATION)
+    senders = [threading.Thread(target=send_one, args=(daemon, b"from %d" % number)) for number in range(400)]
+    for number, sender in enumerate(senders):
+        sender.start()
+        if number == 300:
+            closer = threading.Thread(target=shut_down, args=(daemon, "many senders", 3.0))
+            closer.start()
+    closer.join()
+    for sender in senders:
+        sender.join()
+
+
+def play_open_connections(program, folder):
+    """A shutdown with 500 silent connections at the agents' port ends the daemon, and lets go of all of them."""
+    daemon = Daemon(program, folder, CONFIGURATION)
+    silent = []
+    for _ in range(500):
+        connection = socket.socket()
+        connection.setblocking(False)
+        connection.connect_ex((daemon.host, daemon.ports["agents"]))
+        silent.append(connection)
+    time.sleep(1.0)
+    shut_down(daemon, "open connections", 3.0)
+    for connection in silent:
+        connection.close()
+
+
+def play_used_up_sessions(program, folder):
+    """Once the connections that are allowed are served, a sender is refused at once."""
+    daemon = Daemon(program, folder, limited(sessions=3))
+    for number in range(3):
+        check("used up sessions: a sender is served", send_one(daemon, b"result %d" % number), True)
+    deadline = time.monotonic() + PATIENCE
+    refused = False
+    while not refused and time.monotonic() < deadline:
+        try:
+            with daemon.connect("agents"):
+                time.sleep(0.05)
+        except ConnectionRefusedError:
+            refused = True
+    check("used up sessions: the next sender is refused", refused, True)
+    check("used up sessions: pages are shown", "result 2" in daemon.page_with("result 2"), True)
+    output = shut_down(daemon, "used up sessions", 3.0)[1]
+    check("used up sessions: all is logged", output.split("\n", 1)[0], "log 3")
+
+
+def play_a_trickle(program, folder):
+    """A sender of a byte every 4 seconds is let go of after 8 seconds."""
+    daemon = Daemon(program, folder, CONFIGURATION)
+    with daemon.connect("agents") as trickle:
+        read_exactly(trickle, 132)
+        began = time.monotonic()
+        lost = False
+        while not lost and time.monotonic() - began < 20.0:
+            try:
+                trickle.sendall(b"\0")
+                trickle.settimeout(4.0)
+                lost = trickle.recv(1) == b""
+            except socket.timeout:
+                pass
+            except OSError:
+                lost = True
+        took = time.monotonic() - began
+    check("a trickle is let go of", lost and 7.0 < took < 9.0, True)
+    check("the sender after it is served", send_one(daemon, b"after the trickle", SENDER), True)
+    shut_down(daemon, "a trickle", 3.0)
+
+
+def play_a_trickle_at_the_end(program, folder):
+    """A shutdown doesn't wait for a sender that is served."""
+    daemon = Daemon(program, folder, CONFIGURATION)
+    with daemon.connect("agents") as trickle:
+        read_exactly(trickle, 132)
+        trickle.sendall(b"\0")
+        shut_down(daemon, "a trickle at the end", 3.0)
+
+
+def play_a_silent_sender(program, folder):
+    """A sender that comes after one silent one is served before it gives up."""
+    daemon = Daemon(program, folder, CONFIGURATION)
+    client = shutil.which("send_nsca") or shutil.which("send_nsca", path="/usr/sbin")
+    with daemon.connect("agents") as silent:
+        read_exactly(silent, 132)
+        began = time.monotonic()
+        if client is None:
+            served = send_one(daemon, b"after the silence", SENDER)
+        else:
+            settings = os.path.join(folder, "send_nsca.cfg")
+            with open(settings, "w", encoding="ascii") as file:
+                file.write("encryption_method=0\n")
+            ran = subprocess.run([client, "-H", daemon.host, "-p", str(daemon.ports["agents"]), "-c", settings],
+                                 input="web1\tHTTP\t1\tafter the silence\n", capture_output=True, text=True, timeout=PATIENCE,
+                                 check=False)
+            served = ran.returncode == 0
+        took = time.monotonic() - began
+    check("a silent sender: the next one is served", served and 7.0 < took < SENDER, True)
+    check("a silent sender: its result is shown", "after the silence" in daemon.page_with("after the silence"), True)
+    shut_down(daemon, "a silent sender", 3.0)
+
+
+def play_a_slow_sender(program, folder):
+    """A sender of a packet every 3 seconds is served for as long as it likes."""
+    daemon = Daemon(program, folder, CONFIGURATION)
+    with daemon.connect("agents") as slow:
+        greeting = read_exactly(slow, 132)
+        for number in range(5):
+            slow.sendall(packet(int.from_bytes(greeting[128:], "big"), b"web1", b"HTTP", 1, b"slow %d" % number))
+            time.sleep(3.0)
+    check("a slow sender: its last result is shown", "slow 4" in daemon.page_with("slow 4"), True)
+    output = shut_down(daemon, "a slow sender", 3.0)[1]
+    check("a slow sender: all its results are logged", output.split("\n", 1)[0], "log 5")
+
+
+OBJECTS = 1800
+
+
+def large_daemon(program, folder):
+    """A daemon whose page has some 8 MB."""
+    services = "".join(f'[[host.service]]\nname = "S{number}"\n' for number in range(OBJECTS // 2))
+    hosts = "".join(f'[[host]]\nname = "web{number}"\n{services}' for number in range(2))
+    daemon = Daemon(program, folder, limited(items=OBJECTS).split("[[host]]")[0] + hosts)
+    with daemon.connect("agents") as sender:
+        moment = int.from_bytes(read_exactly(sender, 132)[128:], "big")
+        for number in range(OBJECTS):
+            host, service = b"web%d" % (number % 2), b"S%d" % (number // 2)
+            sender.sendall(packet(moment, host, service, 1, b"x" * 4090 + b"%d" % number))
+    daemon.page_with(f"x{OBJECTS - 1}\n")
+    return daemon
+
+
+def held(daemon, what, within):
+    """How long the next reader of a page waits; it has to get the whole page."""
+    began = time.monotonic()
+    page = daemon.page()
+    took = time.monotonic() - began
+    print(f"{what}: the next reader waited {took:.2f} s", flush=True)
+    check(f"{what}: the next reader is served in time", took < within, True)
+    check(f"{what}: it gets the whole page", page.count("\n"), OBJECTS + 3)
+
+
+def play_readers_that_never_read(program, folder):
+    """A reader that takes nothing, or little, of a page holds the others for 10 seconds, and no shutdown for longer."""
+    daemon = large_daemon(program, folder)
+    with daemon.connect("pages"):
+        time.sleep(0.3)
+        held(daemon, "a reader that never reads", 12.0)
+    with daemon.connect("pages") as slow:
+        is_over = threading.Event()
+
+        def read_slowly():
+            while not is_over.wait(0.1):
+                try:
+                    if slow.recv(2000) == b"":
+                        return
+                except OSError:
+                    return
+
+        reader = threading.Thread(target=read_slowly)
+        reader.start()
+        time.sleep(0.3)
+        held(daemon, "a reader of 20 KB a second", 12.0)
+        is_over.set()
+        reader.join()
+    with daemon.connect("pages"):
+        time.sleep(0.3)
+        shut_down(daemon, "a reader that never reads at the end")
+
+
+def play_a_reader_that_writes(program, folder):
+    """A reader that sends a request first gets its whole page, as a browser does."""
+    daemon = large_daemon(program, folder)
+    for number in range(5):
+        with daemon.connect("pages") as reader:
+            reader.sendall(b"GET / HTTP/1.1\r\nHost: gateway\r\n\r\n" + b"X: y\r\n" * 1000 * number)
+            try:
+                page = read_all(reader).decode("latin-1")
+            except OSError as error:
+                page = str(error)
+        check("a reader that writes: it gets the whole page", page.count("\n"), OBJECTS + 3)
+    shut_down(daemon, "a reader that writes", 3.0)
+
+
+def play_an_operator_that_never_reads(program, folder):
+    """An operator that takes no answer holds the others for 60 seconds, since each answer has that time."""
+    daemon = Daemon(program, folder, limited(items=1000000, limit=1000000))
+    deaf = socket.socket()
+    deaf.setsockopt(socket.SOL_SOCKET, socket.SO_RCVBUF, 4096)
+    deaf.connect((daemon.host, daemon.ports["operators"]))
+    deaf.settimeout(1.0)
+    try:
+        for _ in range(2000):
+            deaf.sendall(b"x\n" * 4000)
+    except OSError:
+        pass
+    began = time.monotonic()
+    with socket.create_connection((daemon.host, daemon.ports["operators"]), 90.0) as other:
+        other.settimeout(90.0)
+        other.sendall(b"[1] ADD_HOST_COMMENT;web1;0;ann;hi\n")
+        other.shutdown(socket.SHUT_WR)
+        answer = read_all(other)
+    took = time.monotonic() - began
+    print(f"an operator that never reads: the next one waited {took:.2f} s", flush=True)
+    check("an operator that never reads: the next one is answered", answer, b"queued 1\n")
+    check("an operator that never reads: within 62 s", took < 62.0, True)
+    deaf.close()
+    shut_down(daemon, "an operator that never reads", 3.0)
+
+
+def play_too_many_lines(program, folder):
+    """An operator that sends more lines than it may gets all of its answers."""
+    daemon = Daemon(program, folder, limited(items=10000, limit=1000000))
+    for _ in range(5):
+        with daemon.connect("operators") as operator:
+            lines = b"[1] ADD_HOST_COMMENT;web1;0;ann;a comment of some length\n" * 20000
+            sender = threading.Thread(target=lambda: send_all(operator, lines))
+            sender.start()
+            try:
+                answers = read_all(operator).count(b"\n")
+            except OSError as error:
+                answers = str(error)
+            sender.join()
+        check("too many lines: each that may be is answered", answers, 10000)
+    output = shut_down(daemon, "too many lines", 3.0)[1]
+    check("too many lines: all of them are logged", output.split("\n", 1)[0], "log 50000")
+
+
+def send_all(connection, data):
+    try:
+        connection.sendall(data)
+    except OSError:
+        pass
+
+
+def play_many_lines(program, folder):
+    """No line of an operator finds the queue full while the log has room, and no packet of four connections."""
+    daemon = Daemon(program, folder, limited(items=100000, limit=1000000))
+    with daemon.connect("operators") as operator:
+        lines = b"[1] ADD_HOST_COMMENT;web1;0;ann;hi\n" * 100000
+        sender = threading.Thread(target=lambda: send_all(operator, lines + b"x\n"))
+        sender.start()
+        found = {}
+        rest = b""
+        while sum(found.values()) < 100000:
+            piece = operator.recv(65536)
+            if not piece:
+                break
+            answers = (rest + piece).split(b"\n")
+            rest = answers.pop()
+            for answer in answers:
+                found[answer[:6]] = found.get(answer[:6], 0) + 1
+        sender.join()
+    check("many lines: each is queued", found, {b"queued": 100000})
+
+    def send_many(number):
+        with daemon.connect("agents") as connection:
+            connection.settimeout(60.0)
+            moment = int.from_bytes(read_exactly(connection, 132)[128:], "big")
+            pool = b"".join(packet(moment, b"web1", b"HTTP", one % 4, b"%d %d" % (number, one)) for one in range(1000))
+            for _ in range(40):
+                connection.sendall(pool)
+
+    senders = [threading.Thread(target=send_many, args=(number,)) for number in range(4)]
+    for sender in senders:
+        sender.start()
+    for sender in senders:
+        sender.join()
+    # The last connection is served to its end before the next one, which a silent sender shows.
+    check("many packets: the next sender is served", send_one(daemon, b"the last one"), True)
+    daemon.page_with("the last one")
+    output = shut_down(daemon, "many lines", END)[1]
+    check("many packets: each is logged", output.split("\n", 1)[0], "log 260001")
+
+
+def play_a_full_log(program, folder):
+    """Who submits to a full log waits for nothing."""
+    daemon = Daemon(program, folder, limited(limit=10, capacity=20))
+    check("a full log: lines are answered", ask(daemon, *["[1] ADD_HOST_COMMENT;web1;0;ann;hi"] * 10),
+          [f"queued {number}" for number in range(1, 11)])
+    daemon.page_with("comment;10;")
+    began = time.monotonic()
+    answers = ask(daemon, *["[1] ADD_HOST_COMMENT;web1;0;ann;hi"] * 300)
+    check("a full log: lines are refused once the queue is full",
+          answers, [f"queued {number}" for number in range(11, 31)] + ["full"] * 280)
+    check("a full log: senders are greeted", [send_one(daemon, b"x", SENDER) for _ in range(40)], [True] * 40)
+    took = time.monotonic() - began
+    print(f"a full log: 280 lines and 40 senders took {took:.2f} s", flush=True)
+    check("a full log: nobody waits for room", took < 5.0, True)
+    check("a full log: a shutdown is answered", ask(daemon, "[1] SHUTDOWN_PROGRAM"), ["closing"])
+    status, output, errors = daemon.end()
+    check("a full log: it is reported", (status, output.split("\n", 1)[0], errors), (3, "log 10", "nscagate: LogFull\n"))
+
+
+def play_bursts(program, folder):
+    """Senders and operators amid whom the daemon is shut down: what was answered is logged once, in order."""
+    for turn in range(10):
+        daemon = Daemon(program, folder, limited(items=1000, limit=1000000))
+        answered = {}
+
+        def send_some(number, daemon=daemon):
+            try:
+                with daemon.connect("agents") as connection:
+                    moment = int.from_bytes(read_exactly(connection, 132)[128:], "big")
+                    connection.sendall(b"".join(packet(moment, b"web1", b"HTTP", 1, b"%d.%d" % (number, one))
+                                                for one in range(20)))
+            except OSError:
+                pass
+
+        def ask_some(number, daemon=daemon, answered=answered):
+            try:
+                with daemon.connect("operators") as connection:
+                    lines = [f"[1] ADD_HOST_COMMENT;web1;0;ann;{number}.{one}" for one in range(200)]
+                    send_all(connection, "".join(line + "\n" for line in lines).encode())
+                    connection.shutdown(socket.SHUT_WR)
+                    answers = read_all(connection).decode().splitlines()
+                    for line, answer in zip(lines, answers):
+                        if answer.startswith("queued "):
+                            answered[int(answer.split()[1])] = line[4:]
+            except OSError:
+                pass
+
+        peers = [threading.Thread(target=send_some, args=(number,)) for number in range(64)]
+        peers[32:32] = [threading.Thread(target=ask_some, args=(number,)) for number in range(2)]
+        peers[16:16] = [threading.Thread(target=ask_some, args=(number,)) for number in range(2, 4)]
+        for peer in peers:
+            peer.start()
+        time.sleep(0.01 * turn)
+        output = shut_down(daemon, f"burst {turn}")[1]
+        for peer in peers:
+            peer.join()
+        logged = re.findall(r"^\[\d+\] (\d+):(\d+) (.*) -> Accepted$", output, flags=re.MULTILINE)
+        lines = [(int(number), body) for client, number, body in logged if client == "2"]
+        check("a burst: what an operator was answered is logged, in order", lines, sorted(answered.items()))
+        packets = [(int(number), body) for client, number, body in logged if client == "1"]
+        check("a burst: packets are numbered in order", [number for number, _ in packets], list(range(1, len(packets) + 1)))
+        sent = [body.rsplit(";", 1)[1].split(".") for _, body in packets]
+        for number in range(64):
+            ones = [int(one) for sender, one in sent if sender == str(number)]
+            if ones != list(range(len(ones))):
+                check("a burst: a sender's packets are logged once, in order", ones, list(range(len(ones))))
+
+
+def play_nothing(program, folder):
+    """A daemon that nobody asks takes less than a hundredth of a processor."""
+    daemon = Daemon(program, folder, CONFIGURATION)
+    time.sleep(1.0)
+    used = []
+    for _ in range(2):
+        with open(f"/proc/{daemon.process.pid}/stat", encoding="ascii") as file:
+            fields = file.read().rsplit(")", 1)[1].split()
+        used.append((int(fields[11]) + int(fields[12])) / os.sysconf("SC_CLK_TCK"))
+        time.sleep(10.0)
+    print(f"an idle daemon used {used[1] - used[0]:.2f} s of 10", flush=True)
+    check("an idle daemon is idle", used[1] - used[0] <= 0.1, True)
+    shut_down(daemon, "an idle daemon", 2.0)
+
+
+PLAYS = [play for name, play in sorted(globals().items()) if name.startswith("play_")]
+
+
+def main():
+    program = sys.argv[1]
+    word = sys.argv[2] if len(sys.argv) > 2 else ""
+    with tempfile.TemporaryDirectory() as folder:
+
+        def run(play):
+            own = os.path.join(folder, play.__name__)
+            os.mkdir(own)
+            try:
+                play(program, own)
+            except Exception:  # a play that breaks off has failed
+                check(f"{play.__name__} ... {traceback.format_exc()}", "broken off", "ended")
+
+        plays = [threading.Thread(target=run, args=(play,)) for play in PLAYS if word in play.__name__]
+        for play in plays:
+            play.start()
+        for play in plays:
+            play.join()
+    end_tests()
+
+
+main()
