@@ -69,13 +69,17 @@ fn run<R: Net<Listener = TcpListener, Stream = TcpStream> + Threads + Wait + Clo
     ensures limit { IfOk result (λ finished. finished.closed.applier.limit ≡ limits.limit) }
     ensures fault { IfErr result (IsGatewayFault 1 limits.capacity limits.limit table) }
 {
+    let ending = Ending::new();
+    let Ok(mut posts) = Vec::with_capacity(alloc, 1) else {
+        drop(listeners);
+        drop(table);
+        return Err(GatewayFault::OutOfMemory);
+    };
     let Listeners {
         agents,
         operators,
         pages,
     } = listeners;
-    let ending = Ending::new();
-    let mut posts = Vec::with_capacity(alloc, 1)?;
     posts.push_reserved(post(Accepted::of_agents(rt, agents.listener, &ending)));
     run_gateway(
         rt,
@@ -105,15 +109,23 @@ fn serve_on<
     ensures { let state = sink_state W.contents W.pending W.failures in
         RunsOn table limits.limit (state output.old) (state output.new) (fault_in result) }
 {
-    announce(
+    match announce(
         alloc,
         listeners.agents.address,
         listeners.operators.address,
         listeners.pages.address,
         output,
-    )?;
-    let ran = run(rt, alloc, limits, table, listeners);
-    end(alloc, ran, output)
+    ) {
+        Ok(()) => {
+            let ran = run(rt, alloc, limits, table, listeners);
+            end(alloc, ran, output)
+        }
+        Err(fault) => {
+            drop(listeners);
+            drop(table);
+            Err(fault)
+        }
+    }
 }
 
 // Serves as a configuration says.
