@@ -9,3 +9,4 @@ pub mod Pieces
 pub mod Laid
 pub mod Encoded
 pub mod Cuts
+mod BlockRefs

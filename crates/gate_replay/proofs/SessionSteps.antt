@@ -10,6 +10,7 @@ use Rattle.gate_model.specs.declared.submission.Body.{Body}
 use Rattle.gate_model.specs.declared.submission.Body.TheVariants as body
 use Rattle.gate_packet.specs.declared.decoding.PacketFault.{PacketFault}
 use Rattle.gate_packet.specs.declared.decoding.PacketFault.TheVariants as packet_fault
+use Rattle.gate_packet.specs.Layout.{IsPacketSize}
 use Rattle.gate_packet.specs.Packet.{Content, reported_body}
 use Rattle.gate_packet.specs.Decoding.{IsPacket, is_stale, fault_of, IsAtMostOnePacket, IsFaultlessOrStale}
 use Rattle.gate_packet.specs.Stream.{Begins, block_length}
@@ -116,10 +117,15 @@ none_after : (xs ys : List ℕ) → length (xs ++ ys) ≡ length xs → ys ≡ [
 none_after xs [] e = refl
 none_after xs (y ∷ ys) e = absurd (omega (arith, e, length-append xs (y ∷ ys)))
 
+is_long : (bytes block rest : List ℕ) → IsPacketSize (length bytes) → length block ≡ 4304 → bytes ≡ block ++ rest → length bytes ≡ 4304
+is_long bytes block rest (inl long) block_long is = long
+is_long bytes block rest (inr short) block_long is = absurd (omega (arith, short, block_long, ap length is, length-append block rest))
+
 -- a block at the front of bytes that are one block is all of them
-whole_block : (bytes block more rest : List ℕ) → length bytes ≡ 4304 → length block ≡ 4304 → bytes ≡ (block ++ more) ++ rest → block ≡ bytes
-whole_block bytes block more rest long block_long is =
+whole_block : (bytes block more rest : List ℕ) → IsPacketSize (length bytes) → length block ≡ 4304 → bytes ≡ (block ++ more) ++ rest → block ≡ bytes
+whole_block bytes block more rest size block_long is =
     let e : bytes ≡ block ++ (more ++ rest) = is ∙ append_assoc block more rest in
+    let long = is_long bytes block (more ++ rest) size block_long e in
     let nothing : more ++ rest ≡ [] = none_after block (more ++ rest) (ap length (sym e) ∙ long ∙ sym block_long) in
     sym (e ∙ ap (λ l. block ++ l) nothing ∙ append-nil block)
 

@@ -118,12 +118,37 @@ fn bytes_after_a_nul_and_in_the_padding_have_no_meaning(rt: HostRuntime) -> Resu
     Ok(())
 }
 
+// Whether the bytes with this bit flipped have the fault of a version or of a check word.
+fn is_found(alloc: Global, bytes: &[u8; PACKET_SIZE], offset: usize, bit: u8) -> bool {
+    let mut flipped = *bytes;
+    if let Some(byte) = flipped.get_mut(offset) {
+        *byte ^= bit;
+    }
+    let want = if offset < 2 {
+        PacketFault::BadVersion
+    } else {
+        PacketFault::BadCheckWord
+    };
+    fault(alloc, &flipped, 1005, 30) == Some(want)
+}
+
+// How many of the bits are found when they are flipped by themselves.
+fn found(alloc: Global, bytes: &[u8; PACKET_SIZE]) -> u64 {
+    let mut found = 0_u64;
+    for offset in 0..PACKET_SIZE {
+        for bit in [1, 2, 4, 8, 16, 32, 64, 128] {
+            if is_found(alloc, bytes, offset, bit) {
+                found = found.saturating_add(1);
+            }
+        }
+    }
+    found
+}
+
 #[test]
-fn a_flipped_bit_is_a_bad_check_word(rt: HostRuntime) -> Result<(), Fail> {
-    let mut bytes = bytes_sent(rt.alloc(), 1000)?;
-    bytes[4303] ^= 1;
-    let found = fault(rt.alloc(), &bytes, 1005, 30);
-    assert_eq!(rt; found, Some(PacketFault::BadCheckWord));
+fn each_flipped_bit_is_found(rt: HostRuntime) -> Result<(), Fail> {
+    let bytes = bytes_sent(rt.alloc(), 1000)?;
+    assert_eq!(rt; found(rt.alloc(), &bytes), 34432);
     Ok(())
 }
 
