@@ -10,3 +10,4 @@ pub mod Laid
 pub mod Encoded
 pub mod Cuts
 mod BlockRefs
+pub mod ShortFronts

@@ -26,6 +26,11 @@ content_of bytes =
     content (timestamp bytes) (return_code bytes)
     (host_name bytes) (svc_description bytes) (plugin_output bytes)
 
+-- the bytes carry version 3 and their own check word
+abbrev pub is_sound : List ℕ → Bool
+is_sound bytes =
+    packet_version bytes == 3 && crc32_value bytes == check_word (without_check_word bytes)
+
 -- ---- faults
 
 -- at this moment a packet of that timestamp is older than the greatest age; 0 is no greatest age

@@ -1,17 +1,21 @@
-ghost use Rattle.std.specs.Prelude.{◌≡◌, ◌≤◌, length};
+ghost use Rattle.std.specs.Prelude.{◌≡◌, ◌≢◌, ◌≤◌, length, take, false, IfSome, IfNone};
 ghost use Rattle.gate_packet.specs.CheckWord.{after_bytes};
 ghost use Rattle.gate_packet.specs.Layout.{IsPacketSize, packet_version, without_check_word};
+ghost use Rattle.gate_packet.specs.Stream.{begins_short, block_bytes, Begins, IsRest};
 ghost use Rattle.gate_packet.specs.inner.BlockRefs.{integrity_fault};
 
+use crate::block::Block;
 use crate::check_word::extended;
 use crate::decoding::{PacketFault, u16_at, u32_at};
-use crate::layout::{CHECK_WORD_OFFSET, CHECK_WORD_SIZE, VERSION, VERSION_OFFSET};
+use crate::layout::{
+    CHECK_WORD_OFFSET, CHECK_WORD_SIZE, PACKET_SIZE, SHORT_PACKET_SIZE, VERSION, VERSION_OFFSET,
+};
 use std::marker::Model;
 
 /// A whole block where it stands, which is to be read as a packet. Its version and its check word
 /// have been tested. Contracts see its bytes.
 #[derive(Drop)]
-pub(crate) struct BlockRef<'a> {
+pub struct BlockRef<'a> {
     bytes: &'a [u8],
     // The fault of its version or of its check word.
     fault: Option<PacketFault>,
@@ -67,11 +71,24 @@ impl<'a> BlockRef<'a> {
     }
 
     /// The block's bytes.
-    pub(crate) fn bytes(&self) -> &'a [u8]
+    pub fn bytes(&self) -> &'a [u8]
         ensures bytes { result.now ≡ self.now }
         ensures size { IsPacketSize (length self.now) }
     {
         self.bytes
+    }
+
+    /// A copy of the block.
+    pub fn to_block(&self) -> Block
+        ensures bytes { block_bytes result ≡ self.now }
+        ensures size { IsPacketSize (length self.now) }
+    {
+        if let Some(long) = self.bytes.first_chunk() {
+            return Block::Long(*long);
+        }
+        let mut short = [0; SHORT_PACKET_SIZE];
+        short.copy_from_slice(self.bytes);
+        Block::Short(short)
     }
 
     // The fault of its version or of its check word.
@@ -79,5 +96,63 @@ impl<'a> BlockRef<'a> {
         ensures { result ≡ integrity_fault self.now }
     {
         self.fault
+    }
+}
+
+// Splits off the first block, which has 4304 bytes since their version isn't 3.
+fn split_unread(bytes: &[u8]) -> Option<(BlockRef<'_>, &[u8])>
+    requires { packet_version bytes.now ≢ 3 }
+    ensures some { IfSome result (λ split. Begins bytes.now split.0 split.1.now) }
+    ensures none { IfNone result (IsRest bytes.now) }
+{
+    let Some((long, more)) = bytes.split_at_checked(PACKET_SIZE) else {
+        return None;
+    };
+    let fault = Some(PacketFault::BadVersion);
+    Some((BlockRef { bytes: long, fault }, more))
+}
+
+// Splits off the first block, which has 4304 bytes since the word after the first 720 isn't the one
+// that they carry.
+fn split_long(bytes: &[u8], word: u32) -> Option<(BlockRef<'_>, &[u8])>
+    requires enough { 720 ≤ length bytes.now }
+    requires version { packet_version bytes.now ≡ 3 }
+    requires word { word ≡ after_bytes 0xFFFFFFFF (without_check_word (take 720 bytes.now)) }
+    requires not_short { begins_short bytes.now ≡ false }
+    ensures some { IfSome result (λ split. Begins bytes.now split.0 split.1.now) }
+    ensures none { IfNone result (IsRest bytes.now) }
+{
+    let Some((long, more)) = bytes.split_at_checked(PACKET_SIZE) else {
+        return None;
+    };
+    let fault = check_word_fault(long, extended(word, &long[SHORT_PACKET_SIZE..]));
+    Some((BlockRef { bytes: long, fault }, more))
+}
+
+/// Splits the first block off the bytes, if it is whole, and tests its version and check word.
+///
+/// Own rule: where the first 720 bytes carry version 3 and their own check word, they are a block of
+/// the older form; otherwise a block has 4304 bytes.
+pub fn split_block(bytes: &[u8]) -> Option<(BlockRef<'_>, &[u8])>
+    ensures some { IfSome result (λ split. Begins bytes.now split.0 split.1.now) }
+    ensures none { IfNone result (IsRest bytes.now) }
+{
+    let Some((short, more)) = bytes.split_at_checked(SHORT_PACKET_SIZE) else {
+        return None;
+    };
+    if u16_at(short, VERSION_OFFSET) != VERSION {
+        return split_unread(bytes);
+    }
+    // Each byte of a block is gone through once: in a longer one the word goes on over the others.
+    let word = word_after(short);
+    match check_word_fault(short, word) {
+        None => {
+            let block = BlockRef {
+                bytes: short,
+                fault: None,
+            };
+            Some((block, more))
+        }
+        Some(_) => split_long(bytes, word),
     }
 }

@@ -3,7 +3,9 @@ ghost use Rattle.std.specs.List.{before_first};
 ghost use Rattle.gate_packet.specs.Layout.{IsPacketSize, integer_at, text_at, host_name};
 ghost use Rattle.gate_packet.specs.Packet.{Content};
 ghost use Rattle.gate_packet.specs.Decoding.{IsPacket, content_of, is_stale, fault_of, IsReportedFault, ReadsFreshPacket, ReportsFirstFault, IsAtMostOnePacket, IsContentOfBytes, IsPacketIfFaultless, IsFaultlessOrStale, FitsShortIfRead};
+ghost use Rattle.gate_packet.specs.Stream.{block_bytes};
 
+use crate::block::Block;
 use crate::block_ref::BlockRef;
 use crate::layout::{
     CODE_OFFSET, HOST_OFFSET, HOST_SIZE, OTHER_SIZE, OUTPUT_OFFSET, PACKET_SIZE, SERVICE_OFFSET,
@@ -121,7 +123,7 @@ fn packet_in(alloc: Global, bytes: &[u8]) -> Result<Packet, AllocError>
 
 impl BlockRef<'_> {
     /// Reads the block as the packet that it is, by the rules of `decode`.
-    pub(crate) fn decode(
+    pub fn decode(
         &self,
         alloc: Global,
         now: Moment,
@@ -187,6 +189,26 @@ pub fn decode_short(
     ensures each_fault { ReportsFirstFault bytes.now now.0 greatest_age result }
 {
     BlockRef::of(bytes).decode(alloc, now, greatest_age)
+}
+
+/// Reads a block as the packet that it is, by the rules of `decode`.
+pub fn decode_block(
+    alloc: Global,
+    block: &Block,
+    now: Moment,
+    greatest_age: u32,
+) -> Result<Packet, PacketFault>
+    ensures packet { IfOk result (λ p. IsPacket (block_bytes block.now) p) }
+    ensures fresh { IfOk result (λ p. is_stale p.timestamp now.0 greatest_age ≡ false) }
+    ensures every_packet { ReadsFreshPacket (block_bytes block.now) now.0 greatest_age result }
+
+    ensures first_fault { IfErr result (IsReportedFault (block_bytes block.now) now.0 greatest_age) }
+    ensures each_fault { ReportsFirstFault (block_bytes block.now) now.0 greatest_age result }
+{
+    match block {
+        Block::Short(bytes) => decode_short(alloc, bytes, now, greatest_age),
+        Block::Long(bytes) => decode(alloc, bytes, now, greatest_age),
+    }
 }
 
 /// Does nothing. Its contract is a law: bytes are at most one packet, which is their content and

@@ -5,6 +5,7 @@
 //! blocks that are read so.
 #![tactic(auto)]
 
+mod block;
 mod block_ref;
 mod check_word;
 mod check_word_tables;
@@ -15,10 +16,12 @@ mod layout;
 mod packet;
 mod stream;
 
+pub use block::Block;
+pub use block_ref::{BlockRef, split_block};
 pub use check_word::crc32;
-pub use decoding::{PacketFault, decode, decode_short, one_reading};
+pub use decoding::{PacketFault, decode, decode_block, decode_short, one_reading};
 pub use encoding::{encode, encode_short, fits_short};
-pub use laws::round_trip;
+pub use laws::{round_trip, round_trip_short};
 pub use layout::{PACKET_SIZE, SHORT_PACKET_SIZE};
 pub use packet::{ContentFault, Field, Packet, RefusedPacket};
 pub use stream::{Cutter, one_cut};

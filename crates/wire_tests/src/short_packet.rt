@@ -1,6 +1,7 @@
 use gate_model::Moment;
 use gate_packet::{
-    Packet, PacketFault, SHORT_PACKET_SIZE, crc32, decode_short, encode_short, fits_short,
+    Cutter, Packet, PacketFault, SHORT_PACKET_SIZE, crc32, decode_block, decode_short, encode,
+    encode_short, fits_short,
 };
 use std::alloc::Global;
 use std::test::Fail;
@@ -166,5 +167,49 @@ fn found(alloc: Global, bytes: &[u8; SHORT_PACKET_SIZE]) -> u64 {
 fn each_flipped_bit_of_a_short_packet_is_found(rt: HostRuntime) -> Result<(), Fail> {
     let bytes = bytes_sent(rt.alloc())?;
     assert_eq!(rt; found(rt.alloc(), &bytes), 5760);
+    Ok(())
+}
+
+// A packet of each length and then one of 720 bytes again, with so many bytes more.
+fn stream(alloc: Global, more: &[u8]) -> Option<Vec<u8>> {
+    let packet = timeout_of_http(alloc)?;
+    let long = encode(&packet);
+    let short = bytes_of(&packet);
+    drop(packet);
+    let short = short?;
+    let mut stream = short.to_vec(alloc).ok()?;
+    stream.extend_from_slice(&long).ok()?;
+    stream.extend_from_slice(&short).ok()?;
+    stream.extend_from_slice(more).ok()?;
+    Some(stream)
+}
+
+// Whether the next block of the stream has so many bytes, and is `timeout_of_http`.
+fn is_next(alloc: Global, cutter: &mut Cutter, size: usize) -> bool {
+    let Some(block) = cutter.next_packet() else {
+        return false;
+    };
+    let read = decode_block(alloc, &block, Moment(1005), 30).ok();
+    let sent = timeout_of_http(alloc);
+    let same = sent.is_some() && read == sent;
+    drop(read);
+    drop(sent);
+    same && block.bytes().len() == size
+}
+
+fn is_cut(alloc: Global, cutter: &mut Cutter, rest: usize) -> bool {
+    is_next(alloc, cutter, 720)
+        && is_next(alloc, cutter, 4304)
+        && is_next(alloc, cutter, 720)
+        && cutter.next_packet().is_none()
+        && cutter.rest() == rest
+}
+
+#[test]
+fn packets_of_both_lengths_are_cut_out_of_one_stream(rt: HostRuntime) -> Result<(), Fail> {
+    let stream = stream(rt.alloc(), b"abc").ok_or("no stream")?;
+    let mut cutter = Cutter::new(rt.alloc());
+    cutter.feed(&stream)?;
+    assert!(rt; is_cut(rt.alloc(), &mut cutter, 3));
     Ok(())
 }
