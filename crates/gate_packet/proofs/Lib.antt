@@ -9,3 +9,5 @@ pub mod Pieces
 pub mod Laid
 pub mod Encoded
 pub mod Cuts
+mod BlockRefs
+pub mod ShortFronts

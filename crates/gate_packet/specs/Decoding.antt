@@ -1,16 +1,16 @@
 -- The data packet of version 3, `data_packet` of NSCA 2.9, common.h, under encryption method 0:
 -- which bytes are which packet, `IsPacket`, and why other bytes are none, `fault_of`.
 -- Own rules: which packet is stale, that a packet has a host, and the order of the faults.
-use Rattle.std.specs.Prelude.{◌≡◌, ◌≢◌, ℕ, ◌-◌, Bool, false, not, ◌&&◌, nat_lt, nat_le, ◌==◌, if◌then◌else◌, List, [], length, Option, Some, None, Result, Ok, Err}
+use Rattle.std.specs.Prelude.{◌≡◌, ◌≢◌, ℕ, ◌-◌, Bool, true, false, not, ◌&&◌, nat_lt, nat_le, ◌==◌, if◌then◌else◌, List, [], length, Option, Some, None, Result, Ok, Err}
 use Rattle.gate_packet.specs.declared.decoding.PacketFault.{PacketFault}
 use Rattle.gate_packet.specs.declared.decoding.PacketFault.TheVariants.{BadVersion, BadCheckWord, Stale, EmptyHost, OutOfMemory}
 use Rattle.gate_packet.specs.CheckWord.{check_word}
-use Rattle.gate_packet.specs.Layout.{packet_version, crc32_value, without_check_word, timestamp, return_code, host_name, svc_description, plugin_output}
-use Rattle.gate_packet.specs.Packet.{Content, content, IsContent}
+use Rattle.gate_packet.specs.Layout.{IsPacketSize, packet_version, crc32_value, without_check_word, timestamp, return_code, host_name, svc_description, plugin_output}
+use Rattle.gate_packet.specs.Packet.{Content, content, IsContent, fits_short}
 
 -- the bytes are this packet
 pub record IsPacket (bytes : List ℕ) (p : Content) : Type 0 where
-  pub whole : length bytes ≡ 4304
+  pub whole : IsPacketSize (length bytes)
   pub version : packet_version bytes ≡ 3
   pub covered : crc32_value bytes ≡ check_word (without_check_word bytes)
   pub sent : timestamp bytes ≡ p.timestamp
@@ -25,6 +25,11 @@ abbrev pub content_of : List ℕ → Content
 content_of bytes =
     content (timestamp bytes) (return_code bytes)
     (host_name bytes) (svc_description bytes) (plugin_output bytes)
+
+-- the bytes carry version 3 and their own check word
+abbrev pub is_sound : List ℕ → Bool
+is_sound bytes =
+    packet_version bytes == 3 && crc32_value bytes == check_word (without_check_word bytes)
 
 -- ---- faults
 
@@ -73,10 +78,11 @@ IsAtMostOnePacket bytes = (p q : Content) → IsPacket bytes p → IsPacket byte
 abbrev pub IsContentOfBytes : List ℕ → Content → Type 0
 IsContentOfBytes bytes p = IsPacket bytes p → (content_of bytes ≡ p) × IsContent p
 
--- 4304 bytes without a fault are the packet with their content
+-- bytes of a packet's size without a fault are the packet with their content
 abbrev pub IsPacketIfFaultless : List ℕ → ℕ → ℕ → Type 0
 IsPacketIfFaultless bytes now greatest_age =
-    length bytes ≡ 4304 → fault_of bytes now greatest_age ≡ None → IsPacket bytes (content_of bytes)
+    IsPacketSize (length bytes) → fault_of bytes now greatest_age ≡ None
+    → IsPacket bytes (content_of bytes)
 
 -- the only fault that a packet's bytes can have is that the packet is stale
 abbrev pub IsFaultlessOrStale : List ℕ → Content → ℕ → ℕ → Type 0
@@ -84,3 +90,7 @@ IsFaultlessOrStale bytes p now greatest_age =
     IsPacket bytes p
     → fault_of bytes now greatest_age
     ≡ (if is_stale p.timestamp now greatest_age then Some Stale else None)
+
+-- a packet that was read from 720 bytes can be written in 720
+abbrev pub FitsShortIfRead : List ℕ → Content → Type 0
+FitsShortIfRead bytes p = length bytes ≡ 720 → IsPacket bytes p → fits_short p ≡ true

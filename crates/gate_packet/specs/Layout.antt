@@ -1,8 +1,10 @@
 -- Where the members of a data packet of version 3 stand: `data_packet` of NSCA 2.9, common.h.
 -- Offsets are in bytes from 0, and integers are in network byte order.
--- Own rule: the offsets are those of the C struct with its 32-bit members at multiples of 4, in
--- 4304 bytes. Bytes 2 to 3 and 4302 to 4303 are padding.
-use Rattle.std.specs.Prelude.{ℕ, ℤ, ◌-◌, ◌==◌, List, ◌++◌, take, drop, replicate}
+-- A packet has 4304 bytes, or 720 in the older form of the same version. The forms differ in the size
+-- of the output's field alone.
+-- Own rule: the offsets are those of the C struct with its 32-bit members at multiples of 4. Bytes
+-- 2 to 3 and the last two are padding.
+use Rattle.std.specs.Prelude.{◌≡◌, ◌⊎◌, ℕ, ℤ, ◌-◌, ◌==◌, List, ◌++◌, length, take, drop, replicate}
 use Rattle.std.specs.List.{before_first}
 use Rattle.std.specs.Int.{w16, cast_signed}
 use Rattle.byteorder.specs.Endian.{big_number}
@@ -22,6 +24,16 @@ text_at bytes offset size = before_first (λ byte. byte == 0) (slice_of bytes of
 -- this many bytes that are zero
 unfoldable pub zeros : ℕ → List ℕ
 zeros count = replicate count 0
+
+-- ---- the two forms
+
+-- a packet may have this many bytes
+abbrev pub IsPacketSize : ℕ → Type 0
+IsPacketSize size = (size ≡ 4304) ⊎ (size ≡ 720)
+
+-- the size of the output's field in a packet of this size: the other members and the padding take 208
+abbrev pub output_size : ℕ → ℕ
+output_size size = size - 208
 
 -- ---- the members, in their order
 
@@ -55,4 +67,4 @@ svc_description bytes = text_at bytes 78 128
 
 -- the plugin's output
 abbrev pub plugin_output : List ℕ → List ℕ
-plugin_output bytes = text_at bytes 206 4096
+plugin_output bytes = text_at bytes 206 (output_size (length bytes))

@@ -2,7 +2,7 @@
 -- `data_packet` in NSCA 2.9, common.h, that a sender chooses. A text ends at a NUL within its
 -- field, so it is shorter than the field.
 -- Own rules: a packet always names a host, and the order of the faults.
-use Rattle.std.specs.Prelude.{◌≡◌, ◌≤◌, ◌≢◌, ℕ, ℤ, Bool, false, nat_lt, ◌==◌, if◌then◌else◌, List, [], length, Option, Some, None, is_some}
+use Rattle.std.specs.Prelude.{◌≡◌, ◌≤◌, ◌≢◌, ℕ, ℤ, Bool, false, nat_lt, nat_le, ◌==◌, if◌then◌else◌, List, [], length, Option, Some, None, is_some}
 use Rattle.std.specs.List.{list_any}
 use Rattle.gate_model.specs.declared.submission.Body.{Body}
 use Rattle.gate_model.specs.declared.submission.Body.TheVariants as bodies
@@ -44,6 +44,10 @@ pub record IsContent (p : Content) : Type 0 where
   pub host : IsText 63 p.host
   pub service : IsText 127 p.service
   pub output : IsText 4095 p.output
+
+-- a packet of this content can be written in 720 bytes
+abbrev pub fits_short : Content → Bool
+fits_short p = nat_le (length p.output) 511
 
 -- why the text has no room in its field, or would not be read to its end
 abbrev pub text_fault : Field → ℕ → List ℕ → Option ContentFault

@@ -1,15 +1,15 @@
 ghost use Rattle.std.specs.Prelude.{◌≡◌, ◌==◌, ◌<◌, ◌≤◌, ◌+◌, ℕ, List, position, length, IfOk, IfErr, false};
 ghost use Rattle.std.specs.List.{before_first};
-ghost use Rattle.gate_packet.specs.CheckWord.{check_word};
-ghost use Rattle.gate_packet.specs.Layout.{integer_at, text_at, without_check_word, host_name};
+ghost use Rattle.gate_packet.specs.Layout.{IsPacketSize, integer_at, text_at, host_name};
 ghost use Rattle.gate_packet.specs.Packet.{Content};
-ghost use Rattle.gate_packet.specs.Decoding.{IsPacket, content_of, is_stale, fault_of, IsReportedFault, ReadsFreshPacket, ReportsFirstFault, IsAtMostOnePacket, IsContentOfBytes, IsPacketIfFaultless, IsFaultlessOrStale};
+ghost use Rattle.gate_packet.specs.Decoding.{IsPacket, content_of, is_stale, fault_of, IsReportedFault, ReadsFreshPacket, ReportsFirstFault, IsAtMostOnePacket, IsContentOfBytes, IsPacketIfFaultless, IsFaultlessOrStale, FitsShortIfRead};
+ghost use Rattle.gate_packet.specs.Stream.{block_bytes};
 
-use crate::check_word::extended;
+use crate::block::Block;
+use crate::block_ref::BlockRef;
 use crate::layout::{
-    CHECK_WORD_OFFSET, CHECK_WORD_SIZE, CODE_OFFSET, HOST_OFFSET, HOST_SIZE, OUTPUT_OFFSET,
-    OUTPUT_SIZE, PACKET_SIZE, SERVICE_OFFSET, SERVICE_SIZE, TIMESTAMP_OFFSET, VERSION,
-    VERSION_OFFSET,
+    CODE_OFFSET, HOST_OFFSET, HOST_SIZE, OTHER_SIZE, OUTPUT_OFFSET, PACKET_SIZE, SERVICE_OFFSET,
+    SERVICE_SIZE, SHORT_PACKET_SIZE, TIMESTAMP_OFFSET,
 };
 use crate::packet::Packet;
 use byteorder::{BigEndian, ByteOrder};
@@ -37,14 +37,14 @@ pub enum PacketFault {
     OutOfMemory,
 }
 
-fn u16_at(bytes: &[u8], offset: usize) -> u16
+pub(crate) fn u16_at(bytes: &[u8], offset: usize) -> u16
     requires { offset + 2 ≤ length bytes.now }
     ensures { result ≡ integer_at bytes.now offset 2 }
 {
     BigEndian::read_u16(&bytes[offset..offset + 2])
 }
 
-fn u32_at(bytes: &[u8], offset: usize) -> u32
+pub(crate) fn u32_at(bytes: &[u8], offset: usize) -> u32
     requires { offset + 4 ≤ length bytes.now }
     ensures { result ≡ integer_at bytes.now offset 4 }
 {
@@ -75,33 +75,22 @@ fn text_at(bytes: &[u8], offset: usize, size: usize) -> &[u8]
     before_nul(&bytes[offset..offset + size - 1])
 }
 
-// The check word of the bytes, with zeros instead of its own four.
-fn covering_word(bytes: &[u8]) -> u32
-    requires { length bytes.now ≡ 4304 }
-    ensures { result ≡ check_word (without_check_word bytes.now) }
-{
-    let word = extended(u32::MAX, &bytes[..CHECK_WORD_OFFSET]);
-    let word = extended(word, &[0; CHECK_WORD_SIZE]);
-    u32::MAX - extended(word, &bytes[CHECK_WORD_OFFSET + CHECK_WORD_SIZE..])
-}
-
 fn is_stale(timestamp: u32, now: Moment, greatest_age: u32) -> bool
     ensures { result ≡ is_stale timestamp now.0 greatest_age }
 {
     greatest_age != 0 && timestamp <= now.0 && now.0 - timestamp > greatest_age
 }
 
+// The first fault of the block at this moment.
 #[tactic(auto, unfolding(crate::specs::Decoding::fault_of))]
-fn fault_of(bytes: &[u8], now: Moment, greatest_age: u32) -> Option<PacketFault>
-    requires { length bytes.now ≡ 4304 }
-    ensures { result ≡ fault_of bytes.now now.0 greatest_age }
+fn fault_of(block: &BlockRef<'_>, now: Moment, greatest_age: u32) -> Option<PacketFault>
+    ensures { result ≡ fault_of block.now now.0 greatest_age }
 {
-    if u16_at(bytes, VERSION_OFFSET) != VERSION {
-        return Some(PacketFault::BadVersion);
+    let fault = block.fault();
+    if fault.is_some() {
+        return fault;
     }
-    if u32_at(bytes, CHECK_WORD_OFFSET) != covering_word(bytes) {
-        return Some(PacketFault::BadCheckWord);
-    }
+    let bytes = block.bytes();
     if is_stale(u32_at(bytes, TIMESTAMP_OFFSET), now, greatest_age) {
         return Some(PacketFault::Stale);
     }
@@ -113,7 +102,7 @@ fn fault_of(bytes: &[u8], now: Moment, greatest_age: u32) -> Option<PacketFault>
 
 // The content of the bytes, whatever their version and check word.
 fn packet_in(alloc: Global, bytes: &[u8]) -> Result<Packet, AllocError>
-    requires whole { length bytes.now ≡ 4304 }
+    requires whole { IsPacketSize (length bytes.now) }
     requires has_host { 0 < length (host_name bytes.now) }
     ensures { IfOk result (λ p. p ≡ content_of bytes.now) }
 {
@@ -121,7 +110,8 @@ fn packet_in(alloc: Global, bytes: &[u8]) -> Result<Packet, AllocError>
     let code = u16_at(bytes, CODE_OFFSET).cast_signed();
     let host = Text::copied(alloc, text_at(bytes, HOST_OFFSET, HOST_SIZE))?;
     let service = Text::copied(alloc, text_at(bytes, SERVICE_OFFSET, SERVICE_SIZE))?;
-    let output = Text::copied(alloc, text_at(bytes, OUTPUT_OFFSET, OUTPUT_SIZE))?;
+    let output = text_at(bytes, OUTPUT_OFFSET, bytes.len() - OTHER_SIZE);
+    let output = Text::copied(alloc, output)?;
     Ok(Packet {
         timestamp,
         code,
@@ -129,6 +119,31 @@ fn packet_in(alloc: Global, bytes: &[u8]) -> Result<Packet, AllocError>
         service,
         output,
     })
+}
+
+impl BlockRef<'_> {
+    /// Reads the block as the packet that it is, by the rules of `decode`.
+    pub fn decode(
+        &self,
+        alloc: Global,
+        now: Moment,
+        greatest_age: u32,
+    ) -> Result<Packet, PacketFault>
+        ensures packet { IfOk result (λ p. IsPacket self.now p) }
+        ensures fresh { IfOk result (λ p. is_stale p.timestamp now.0 greatest_age ≡ false) }
+        ensures every_packet { ReadsFreshPacket self.now now.0 greatest_age result }
+
+        ensures first_fault { IfErr result (IsReportedFault self.now now.0 greatest_age) }
+        ensures each_fault { ReportsFirstFault self.now now.0 greatest_age result }
+    {
+        if let Some(fault) = fault_of(self, now, greatest_age) {
+            return Err(fault);
+        }
+        match packet_in(alloc, self.bytes()) {
+            Ok(packet) => Ok(packet),
+            Err(_) => Err(PacketFault::OutOfMemory),
+        }
+    }
 }
 
 /// Reads the bytes as the packet that they are, at the moment `now`.
@@ -156,19 +171,51 @@ pub fn decode(
     ensures first_fault { IfErr result (IsReportedFault bytes.now now.0 greatest_age) }
     ensures each_fault { ReportsFirstFault bytes.now now.0 greatest_age result }
 {
-    if let Some(fault) = fault_of(bytes, now, greatest_age) {
-        return Err(fault);
-    }
-    match packet_in(alloc, bytes) {
-        Ok(packet) => Ok(packet),
-        Err(_) => Err(PacketFault::OutOfMemory),
+    BlockRef::of(bytes).decode(alloc, now, greatest_age)
+}
+
+/// Reads the bytes as the packet of the older form that they are, by the rules of `decode`.
+pub fn decode_short(
+    alloc: Global,
+    bytes: &[u8; SHORT_PACKET_SIZE],
+    now: Moment,
+    greatest_age: u32,
+) -> Result<Packet, PacketFault>
+    ensures packet { IfOk result (λ p. IsPacket bytes.now p) }
+    ensures fresh { IfOk result (λ p. is_stale p.timestamp now.0 greatest_age ≡ false) }
+    ensures every_packet { ReadsFreshPacket bytes.now now.0 greatest_age result }
+
+    ensures first_fault { IfErr result (IsReportedFault bytes.now now.0 greatest_age) }
+    ensures each_fault { ReportsFirstFault bytes.now now.0 greatest_age result }
+{
+    BlockRef::of(bytes).decode(alloc, now, greatest_age)
+}
+
+/// Reads a block as the packet that it is, by the rules of `decode`.
+pub fn decode_block(
+    alloc: Global,
+    block: &Block,
+    now: Moment,
+    greatest_age: u32,
+) -> Result<Packet, PacketFault>
+    ensures packet { IfOk result (λ p. IsPacket (block_bytes block.now) p) }
+    ensures fresh { IfOk result (λ p. is_stale p.timestamp now.0 greatest_age ≡ false) }
+    ensures every_packet { ReadsFreshPacket (block_bytes block.now) now.0 greatest_age result }
+
+    ensures first_fault { IfErr result (IsReportedFault (block_bytes block.now) now.0 greatest_age) }
+    ensures each_fault { ReportsFirstFault (block_bytes block.now) now.0 greatest_age result }
+{
+    match block {
+        Block::Short(bytes) => decode_short(alloc, bytes, now, greatest_age),
+        Block::Long(bytes) => decode(alloc, bytes, now, greatest_age),
     }
 }
 
 /// Does nothing. Its contract is a law: bytes are at most one packet, which is their content and
-/// one that `Packet::new` accepts; 4304 bytes without a fault are a packet, and the only fault that
-/// a packet's bytes can have is `Stale`. So what `encode` writes of a packet is read by `decode` as
-/// that packet, unless it is stale or memory runs out.
+/// one that `Packet::new` accepts; bytes of a packet's size without a fault are a packet, and the
+/// only fault that a packet's bytes can have is `Stale`. So what `encode` writes of a packet is read
+/// by `decode` as that packet, unless it is stale or memory runs out; and what `decode_short` reads
+/// can be written by `encode_short`.
 pub fn one_reading()
     ensures one { (bytes : List ℕ) → IsAtMostOnePacket bytes }
     ensures content { (bytes : List ℕ) (p : Content) → IsContentOfBytes bytes p }
@@ -176,4 +223,5 @@ pub fn one_reading()
         → IsPacketIfFaultless bytes now greatest_age }
     ensures no_fault { (bytes : List ℕ) (p : Content) (now greatest_age : ℕ)
         → IsFaultlessOrStale bytes p now greatest_age }
+    ensures short { (bytes : List ℕ) (p : Content) → FitsShortIfRead bytes p }
 {}

@@ -1,9 +1,12 @@
-//! The data packet of NSCA version 3 under encryption method 0: `decode` reads 4304 bytes as a
-//! `Packet`, and `encode` writes one. Bytes are at most one packet, whatever stands in the padding
-//! and after a text's NUL, and what `encode` writes is read by `decode` as the same packet. A
-//! `Cutter` cuts a stream into the blocks that are read so.
+//! The data packet of NSCA version 3 under encryption method 0, in both its forms: `decode` reads
+//! 4304 bytes as a `Packet` and `decode_short` the 720 of the older form, and `encode` and
+//! `encode_short` write one. Bytes are at most one packet, whatever stands in the padding and after a
+//! text's NUL, and what is written is read as the same packet. A `Cutter` cuts a stream into the
+//! blocks that are read so.
 #![tactic(auto)]
 
+mod block;
+mod block_ref;
 mod check_word;
 mod check_word_tables;
 mod decoding;
@@ -13,10 +16,12 @@ mod layout;
 mod packet;
 mod stream;
 
+pub use block::Block;
+pub use block_ref::{BlockRef, split_block};
 pub use check_word::crc32;
-pub use decoding::{PacketFault, decode, one_reading};
-pub use encoding::encode;
-pub use laws::round_trip;
-pub use layout::PACKET_SIZE;
+pub use decoding::{PacketFault, decode, decode_block, decode_short, one_reading};
+pub use encoding::{encode, encode_short, fits_short};
+pub use laws::{round_trip, round_trip_short};
+pub use layout::{PACKET_SIZE, SHORT_PACKET_SIZE};
 pub use packet::{ContentFault, Field, Packet, RefusedPacket};
 pub use stream::{Cutter, one_cut};

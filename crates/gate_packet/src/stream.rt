@@ -1,25 +1,27 @@
 ghost use Rattle.std.specs.Prelude.{◌≡◌, [], ◌++◌, ◌≤◌, ℕ, List, drop, length, IfSome, IfNone, OnOk, OnErr};
-ghost use Rattle.gate_packet.specs.Stream.{Begins, IsRest, HasCut, HasOneCut, KeepsBlocks};
+ghost use Rattle.gate_packet.specs.Stream.{Begins, IsRest, HasCut, HasOneCut, KeepsBlocks, IsRestInWords, IsReadAsShort, block_bytes};
+ghost use Rattle.gate_packet.specs.Packet.{Content};
 
-use crate::layout::PACKET_SIZE;
+use crate::block::Block;
+use crate::block_ref::split_block;
 use std::alloc::{AllocError, Global};
 use std::marker::Model;
 
-// The first block of the bytes, if it is whole.
-#[tactic(auto, unfolding(crate::specs::Stream::block_length))]
-fn first_block(bytes: &[u8]) -> Option<[u8; PACKET_SIZE]>
+// A copy of the first block of the bytes, if it is whole.
+fn first_block(bytes: &[u8]) -> Option<Block>
     ensures some { IfSome result (λ block.
-        Begins bytes.now block (drop 4304 bytes.now) × (4304 ≤ length bytes.now)) }
+        Begins bytes.now (block_bytes block) (drop (length (block_bytes block)) bytes.now)
+        × (length (block_bytes block) ≤ length bytes.now)) }
     ensures none { IfNone result (IsRest bytes.now) }
 {
-    match bytes.first_chunk() {
-        Some(block) => Some(*block),
+    match split_block(bytes) {
+        Some((block, _)) => Some(block.to_block()),
         None => None,
     }
 }
 
-/// Cuts a stream into blocks of 4304 bytes, each of which is to be read as a packet. Contracts see
-/// the bytes that it holds: those that were fed and not yet returned in a block.
+/// Cuts a stream into blocks, each of which is to be read as a packet. Contracts see the bytes that
+/// it holds: those that were fed and not yet returned in a block.
 #[derive(Debug, Drop)]
 pub struct Cutter {
     fed: Vec<u8>,
@@ -75,13 +77,16 @@ impl Cutter {
 
     /// Returns the first block of the bytes that are held, which it then holds no longer. None is
     /// returned exactly where they are fewer than a block, and they stay.
-    pub fn next_packet(&mut self) -> Option<[u8; PACKET_SIZE]>
-        ensures some { IfSome result (λ block. Begins self.old block self.new) }
+    ///
+    /// Own rule: where 720 bytes carry version 3 and their own check word, they are a block of the
+    /// older form; otherwise a block has 4304 bytes.
+    pub fn next_packet(&mut self) -> Option<Block>
+        ensures some { IfSome result (λ block. Begins self.old (block_bytes block) self.new) }
         ensures none { IfNone result ((self.new ≡ self.old) × IsRest self.old) }
     {
         match first_block(self.bytes()) {
             Some(block) => {
-                self.returned += PACKET_SIZE;
+                self.returned += block.bytes().len();
                 Some(block)
             }
             None => None,
@@ -104,9 +109,13 @@ impl Cutter {
 
 /// Does nothing. Its contract is a law: a stream is cut into blocks and a rest in exactly one way,
 /// and bytes that come later change none of its blocks. So however a stream is cut into pieces, a
-/// Cutter returns the same blocks.
+/// Cutter returns the same blocks. A rest is fewer than 4304 bytes that don't begin with a block of
+/// 720. Where the first 720 bytes of a packet are a block, they are read as that packet with the
+/// first 511 bytes of its output.
 pub fn one_cut()
     ensures some { (bytes : List ℕ) → HasCut bytes }
     ensures one { (bytes : List ℕ) → HasOneCut bytes }
     ensures later { (bytes later : List ℕ) → KeepsBlocks bytes later }
+    ensures rest { (bytes : List ℕ) → IsRestInWords bytes }
+    ensures read_as_short { (bytes : List ℕ) (p : Content) → IsReadAsShort bytes p }
 {}

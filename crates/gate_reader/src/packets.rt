@@ -1,5 +1,4 @@
-ghost use Rattle.std.specs.Prelude.{◌≡◌, ◌<◌, ◌≤◌, [], length, IfOk, IfErr, OnOk, OnErr, IfSome, IfNone, Some, None, ⊤};
-ghost use Rattle.gate_packet.specs.Stream.{Begins, IsRest};
+ghost use Rattle.std.specs.Prelude.{◌≡◌, ◌<◌, ◌≤◌, [], length, IfOk, IfErr, OnOk, OnErr, IfSome, Some, None, ⊤};
 ghost use Rattle.gate_reader.specs.Source.{source_state};
 ghost use Rattle.gate_reader.specs.Sink.{sink_state, Delivers, FailsOnce};
 ghost use Rattle.gate_reader.specs.Report.{AreOpen};
@@ -15,14 +14,14 @@ use crate::source::Source;
 use crate::submitting::{is_open, submit_body};
 use gate_core::Submit;
 use gate_model::Moment;
-use gate_packet::{PACKET_SIZE, PacketFault, decode};
+use gate_packet::{BlockRef, PacketFault, split_block};
 use std::alloc::Global;
 use std::io;
 
 // Reads a block as a packet and submits its result. An error ends the session.
 fn serve_block<C: Clock, S: Submit>(
     alloc: Global,
-    block: &[u8; PACKET_SIZE],
+    block: &BlockRef<'_>,
     clock: &mut C,
     client: &mut S,
     greatest_age: u32,
@@ -37,7 +36,7 @@ fn serve_block<C: Clock, S: Submit>(
     ensures keeps { S.keeps client.old client.new }
 {
     let now = clock.now();
-    match decode(alloc, block, now, greatest_age) {
+    match block.decode(alloc, now, greatest_age) {
         Ok(packet) => Ok(submit_body(client, packet.into_body())),
         Err(PacketFault::Stale) => Ok(Answer::Stale),
         Err(PacketFault::EmptyHost) => Ok(Answer::EmptyHost),
@@ -53,15 +52,6 @@ fn stop_of(fault: PacketFault) -> Stop
         PacketFault::OutOfMemory => Stop::OutOfMemory,
         fault => Stop::BadPacket(fault),
     }
-}
-
-// Splits the first block off the bytes, if it is whole.
-#[tactic(auto, unfolding(gate_packet::specs::Stream::block_length))]
-fn split_block(bytes: &[u8]) -> Option<(&[u8; PACKET_SIZE], &[u8])>
-    ensures some { IfSome result (λ split. Begins bytes.now split.0.now split.1.now) }
-    ensures none { IfNone result (IsRest bytes.now) }
-{
-    bytes.split_first_chunk()
 }
 
 // Serves the packets at the front of the bytes: how many bytes are left over, or why the session
@@ -96,7 +86,7 @@ fn serve_front<C: Clock, S: Submit>(
         if answers.reserve(1).is_err() {
             return Err(Stop::OutOfMemory);
         }
-        match serve_block(alloc, block, clock, client, greatest_age) {
+        match serve_block(alloc, &block, clock, client, greatest_age) {
             Ok(answer) => {
                 let is_last = !is_open(&answer);
                 answers.push_reserved(answer);
@@ -238,11 +228,15 @@ fn serve<R: Source, W: Sink, C: Clock, S: Submit>(
 /// (`ReadFault`), where the greeting can't be written (`WriteFault`), where `limits.items` packets
 /// were answered and one more is there (`TooMany`), and where memory runs out (`OutOfMemory`).
 ///
+/// A packet has 720 bytes where these carry version 3 and their own check word, and otherwise 4304:
+/// both forms may come on one connection, in any order. So `Truncated` reports fewer than 4304 bytes
+/// which don't begin with a packet of 720.
+///
 /// `greatest_age` is in seconds, and with 0 no packet is stale. The greeting takes the clock's
 /// first reading and each packet the next one. What waits is the reader, the writer or the client.
 ///
-/// Source: `init_packet_struct` and `data_packet` of NSCA 2.9, `common.h`. Own rules: the answers
-/// and the stops.
+/// Source: `init_packet_struct` and `data_packet` of NSCA 2.9 and 2.7, `common.h`. Own rules: the
+/// length of a packet, the answers and the stops.
 pub fn serve_packets<R: Source, W: Sink, C: Clock, S: Submit>(
     alloc: Global,
     reader: &mut R,

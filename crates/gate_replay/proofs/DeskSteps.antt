@@ -6,8 +6,9 @@ use Rattle.gate_model.specs.declared.submission.Body.{Body}
 use Rattle.gate_model.specs.declared.submission.Numbered.{Numbered}
 use mathlib.Core.Logic.{dite}
 use native.Mathlib.Decide.{ℕ_discrete}
-use Rattle.gate_packet.specs.Packet.{Content, reported_body}
+use Rattle.gate_packet.specs.Packet.{reported_body}
 use Rattle.gate_packet.specs.Decoding.{is_stale}
+use Rattle.gate_replay.specs.SentPacket.{SentPacket, received}
 use Rattle.gate_grammar.specs.declared.faults.LineFault.{LineFault}
 use Rattle.gate_grammar.specs.Parsing.{text_before}
 use Rattle.gate_core.specs.declared.event.Event.TheVariants.{Push, Close}
@@ -105,23 +106,23 @@ submits_alone view setup old new client step body r g low high limits adds does 
   counted = queued_submitted client body r g.run low high;
 }
 
-packet_answers : {D : Type 0} (view : DeskView D) (client : ClientView D) (setup : Setup) (old new : D) (p : Content) (a : Answer) (g : Gateway) → AddsSubmissions view client 1 old new → view.limits new ≡ view.limits old
-    → AnswersPacket client setup.age p g.clock old a new → HoldsRun view setup old g.run → Answers view setup new (step.Packet p) a g
-packet_answers {D} view client setup old new p a g adds limits h holds = go (is_stale p.timestamp g.clock.0 setup.age) refl h
+packet_answers : {D : Type 0} (view : DeskView D) (client : ClientView D) (setup : Setup) (old new : D) (s : SentPacket) (a : Answer) (g : Gateway) → AddsSubmissions view client 1 old new → view.limits new ≡ view.limits old
+    → AnswersPacket client setup.age (received s) g.clock old a new → HoldsRun view setup old g.run → Answers view setup new (step.Packet s) a g
+packet_answers {D} view client setup old new s a g adds limits h holds = go (is_stale (received s).timestamp g.clock.0 setup.age) refl h
   where
-    go : (stale : Bool) → is_stale p.timestamp g.clock.0 setup.age ≡ stale → MatchBool stale ((a ≡ answer.Stale) × (new ≡ old)) (SubmitsBody client old (reported_body p) a new) → Answers view setup new (step.Packet p) a g
-    go true late k = subst (λ (x : Answer). Answers view setup new (step.Packet p) x g) (sym k.0)
-        (prints_alone view setup old new (step.Packet p) answer.Stale g k.1 refl
-        (λ heard. ap (λ b. cond b (prints (answer_line answer.Stale) g) (submits 1 (reported_body p) heard.reply g)) late) holds)
-    go false fresh k = subst (λ (x : Answer). Answers view setup new (step.Packet p) x g) (sym k.2)
-        (submits_alone view setup old new 1 (step.Packet p) (reported_body p) k.0 g (omega arith) (omega arith) limits (adds (reported_body p) k.0 g.run k.1.answered)
-        (λ heard. ap (λ b. cond b (prints (answer_line answer.Stale) g) (submits 1 (reported_body p) heard.reply g)) fresh) holds)
+    go : (stale : Bool) → is_stale (received s).timestamp g.clock.0 setup.age ≡ stale → MatchBool stale ((a ≡ answer.Stale) × (new ≡ old)) (SubmitsBody client old (reported_body (received s)) a new) → Answers view setup new (step.Packet s) a g
+    go true late k = subst (λ (x : Answer). Answers view setup new (step.Packet s) x g) (sym k.0)
+        (prints_alone view setup old new (step.Packet s) answer.Stale g k.1 refl
+        (λ heard. ap (λ b. cond b (prints (answer_line answer.Stale) g) (submits 1 (reported_body (received s)) heard.reply g)) late) holds)
+    go false fresh k = subst (λ (x : Answer). Answers view setup new (step.Packet s) x g) (sym k.2)
+        (submits_alone view setup old new 1 (step.Packet s) (reported_body (received s)) k.0 g (omega arith) (omega arith) limits (adds (reported_body (received s)) k.0 g.run k.1.answered)
+        (λ heard. ap (λ b. cond b (prints (answer_line answer.Stale) g) (submits 1 (reported_body (received s)) heard.reply g)) fresh) holds)
 
-pub packet_step : {D : Type 0} (view : DeskView D) (client : ClientView D) (desk old new : D) (age : ℕ) (p : Content) (now : Moment) (a : Answer) → ((run : Run) → view.after desk run → view.after old run) → view.limits old ≡ view.limits desk
-    → AddsSubmissions view client 1 old new → view.limits new ≡ view.limits old → AnswersPacket client age p now old a new → AnswersStep view desk age now new (step.Packet p) a
-packet_step {D} view client desk old new age p now a turned turned_limits adds limits h setup g holds now_is age_is =
-    packet_answers view client setup old new p a g adds limits
-    (subst (λ (n : ℕ). AnswersPacket client n p g.clock old a new) age_is (subst (λ (m : Moment). AnswersPacket client age p m old a new) now_is h))
+pub packet_step : {D : Type 0} (view : DeskView D) (client : ClientView D) (desk old new : D) (age : ℕ) (s : SentPacket) (now : Moment) (a : Answer) → ((run : Run) → view.after desk run → view.after old run) → view.limits old ≡ view.limits desk
+    → AddsSubmissions view client 1 old new → view.limits new ≡ view.limits old → AnswersPacket client age (received s) now old a new → AnswersStep view desk age now new (step.Packet s) a
+packet_step {D} view client desk old new age s now a turned turned_limits adds limits h setup g holds now_is age_is =
+    packet_answers view client setup old new s a g adds limits
+    (subst (λ (n : ℕ). AnswersPacket client n (received s) g.clock old a new) age_is (subst (λ (m : Moment). AnswersPacket client age (received s) m old a new) now_is h))
     (holds_turned view setup desk old g.run turned turned_limits holds)
 
 -- ---- lines

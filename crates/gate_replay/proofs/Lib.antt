@@ -1,6 +1,7 @@
 mod ScriptRows
 pub mod ScriptSteps
 pub mod Drains
+pub mod SentPackets
 pub mod SessionSteps
 pub mod DeskSteps
 pub mod PlaySteps

@@ -11,6 +11,7 @@ use Rattle.gate_model.specs.declared.submission.Body.{Body}
 use Rattle.gate_model.specs.declared.submission.Numbered.{Numbered}
 use Rattle.gate_packet.specs.Packet.{reported_body}
 use Rattle.gate_packet.specs.Decoding.{is_stale}
+use Rattle.gate_replay.specs.SentPacket.{received}
 use Rattle.gate_grammar.specs.declared.faults.LineFault.{LineFault}
 use Rattle.gate_grammar.specs.Parsing.{text_before}
 use Rattle.gate_core.specs.declared.event.Event.{Event}
@@ -61,8 +62,8 @@ kept_carried (Ok body) heard g h = kept_if (is_shutdown body) (shuts_down heard.
 
 kept_served : (setup : Setup) (step : Step) (heard : Heard) (g : Gateway) → Kept g → Kept (serves setup step heard g)
 kept_served setup (step.Clock moment) heard g h = h
-kept_served setup (step.Packet packet) heard g h =
-    kept_if (is_stale packet.timestamp g.clock.0 setup.age) (prints (answer_line answer.Stale) g) (submits 1 (reported_body packet) heard.reply g) h (kept_submitted 1 (reported_body packet) heard.reply g h)
+kept_served setup (step.Packet sent) heard g h =
+    kept_if (is_stale (received sent).timestamp g.clock.0 setup.age) (prints (answer_line answer.Stale) g) (submits 1 (reported_body (received sent)) heard.reply g) h (kept_submitted 1 (reported_body (received sent)) heard.reply g h)
 kept_served setup (step.Line text) heard g h = kept_carried (body_of_line (text_before 10 (text ++ 10 ∷ []))) heard g h
 kept_served setup step.Page heard g h = h
 
@@ -110,8 +111,8 @@ obeyed_carried tell (Ok body) heard g h =
 
 obeyed_served : (tell : Run → Event → Reply) (setup : Setup) (step : Step) (heard : Heard) (g : Gateway) → Obeys tell (serves setup step heard g).run → Obeys tell g.run
 obeyed_served tell setup (step.Clock moment) heard g h = h
-obeyed_served tell setup (step.Packet packet) heard g h =
-    obeyed_if tell (is_stale packet.timestamp g.clock.0 setup.age) (prints (answer_line answer.Stale) g) (submits 1 (reported_body packet) heard.reply g) g.run (λ k. k) (obeyed_submitted tell 1 (reported_body packet) heard.reply g) h
+obeyed_served tell setup (step.Packet sent) heard g h =
+    obeyed_if tell (is_stale (received sent).timestamp g.clock.0 setup.age) (prints (answer_line answer.Stale) g) (submits 1 (reported_body (received sent)) heard.reply g) g.run (λ k. k) (obeyed_submitted tell 1 (reported_body (received sent)) heard.reply g) h
 obeyed_served tell setup (step.Line text) heard g h = obeyed_carried tell (body_of_line (text_before 10 (text ++ 10 ∷ []))) heard g h
 obeyed_served tell setup step.Page heard g h = h
 
@@ -158,9 +159,9 @@ same_carried tell (Ok body) a b g p q =
 
 same_served : (tell : Run → Event → Reply) (setup : Setup) (step : Step) (a b : Heard) (g : Gateway) → Obeys tell (serves setup step a g).run → Obeys tell (serves setup step b g).run → serves setup step a g ≡ serves setup step b g
 same_served tell setup (step.Clock moment) a b g p q = refl
-same_served tell setup (step.Packet packet) a b g p q =
-    same_if tell (is_stale packet.timestamp g.clock.0 setup.age) (prints (answer_line answer.Stale) g) (submits 1 (reported_body packet) a.reply g) (prints (answer_line answer.Stale) g) (submits 1 (reported_body packet) b.reply g)
-    (λ l m. refl) (same_submitted tell 1 (reported_body packet) a.reply b.reply g) p q
+same_served tell setup (step.Packet sent) a b g p q =
+    same_if tell (is_stale (received sent).timestamp g.clock.0 setup.age) (prints (answer_line answer.Stale) g) (submits 1 (reported_body (received sent)) a.reply g) (prints (answer_line answer.Stale) g) (submits 1 (reported_body (received sent)) b.reply g)
+    (λ l m. refl) (same_submitted tell 1 (reported_body (received sent)) a.reply b.reply g) p q
 same_served tell setup (step.Line text) a b g p q = same_carried tell (body_of_line (text_before 10 (text ++ 10 ∷ []))) a b g p q
 same_served tell setup step.Page a b g p q = refl
 

@@ -126,7 +126,7 @@ carries_with (Err cause) heard takes g = refl
 
 serves_with : (setup : Setup) (step : Step) (heard : Heard) (takes : List (Option Numbered)) (g : Gateway) → serves setup step (record heard { takes = takes }) g ≡ serves setup step heard g
 serves_with setup (step.Clock moment) heard takes g = refl
-serves_with setup (step.Packet packet) heard takes g = refl
+serves_with setup (step.Packet sent) heard takes g = refl
 serves_with setup (step.Line text) heard takes g = carries_with (body_of_line (text_before 10 (text ++ 10 ∷ []))) heard takes g
 serves_with setup step.Page heard takes g = refl
 

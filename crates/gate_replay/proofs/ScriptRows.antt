@@ -1,7 +1,8 @@
 -- Lines of a script, and what is parsed from them.
 use Rattle.std.proofs.Common.{◌≡◌, [], Some, None, refl}
-use Rattle.std.specs.Prelude.{codes, negsuc}
+use Rattle.std.specs.Prelude.{codes, pos, negsuc}
 use Rattle.gate_grammar.specs.Numbers.{number_below}
+use Rattle.gate_replay.specs.declared.script_line.PacketForm.TheVariants.{Short, Long}
 use Rattle.gate_replay.specs.ScriptLine.{Object, Open, Clock, Packet, Line, Page, cut, number_field, code_field, parsed_object, parsed_open, parsed_clock, parsed_packet, parsed_form, parsed_with_word, parsed_line}
 
 a_host : parsed_line (codes "object;300;web1") ≡ Some (Object 300 (codes "web1") None)
@@ -24,9 +25,13 @@ a_clock : parsed_line (codes "clock;1040") ≡ Some (Clock 1040)
 unfolding parsed_line parsed_with_word parsed_form parsed_clock cut number_below
 a_clock = refl
 
-an_output_with_semicolons : parsed_line (codes "packet;1000;-2;web1;HTTP;timeout; 10s;") ≡ Some (Packet 1000 (negsuc 1) (codes "web1") (codes "HTTP") (codes "timeout; 10s;"))
+an_output_with_semicolons : parsed_line (codes "packet;1000;-2;web1;HTTP;timeout; 10s;") ≡ Some (Packet Long 1000 (negsuc 1) (codes "web1") (codes "HTTP") (codes "timeout; 10s;"))
 unfolding parsed_line parsed_with_word parsed_form parsed_packet number_field code_field cut number_below
 an_output_with_semicolons = refl
+
+a_short_packet : parsed_line (codes "short;1000;0;web1;;up") ≡ Some (Packet Short 1000 (pos 0) (codes "web1") [] (codes "up"))
+unfolding parsed_line parsed_with_word parsed_form parsed_packet number_field code_field cut number_below
+a_short_packet = refl
 
 no_output : parsed_line (codes "packet;1000;0;web1;HTTP") ≡ None
 unfolding parsed_line parsed_with_word parsed_form parsed_packet number_field code_field cut number_below

@@ -84,12 +84,12 @@ open_more parsed index setup steps (Some (Clock moment)) step inside is opened g
   objects = found_none object_of parsed index (Some (Clock moment)) setup.table inside is opened.objects refl;
   steps = found_some step_of parsed index (Some (Clock moment)) steps step inside is opened.steps gives;
 }
-open_more parsed index setup steps (Some (Packet timestamp code host service output)) step inside is opened good gives = record {
+open_more parsed index setup steps (Some (Packet form timestamp code host service output)) step inside is opened good gives = record {
   within = omega arith;
-  good = below_more _ _ opened.good (good_open parsed index setup steps (Some (Packet timestamp code host service output)) opened is good);
-  opens = found_none open_of parsed index (Some (Packet timestamp code host service output)) (line_of setup ∷ []) inside is opened.opens refl;
-  objects = found_none object_of parsed index (Some (Packet timestamp code host service output)) setup.table inside is opened.objects refl;
-  steps = found_some step_of parsed index (Some (Packet timestamp code host service output)) steps step inside is opened.steps gives;
+  good = below_more _ _ opened.good (good_open parsed index setup steps (Some (Packet form timestamp code host service output)) opened is good);
+  opens = found_none open_of parsed index (Some (Packet form timestamp code host service output)) (line_of setup ∷ []) inside is opened.opens refl;
+  objects = found_none object_of parsed index (Some (Packet form timestamp code host service output)) setup.table inside is opened.objects refl;
+  steps = found_some step_of parsed index (Some (Packet form timestamp code host service output)) steps step inside is opened.steps gives;
 }
 open_more parsed index setup steps (Some (Line text)) step inside is opened good gives = record {
   within = omega arith;

@@ -1,5 +1,5 @@
 -- What the session of one packet or of one line did, from the contract of a session.
-use Rattle.std.proofs.Common.{◌≡◌, ◌≢◌, ℕ, ◌⊎◌, inl, inr, List, [], ◌∷◌, ◌++◌, length, Option, Some, None, Result, Ok, Err, Bool, true, false, cond, refl, sym, ap, ◌∙◌, subst, arith, length-append, append_assoc}
+use Rattle.std.proofs.Common.{◌≡◌, ◌≢◌, ℕ, ◌⊎◌, inl, inr, List, [], ◌∷◌, ◌++◌, Option, Some, None, Result, Ok, Err, Bool, true, false, cond, refl, sym, ap, ◌∙◌, subst, append_assoc}
 use Rattle.std.specs.Prelude.{◌||◌}
 use Rattle.std.specs.Bool.{MatchBool}
 use Rattle.std.specs.Io.KnownBytes.{Consumes, Appends}
@@ -12,7 +12,8 @@ use Rattle.gate_packet.specs.declared.decoding.PacketFault.{PacketFault}
 use Rattle.gate_packet.specs.declared.decoding.PacketFault.TheVariants as packet_fault
 use Rattle.gate_packet.specs.Packet.{Content, reported_body}
 use Rattle.gate_packet.specs.Decoding.{IsPacket, is_stale, fault_of, IsAtMostOnePacket, IsFaultlessOrStale}
-use Rattle.gate_packet.specs.Stream.{Begins, block_length}
+use Rattle.gate_packet.specs.Stream.{Begins}
+use Rattle.gate_packet.proofs.Cuts.{begins_more, one_first}
 use Rattle.gate_grammar.specs.declared.commands.Command.{Command}
 use Rattle.gate_grammar.specs.declared.faults.LineFault.{LineFault}
 use Rattle.gate_grammar.specs.declared.parsing.ParsedLine.{ParsedLine}
@@ -40,7 +41,7 @@ use Rattle.gate_reader.specs.Packets.{packets, AnswersBlock, StopsAtBlock, IsGre
 use Rattle.gate_reader.specs.Lines.{OperatorView, HasNoBreak, BeginsLine, AnswersLine, StopsAtLine, lines, SubmitsCommand, Closes, WritesAnswers, Answered, IsLineSession}
 use Rattle.gate_reader.specs.Lines.{ShutsDown as ShutsDownLine}
 use Rattle.gate_replay.specs.Gateway.{body_of_line, is_shutdown}
-use Rattle.gate_replay.specs.inner.Sessions.{HasEnded, HasOnly, AnswersPacket, SubmitsBody, ShutsDown, CarriesOut, IsPacketAnswer}
+use Rattle.gate_replay.specs.inner.Sessions.{HasEnded, HasOnly, BeginsWith, AnswersPacket, SubmitsBody, ShutsDown, CarriesOut, IsPacketAnswer}
 
 -- ---- one item
 
@@ -59,7 +60,7 @@ stays_at_end : {S : Type 0} (kind : SessionKind S) (limits : SessionLimits) (s :
     → ((rest : List ℕ) → kind.stops stop.Shutdown answers rest answered after → after ≡ answered) → HasEnded s → Stops kind limits s answers rest answered after calls failures left → after ≡ answered
 stays_at_end kind limits stop.End answers rest answered after calls failures left shut ended h = h.1
 stays_at_end kind limits stop.Shutdown answers rest answered after calls failures left shut ended h = shut rest h.0
-stays_at_end kind limits (stop.Truncated count) answers rest answered after calls failures left shut ended h = absurd ended
+stays_at_end kind limits (stop.Truncated count) answers rest answered after calls failures left shut ended h = h.1
 stays_at_end kind limits (stop.BadPacket fault) answers rest answered after calls failures left shut ended h = absurd ended
 stays_at_end kind limits stop.ReadFault answers rest answered after calls failures left shut ended h = absurd ended
 stays_at_end kind limits stop.WriteFault answers rest answered after calls failures left shut ended h = absurd ended
@@ -112,20 +113,10 @@ front_of (Some more) bytes read h = (more, h)
 stays_at_shutdown : {S : Type 0} (most age : ℕ) (answers : List Answer) (rest : List ℕ) (answered after : Parties S) → StopsAtBlock most age stop.Shutdown answers rest answered after → after ≡ answered
 stays_at_shutdown most age answers rest answered after h = h.1
 
-none_after : (xs ys : List ℕ) → length (xs ++ ys) ≡ length xs → ys ≡ []
-none_after xs [] e = refl
-none_after xs (y ∷ ys) e = absurd (omega (arith, e, length-append xs (y ∷ ys)))
-
--- a block at the front of bytes that are one block is all of them
-whole_block : (bytes block more rest : List ℕ) → length bytes ≡ 4304 → length block ≡ 4304 → bytes ≡ (block ++ more) ++ rest → block ≡ bytes
-whole_block bytes block more rest long block_long is =
-    let e : bytes ≡ block ++ (more ++ rest) = is ∙ append_assoc block more rest in
-    let nothing : more ++ rest ≡ [] = none_after block (more ++ rest) (ap length (sym e) ∙ long ∙ sym block_long) in
-    sym (e ∙ ap (λ l. block ++ l) nothing ∙ append-nil block)
-
-block_is_4304 : (bytes : List ℕ) → block_length bytes ≡ 4304
-unfolding block_length
-block_is_4304 bytes = refl
+-- what was read begins with the block that the bytes begin with
+first_read : (bytes input block more item left rest : List ℕ) → Begins bytes block more → Begins input item left → bytes ≡ input ++ rest → item ≡ block
+first_read bytes input block more item left rest begins read is =
+    one_first bytes block item more (left ++ rest) begins (subst (λ l. Begins l item (left ++ rest)) (sym is) (begins_more input item left rest read))
 
 -- the fault of a packet's bytes is that it is stale
 stale_fault : (stale : Bool) (fault : PacketFault) → Some fault ≡ cond stale (Some packet_fault.Stale) None → (stale ≡ true) × (fault ≡ packet_fault.Stale)
@@ -163,19 +154,18 @@ block_answered view age p now bytes None (answer.Bad cause) old new is one law h
 block_answered view age p now bytes None (answer.Down m) old new is one law h = absurd h
 
 one_block : {S : Type 0} (view : ClientView S) (most age : ℕ) (p : Content) (now : Moment) (readings : ℕ → Moment) (bytes input more : List ℕ) (a : Answer) (old new : S) (after : Option (ℕ → Moment))
-    → IsPacket bytes p → IsAtMostOnePacket bytes → ((now age : ℕ) → IsFaultlessOrStale bytes p now age) → readings 0 ≡ now → bytes ≡ input ++ more
+    → BeginsWith bytes p → ((block : List ℕ) → IsAtMostOnePacket block) → ((block : List ℕ) (p : Content) (now age : ℕ) → IsFaultlessOrStale block p now age) → readings 0 ≡ now → bytes ≡ input ++ more
     → HandlesOne (packets view most age) (parties old (Some readings)) (parties new after) input a → AnswersPacket view age p now old a new
 one_block view most age p now readings bytes input more a old new after is one law start whole h =
     let item : Handled = h.item in
-    let begins : Begins input item.bytes h.cut.0 = h.cut.1 in
-    let all : item.bytes ≡ bytes = whole_block bytes item.bytes h.cut.0 more is.whole (begins.long ∙ block_is_4304 input) (whole ∙ ap (λ l. l ++ more) begins.whole) in
+    let all : item.bytes ≡ is.block = first_read bytes input is.block is.more item.bytes h.cut.0 more is.begins h.cut.1 whole in
     let at : Moment = h.handled.0 in
     let took : item.readings ≡ at ∷ [] = h.handled.1 in
     let now_is : at ≡ now = reading_is readings h.readings now at start (subst (λ (l : List Moment). Takes (Some readings) h.readings l) took h.took) in
     let answered : AnswersBlock view age old item.bytes at item.body item.answer new = h.handled.2 in
     subst (λ (x : Answer). AnswersPacket view age p now old x new) h.answer_is
-    (block_answered view age p now bytes item.body item.answer old new is one (law now.0 age)
-    (subst (λ (m : Moment). AnswersBlock view age old bytes m item.body item.answer new) now_is
+    (block_answered view age p now is.block item.body item.answer old new is.is_packet (one is.block) (law is.block p now.0 age)
+    (subst (λ (m : Moment). AnswersBlock view age old is.block m item.body item.answer new) now_is
     (subst (λ (l : List ℕ). AnswersBlock view age old l at item.body item.answer new) all answered)))
 
 -- the clock after the greeting's reading
@@ -184,7 +174,7 @@ greeted_first None now first h = absurd h
 greeted_first (Some readings) now first h = (readings, refl, h.1 0)
 
 pub packet_served : {S : Type 0} (view : ClientView S) (limits : SessionLimits) (age : ℕ) (p : Content) (now : Moment) (bytes : List ℕ) (old new : S) (readings : Option (ℕ → Moment)) (source_old source_new : SourceState) (sink_old sink_new : SinkState) (report : Report) (a : Answer)
-    → IsPacket bytes p → IsAtMostOnePacket bytes → ((now age : ℕ) → IsFaultlessOrStale bytes p now age) → source_old.left ≡ Some bytes
+    → BeginsWith bytes p → ((block : List ℕ) → IsAtMostOnePacket block) → ((block : List ℕ) (p : Content) (now age : ℕ) → IsFaultlessOrStale block p now age) → source_old.left ≡ Some bytes
     → IsPacketSession view limits age (parties old (Some (still now))) (parties new readings) source_old source_new sink_old sink_new report.answers report.stop
     → HasOnly report a → AnswersPacket view age p now old a new
 packet_served {S} view limits age p now bytes old new readings source_old source_new sink_old sink_new report a is one law left h only = go h.outcome
@@ -320,7 +310,7 @@ line_served {S} view limits now bytes old new readings source_old source_new sin
 answers_written : (s : Stop) (answers : List Answer) (before after : SinkState) → HasEnded s → Answered s answers before after → WritesAnswers before after answers
 answers_written stop.End answers before after ended h = h
 answers_written stop.Shutdown answers before after ended h = h
-answers_written (stop.Truncated count) answers before after ended h = absurd ended
+answers_written (stop.Truncated count) answers before after ended h = h
 answers_written (stop.BadPacket fault) answers before after ended h = absurd ended
 answers_written stop.ReadFault answers before after ended h = absurd ended
 answers_written stop.WriteFault answers before after ended h = absurd ended

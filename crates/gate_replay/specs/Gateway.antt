@@ -25,6 +25,7 @@ use Rattle.gate_desk.specs.Ending.{with_ends}
 use Rattle.gate_reader.specs.declared.report.Answer.TheVariants.{Stale, Bad, Down}
 use Rattle.gate_reader.specs.Report.{answer_to, answer_line}
 use Rattle.gate_pages.specs.StatusPage.{status_text_at}
+use Rattle.gate_replay.specs.SentPacket.{received}
 use Rattle.gate_replay.specs.declared.script.Step.{Step}
 use Rattle.gate_replay.specs.declared.script.Step.TheVariants as step
 use Rattle.gate_replay.specs.declared.script.Setup.{Setup}
@@ -72,7 +73,8 @@ abbrev pub shuts_down : Option Moment → Gateway → Gateway
 shuts_down closed g =
     prints (answer_line (Down (unwrap_or closed g.clock))) (asks ((Close g.clock, close_reply closed) ∷ []) g)
 
--- a packet is a session of client 1: one that is stale by the clock is dropped, the result of any other is submitted
+-- a packet that is read in a session of client 1: one that is stale by the clock is dropped, the result of any other is
+-- submitted
 abbrev pub serves_packet : ℕ → Content → Heard → Gateway → Gateway
 serves_packet age packet heard g =
     if is_stale packet.timestamp g.clock.0 age then prints (answer_line Stale) g
@@ -137,14 +139,14 @@ shows_page setup g =
 -- the step is a session, which a drain follows
 abbrev pub is_session : Step → Bool
 is_session (step.Clock moment) = false
-is_session (step.Packet packet) = true
+is_session (step.Packet sent) = true
 is_session (step.Line text) = true
 is_session step.Page = false
 
 -- the step without its drain
 abbrev pub serves : Setup → Step → Heard → Gateway → Gateway
 serves setup (step.Clock moment) heard g = record g { clock = moment }
-serves setup (step.Packet packet) heard g = serves_packet setup.age packet heard g
+serves setup (step.Packet sent) heard g = serves_packet setup.age (received sent) heard g
 serves setup (step.Line text) heard g = serves_line text heard g
 serves setup step.Page heard g = shows_page setup g
 

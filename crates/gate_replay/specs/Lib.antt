@@ -1,5 +1,6 @@
 pub mod Lines
 pub mod ScriptLine
+pub mod SentPacket
 pub mod Script
 pub mod Fault
 pub mod Gateway

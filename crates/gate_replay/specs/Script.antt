@@ -15,6 +15,7 @@ use Rattle.gate_replay.specs.declared.script.Script.{Script}
 use Rattle.gate_replay.specs.declared.script.ScriptFault.{ScriptFault}
 use Rattle.gate_replay.specs.declared.script.ScriptFault.TheVariants as fault
 use Rattle.gate_replay.specs.Lines.{lines_of}
+use Rattle.gate_replay.specs.SentPacket.{sent, FitsForm}
 use Rattle.gate_replay.specs.ScriptLine.{ParsedLine, Object, Open, Clock, Packet, Line, Page, parsed_line}
 
 -- what is parsed from each line of a text
@@ -27,7 +28,7 @@ open_of None = None
 open_of (Some (Object threshold host service)) = None
 open_of (Some (Open moment age capacity limit)) = Some (Open moment age capacity limit)
 open_of (Some (Clock moment)) = None
-open_of (Some (Packet timestamp code host service output)) = None
+open_of (Some (Packet form timestamp code host service output)) = None
 open_of (Some (Line text)) = None
 open_of (Some Page) = None
 
@@ -37,7 +38,7 @@ object_of None = None
 object_of (Some (Object threshold host service)) = Some (record { host = host; service = service; threshold = threshold })
 object_of (Some (Open moment age capacity limit)) = None
 object_of (Some (Clock moment)) = None
-object_of (Some (Packet timestamp code host service output)) = None
+object_of (Some (Packet form timestamp code host service output)) = None
 object_of (Some (Line text)) = None
 object_of (Some Page) = None
 
@@ -47,7 +48,8 @@ step_of None = None
 step_of (Some (Object threshold host service)) = None
 step_of (Some (Open moment age capacity limit)) = None
 step_of (Some (Clock moment)) = Some (step.Clock (record { 0 = moment }))
-step_of (Some (Packet timestamp code host service output)) = Some (step.Packet (content timestamp code host service output))
+step_of (Some (Packet form timestamp code host service output)) =
+    Some (step.Packet (sent form (content timestamp code host service output)))
 step_of (Some (Line text)) = Some (step.Line text)
 step_of (Some Page) = Some step.Page
 
@@ -73,17 +75,20 @@ IsHead objects None = ⊥
 IsHead objects (Some (Object threshold host service)) = Unit {0}
 IsHead objects (Some (Open moment age capacity limit)) = IsFaultless objects
 IsHead objects (Some (Clock moment)) = ⊥
-IsHead objects (Some (Packet timestamp code host service output)) = ⊥
+IsHead objects (Some (Packet form timestamp code host service output)) = ⊥
 IsHead objects (Some (Line text)) = ⊥
 IsHead objects (Some Page) = ⊥
 
--- the line sets the clock, has a packet that can be sent or an operator's line, or asks for a page
+-- the line sets the clock, has a packet that can be sent in its form or an operator's line, or asks for
+-- a page
 abbrev pub IsStep : Option ParsedLine → Type 0
 IsStep None = ⊥
 IsStep (Some (Object threshold host service)) = ⊥
 IsStep (Some (Open moment age capacity limit)) = ⊥
 IsStep (Some (Clock moment)) = Unit {0}
-IsStep (Some (Packet timestamp code host service output)) = IsContent (content timestamp code host service output)
+IsStep (Some (Packet form timestamp code host service output)) =
+    IsContent (content timestamp code host service output)
+    × FitsForm form (content timestamp code host service output)
 IsStep (Some (Line text)) = Unit {0}
 IsStep (Some Page) = Unit {0}
 

@@ -6,17 +6,19 @@ use Rattle.std.specs.Prelude.{ℕ, ℤ, ◌+◌, Bool, ◌&&◌, ◌==◌, nat_l
 use Rattle.std.specs.Option.{option_map, option_copied}
 use Rattle.std.specs.List.{position}
 use Rattle.gate_grammar.specs.Numbers.{number_of, code_of}
+use Rattle.gate_replay.specs.declared.script_line.PacketForm.{PacketForm}
+use Rattle.gate_replay.specs.declared.script_line.PacketForm.TheVariants.{Short, Long}
 use Rattle.gate_replay.specs.declared.script_line.ScriptLine.{ScriptLine}
 use Rattle.gate_replay.specs.declared.script_line.ScriptLine.TheVariants as line
 
 -- what is parsed from a line: an object with its threshold, host and service; the moment, greatest
--- age, capacity and limit with which the script opens; a moment of the clock; a packet with its
+-- age, capacity and limit with which the script opens; a moment of the clock; a packet with its form,
 -- timestamp, code, host, service and output; an operator's line; that a page is asked for
 pub data ParsedLine : Type 0 where
   Object : ℕ → List ℕ → Option (List ℕ) → ParsedLine
   Open : ℕ → ℕ → ℕ → ℕ → ParsedLine
   Clock : ℕ → ParsedLine
-  Packet : ℕ → ℤ → List ℕ → List ℕ → List ℕ → ParsedLine
+  Packet : PacketForm → ℕ → ℤ → List ℕ → List ℕ → List ℕ → ParsedLine
   Line : List ℕ → ParsedLine
   Page : ParsedLine
 
@@ -25,7 +27,8 @@ abbrev pub value_of : ScriptLine → ParsedLine
 value_of (line.Object threshold host service) = Object threshold host.now (option_copied service)
 value_of (line.Open moment age capacity limit) = Open moment.0 age capacity limit
 value_of (line.Clock moment) = Clock moment.0
-value_of (line.Packet timestamp code host service output) = Packet timestamp.0 code host.now service.now output.now
+value_of (line.Packet form timestamp code host service output) =
+    Packet form timestamp.0 code host.now service.now output.now
 value_of (line.Line text) = Line text.now
 value_of line.Page = Page
 
@@ -81,14 +84,15 @@ parsed_open text = do
 unfoldable pub parsed_clock : List ℕ → Option ParsedLine
 parsed_clock text = option_map Clock (number_of text)
 
--- `packet;TIMESTAMP;CODE;HOST;SERVICE;OUTPUT`, from after its word; the output is all the rest
-unfoldable pub parsed_packet : List ℕ → Option ParsedLine
-parsed_packet text = do
+-- `packet;TIMESTAMP;CODE;HOST;SERVICE;OUTPUT`, or with the word `short`, from after its word, which is
+-- the packet's form; the output is all the rest
+unfoldable pub parsed_packet : PacketForm → List ℕ → Option ParsedLine
+parsed_packet form text = do
   timestamp ← number_field text
   code ← code_field timestamp.1
   host ← cut code.1
   service ← cut host.1
-  Some (Packet timestamp.0 code.0 host.0 service.0 service.1)
+  Some (Packet form timestamp.0 code.0 host.0 service.0 service.1)
 
 -- what is parsed from a line of this first word
 unfoldable pub parsed_form : List ℕ → List ℕ → Option ParsedLine
@@ -96,9 +100,10 @@ parsed_form word text =
     if bytes_eq word (codes "object") then parsed_object text
     else (if bytes_eq word (codes "open") then parsed_open text
     else (if bytes_eq word (codes "clock") then parsed_clock text
-    else (if bytes_eq word (codes "packet") then parsed_packet text
+    else (if bytes_eq word (codes "packet") then parsed_packet Long text
+    else (if bytes_eq word (codes "short") then parsed_packet Short text
     else (if bytes_eq word (codes "line") then Some (Line text)
-    else None))))
+    else None)))))
 
 -- what is parsed from a line that has a first word and a semicolon after it
 unfoldable pub parsed_with_word : List ℕ → Option ParsedLine

@@ -14,6 +14,7 @@ mod printing;
 mod replay;
 mod script;
 mod script_line;
+mod sent_packet;
 mod serving;
 mod sessions;
 
@@ -21,4 +22,5 @@ pub use fault::ReplayFault;
 pub use laws::replay_laws;
 pub use replay::{SCRIPT_BYTES, replay_over_world, replay_script, run_replay};
 pub use script::{Script, ScriptFault, Setup, Step, read_script};
-pub use script_line::{ScriptLine, read_script_line};
+pub use script_line::{PacketForm, ScriptLine, read_script_line};
+pub use sent_packet::SentPacket;

@@ -12,12 +12,12 @@ ghost use Rattle.gate_replay.specs.inner.Playing.{desk_view, Setting, setting, S
 use crate::fault::ReplayFault;
 use crate::printing::{print, print_answer};
 use crate::script::{Setup, Step};
+use crate::sent_packet::SentPacket;
 use crate::serving::{serve_line, serve_packet};
 use crate::sessions::only_answer;
 use gate_applier::{Applier, PrepareCause, PrepareFault, Ready};
 use gate_desk::Desk;
 use gate_model::{Moment, Text};
-use gate_packet::Packet;
 use gate_pages::{Board, status_page};
 use gate_reader::{Answer, Sink};
 use std::alloc::{AllocError, Global};
@@ -228,7 +228,7 @@ where
     fn packet<W: Sink>(
         self,
         alloc: Global,
-        packet: &Packet,
+        sent: &SentPacket,
         output: &mut W,
     ) -> Result<Player<D>, Stopped>
         requires { let state = sink_state W.contents W.pending W.failures in
@@ -237,7 +237,7 @@ where
             let state = sink_state W.contents W.pending W.failures in
             IfOk result (λ now. (s : Setting) (g : Gateway)
             → Shows view s self (state output.old) g
-            → Serves view s now (state output.new) (step.Packet packet.now) g) }
+            → Serves view s now (state output.new) (step.Packet sent.now) g) }
         ensures none_failed { OnOk result (Fails (W.failures output.old) (W.failures output.new) 0) }
         ensures stopped { let view = desk_view D.after D.limits in
             let state = sink_state W.contents W.pending W.failures in
@@ -252,7 +252,7 @@ where
             age,
             queued,
         } = self;
-        let (desk, report) = serve_packet(alloc, desk, packet, age, clock);
+        let (desk, report) = serve_packet(alloc, desk, sent, age, clock);
         let Some(answer) = only_answer(&report) else {
             return Err(Stopped::OutOfMemory(applier));
         };
@@ -365,7 +365,7 @@ where
                 player.clock = *moment;
                 Ok(player)
             }
-            Step::Packet(packet) => self.packet(alloc, packet, output),
+            Step::Packet(sent) => self.packet(alloc, sent, output),
             Step::Line(text) => self.line(alloc, text, output),
             Step::Page => self.page(alloc, output),
         }

@@ -8,6 +8,7 @@ ghost use Rattle.gate_replay.specs.inner.Parsing.{parsed_from, IsOpenSoFar, IsLi
 
 use crate::lines::lines_of;
 use crate::script_line::{ScriptLine, read_script_line};
+use crate::sent_packet::SentPacket;
 use gate_model::{BuildFault, Moment, ObjectLine, ObjectTable, TableFault, Text};
 use gate_packet::Packet;
 use std::alloc::{AllocError, AllocFailed, Global};
@@ -18,8 +19,8 @@ use thiserror::Error;
 pub enum Step {
     /// The clock is set.
     Clock(Moment),
-    /// The packet arrives.
-    Packet(Packet),
+    /// The packet arrives in its form.
+    Packet(SentPacket),
     /// The operator's line with this text arrives.
     Line(Text),
     /// The status page is asked for.
@@ -194,6 +195,7 @@ fn read_step(alloc: Global, number: usize, line: &[u8]) -> Result<Step, ScriptFa
         Some(ScriptLine::Clock { moment }) => Ok(Step::Clock(moment)),
         Some(
             ScriptLine::Packet {
+                form,
                 timestamp,
                 code,
                 host,
@@ -202,7 +204,10 @@ fn read_step(alloc: Global, number: usize, line: &[u8]) -> Result<Step, ScriptFa
             },
         ) => {
             let packet = packet(alloc, number, timestamp, code, host, service, output)?;
-            Ok(Step::Packet(packet))
+            match SentPacket::new(form, packet) {
+                Some(sent) => Ok(Step::Packet(sent)),
+                None => Err(ScriptFault::Line(number)),
+            }
         }
         Some(ScriptLine::Line { text }) => Ok(Step::Line(Text::copied(alloc, text)?)),
         Some(ScriptLine::Page) => Ok(Step::Page),
@@ -232,7 +237,7 @@ fn read_steps(
 /// Parses a text as a script, and checks it whole.
 ///
 /// Line is the first faulty line: its form or a number in it is faulty, it stands on the wrong side
-/// of the line that opens, its packet can't be sent, or it opens with a faulty table. OutOfMemory
+/// of the line that opens, its packet can't be sent in its form, or it opens with a faulty table. OutOfMemory
 /// may come instead of any other answer. Own rules.
 pub fn read_script(alloc: Global, text: &[u8]) -> Result<Script, ScriptFault>
     ensures script { IfOk result (IsScript (parsed_lines text.now)) }

@@ -11,6 +11,15 @@ pub const GREATEST_AGE: u32 = 900;
 /// The most items that a script may ask a queue to hold.
 pub const MOST_CAPACITY: u32 = 65_536;
 
+/// The form in which a packet is sent: `data_packet` of NSCA 2.7 or 2.9, `common.h`.
+#[derive(Clone, Copy, Debug, PartialEq, Eq)]
+pub enum PacketForm {
+    /// In 720 bytes, of which an output has 512.
+    Short,
+    /// In 4304 bytes, of which an output has 4096.
+    Long,
+}
+
 /// A parsed line of a script. Its texts are those of the line.
 #[derive(Clone, Copy, Debug, PartialEq, Eq)]
 pub enum ScriptLine<'a> {
@@ -32,8 +41,9 @@ pub enum ScriptLine<'a> {
     Clock {
         moment: Moment,
     },
-    /// A packet arrives.
+    /// A packet arrives in this form.
     Packet {
+        form: PacketForm,
         timestamp: Moment,
         code: i16,
         host: &'a [u8],
@@ -133,14 +143,15 @@ fn read_clock(text: &[u8]) -> Option<ScriptLine<'static>>
 }
 
 #[tactic(auto, unfolding(crate::specs::ScriptLine::parsed_packet))]
-fn read_packet(text: &[u8]) -> Option<ScriptLine<'_>>
-    ensures { option_map value_of result ≡ parsed_packet text.now }
+fn read_packet(form: PacketForm, text: &[u8]) -> Option<ScriptLine<'_>>
+    ensures { option_map value_of result ≡ parsed_packet form text.now }
 {
     let (timestamp, rest) = number_field(text)?;
     let (code, rest) = code_field(rest)?;
     let (host, rest) = cut(rest)?;
     let (service, output) = cut(rest)?;
     Some(ScriptLine::Packet {
+        form,
         timestamp: Moment(timestamp),
         code,
         host,
@@ -160,7 +171,9 @@ fn read_form<'a>(word: &[u8], text: &'a [u8]) -> Option<ScriptLine<'a>>
     } else if word == b"clock".as_slice() {
         read_clock(text)
     } else if word == b"packet".as_slice() {
-        read_packet(text)
+        read_packet(PacketForm::Long, text)
+    } else if word == b"short".as_slice() {
+        read_packet(PacketForm::Short, text)
     } else if word == b"line".as_slice() {
         Some(ScriptLine::Line { text })
     } else {

@@ -8,10 +8,10 @@ ghost use Rattle.gate_replay.specs.declared.script.Step.TheVariants as step;
 ghost use Rattle.gate_replay.specs.inner.Playing.{desk_view};
 ghost use Rattle.gate_replay.specs.inner.Sessions.{HasOnly, IsPacketAnswer, AnswersStep};
 
+use crate::sent_packet::SentPacket;
 use crate::sessions::{line_session, packet_session};
 use gate_desk::Desk;
 use gate_model::{Moment, Text};
-use gate_packet::Packet;
 use gate_reader::Report;
 use std::alloc::{AllocError, Global};
 
@@ -24,18 +24,18 @@ const LINE_CLIENT: u32 = 2;
 pub(crate) fn serve_packet<D: Desk>(
     alloc: Global,
     desk: D,
-    packet: &Packet,
+    sent: &SentPacket,
     greatest_age: u32,
     now: Moment,
 ) -> (D, Report)
     requires { (run : Run) × D.after desk run }
     ensures answered { (answer : Answer) → HasOnly result.1 answer
         → AnswersStep (desk_view D.after D.limits) desk greatest_age now result.0
-        (step.Packet packet.now) answer }
+        (step.Packet sent.now) answer }
     ensures of_packet { (answer : Answer) → HasOnly result.1 answer → IsPacketAnswer answer }
 {
     let mut client = desk.turn_to(PACKET_CLIENT);
-    let report = packet_session(alloc, packet, greatest_age, now, &mut client);
+    let report = packet_session(alloc, sent, greatest_age, now, &mut client);
     (client, report)
 }
 

@@ -7,12 +7,16 @@ ghost use Rattle.gate_reader.specs.Report.{answer_line};
 ghost use Rattle.gate_reader.specs.Session.{client_view};
 ghost use Rattle.gate_reader.specs.Lines.{operator_view};
 ghost use Rattle.gate_replay.specs.Gateway.{body_of_line};
-ghost use Rattle.gate_replay.specs.inner.Sessions.{HasOnly, AnswersPacket, CarriesOut};
+ghost use Rattle.gate_packet.specs.Packet.{Content};
+ghost use Rattle.gate_replay.specs.SentPacket.{received};
+ghost use Rattle.gate_replay.specs.inner.Sessions.{HasOnly, BeginsWith, AnswersPacket, CarriesOut};
 
+use crate::script_line::PacketForm;
+use crate::sent_packet::SentPacket;
 use gate_core::{Operator, Submit};
 use gate_grammar::round_trip;
 use gate_model::Moment;
-use gate_packet::{Packet, encode, one_reading};
+use gate_packet::{encode, encode_short, one_reading};
 use gate_reader::{Answer, FixedClock, Report, SessionLimits, Stop, serve_lines, serve_packets};
 use std::alloc::{AllocError, Global};
 
@@ -22,12 +26,13 @@ const LIMITS: SessionLimits = SessionLimits {
     reads: 1_000_000,
 };
 
-/// The one answer of a session that was not cut short.
+/// The one answer of a session that was not cut short. What is left over after it, in a session of
+/// a packet of 4304 bytes that was read as one of 720, is no item.
 pub(crate) fn only_answer(report: &Report) -> Option<&Answer>
     ensures { IfSome result (λ answer. HasOnly report.now answer.now) }
 {
     match report.stop {
-        Stop::End | Stop::Shutdown => {}
+        Stop::End | Stop::Truncated(_) | Stop::Shutdown => {}
         _ => return None,
     }
     match report.answers.as_slice() {
@@ -36,23 +41,22 @@ pub(crate) fn only_answer(report: &Report) -> Option<&Answer>
     }
 }
 
-/// Serves a packet at this moment, as one session of a client. Nobody reads the greeting.
-pub(crate) fn packet_session<S: Submit>(
+// Serves these bytes at this moment, as one session of a client. Nobody reads the greeting.
+fn stream_session<S: Submit>(
     alloc: Global,
-    packet: &Packet,
+    bytes: &[u8],
     greatest_age: u32,
     now: Moment,
     client: &mut S,
 ) -> Report
     ensures answered { let view = client_view S.stands S.knows S.answers (S.named client.old) in
-        (answer : Answer) → HasOnly result answer
-        → AnswersPacket view greatest_age packet.now now client.old answer client.new }
+        (packet : Content) (answer : Answer) → BeginsWith bytes.now packet → HasOnly result answer
+        → AnswersPacket view greatest_age packet now client.old answer client.new }
     ensures named { S.named client.new ≡ S.named client.old }
     ensures keeps { S.keeps client.old client.new }
 {
     one_reading();
-    let block = encode(packet);
-    let mut reader = block.as_slice();
+    let mut reader = bytes;
     let mut greeting = Vec::new(alloc);
     let mut clock = FixedClock(now);
     serve_packets(
@@ -64,6 +68,33 @@ pub(crate) fn packet_session<S: Submit>(
         LIMITS,
         greatest_age,
     )
+}
+
+/// Serves a packet at this moment, as one session of a client to which it is sent in its form.
+pub(crate) fn packet_session<S: Submit>(
+    alloc: Global,
+    sent: &SentPacket,
+    greatest_age: u32,
+    now: Moment,
+    client: &mut S,
+) -> Report
+    ensures answered { let view = client_view S.stands S.knows S.answers (S.named client.old) in
+        (answer : Answer) → HasOnly result answer → AnswersPacket view greatest_age
+        (received sent.now) now client.old answer client.new }
+    ensures named { S.named client.new ≡ S.named client.old }
+    ensures keeps { S.keeps client.old client.new }
+{
+    let packet = sent.packet();
+    match sent.form() {
+        PacketForm::Short => {
+            let bytes = encode_short(packet);
+            stream_session(alloc, &bytes, greatest_age, now, client)
+        }
+        PacketForm::Long => {
+            let bytes = encode(packet);
+            stream_session(alloc, &bytes, greatest_age, now, client)
+        }
+    }
 }
 
 /// Serves an operator's line at this moment, as one session, which writes its answer's line.

@@ -1,9 +1,9 @@
 //! Prints a line for each packet of a stream on standard input, `timestamp;code;host;service;output`,
-//! or why its 4304 bytes are not read as a packet at the moment 1000.
+//! or why the block is not read as a packet at the moment 1000.
 #![tactic(auto)]
 
 use gate_model::Moment;
-use gate_packet::{PACKET_SIZE, decode};
+use gate_packet::{Block, Cutter, decode_block};
 use std::alloc::Global;
 use std::fmt::Write as _;
 use std::io::{BufWriter, Read, Write};
@@ -13,6 +13,9 @@ const NOW: Moment = Moment(1000);
 
 // In seconds.
 const GREATEST_AGE: u32 = 30;
+
+// How many bytes are read at once.
+const PIECE_SIZE: usize = 4096;
 
 // A text of a packet, with an escape for each byte that is not printable ASCII, and for a backslash.
 #[derive(Drop)]
@@ -31,12 +34,8 @@ impl fmt::Display for Escaped<'_> {
     }
 }
 
-fn show_packet(
-    alloc: Global,
-    bytes: &[u8; PACKET_SIZE],
-    output: &mut impl Write,
-) -> io::Result<()> {
-    match decode(alloc, bytes, NOW, GREATEST_AGE) {
+fn show_packet(alloc: Global, block: &Block, output: &mut impl Write) -> io::Result<()> {
+    match decode_block(alloc, block, NOW, GREATEST_AGE) {
         Ok(packet) => writeln!(
             output,
             "{};{};{};{};{}",
@@ -50,21 +49,31 @@ fn show_packet(
     }
 }
 
+// Shows the packets of which all bytes have been fed.
+fn show_whole(alloc: Global, cutter: &mut Cutter, output: &mut impl Write) -> io::Result<()> {
+    while let Some(block) = cutter.next_packet() {
+        show_packet(alloc, &block, output)?;
+    }
+    Ok(())
+}
+
 fn show_packets(alloc: Global, input: &mut impl Read, output: &mut impl Write) -> io::Result<()> {
-    let mut block = Vec::with_capacity(alloc, PACKET_SIZE)?;
+    let mut cutter = Cutter::new(alloc);
+    let mut piece = Vec::with_capacity(alloc, PIECE_SIZE)?;
     for _ in 0..u64::MAX {
-        block.clear();
+        piece.clear();
         input
             .by_ref()
-            .take(PACKET_SIZE as u64)
-            .read_to_end(&mut block)?;
-        match <&[u8; PACKET_SIZE]>::try_from(block.as_slice()) {
-            Ok(bytes) => show_packet(alloc, bytes, output)?,
-            Err(_) => break,
+            .take(PIECE_SIZE as u64)
+            .read_to_end(&mut piece)?;
+        if piece.is_empty() {
+            break;
         }
+        cutter.feed(&piece)?;
+        show_whole(alloc, &mut cutter, output)?;
     }
-    if !block.is_empty() {
-        writeln!(output, "{} bytes left over", block.len())?;
+    if cutter.rest() > 0 {
+        writeln!(output, "{} bytes left over", cutter.rest())?;
     }
     Ok(())
 }

@@ -1,7 +1,7 @@
 use gate_model::{Body, Moment};
 use gate_packet::{
-    ContentFault, Cutter, Field, PACKET_SIZE, Packet, PacketFault, RefusedPacket, crc32, decode,
-    encode, round_trip,
+    Block, ContentFault, Cutter, Field, PACKET_SIZE, Packet, PacketFault, RefusedPacket, crc32,
+    decode, encode, round_trip, split_block,
 };
 use std::alloc::Global;
 use std::fmt::Display;
@@ -118,12 +118,59 @@ fn bytes_after_a_nul_and_in_the_padding_have_no_meaning(rt: HostRuntime) -> Resu
     Ok(())
 }
 
+// Whether the bytes with this bit flipped have the fault of a version or of a check word.
+fn is_found(alloc: Global, bytes: &[u8; PACKET_SIZE], offset: usize, bit: u8) -> bool {
+    let mut flipped = *bytes;
+    if let Some(byte) = flipped.get_mut(offset) {
+        *byte ^= bit;
+    }
+    let want = if offset < 2 {
+        PacketFault::BadVersion
+    } else {
+        PacketFault::BadCheckWord
+    };
+    fault(alloc, &flipped, 1005, 30) == Some(want)
+}
+
+// How many of the bits in a quarter of the bytes, which begins here, are found when they are flipped
+// by themselves.
+fn found(alloc: Global, bytes: &[u8; PACKET_SIZE], start: usize) -> u64 {
+    let mut found = 0_u64;
+    for offset in start..start.saturating_add(PACKET_SIZE / 4) {
+        for bit in [1, 2, 4, 8, 16, 32, 64, 128] {
+            if is_found(alloc, bytes, offset, bit) {
+                found = found.saturating_add(1);
+            }
+        }
+    }
+    found
+}
+
 #[test]
-fn a_flipped_bit_is_a_bad_check_word(rt: HostRuntime) -> Result<(), Fail> {
-    let mut bytes = bytes_sent(rt.alloc(), 1000)?;
-    bytes[4303] ^= 1;
-    let found = fault(rt.alloc(), &bytes, 1005, 30);
-    assert_eq!(rt; found, Some(PacketFault::BadCheckWord));
+fn each_flipped_bit_of_the_first_quarter_is_found(rt: HostRuntime) -> Result<(), Fail> {
+    let bytes = bytes_sent(rt.alloc(), 1000)?;
+    assert_eq!(rt; found(rt.alloc(), &bytes, 0), 8608);
+    Ok(())
+}
+
+#[test]
+fn each_flipped_bit_of_the_second_quarter_is_found(rt: HostRuntime) -> Result<(), Fail> {
+    let bytes = bytes_sent(rt.alloc(), 1000)?;
+    assert_eq!(rt; found(rt.alloc(), &bytes, 1076), 8608);
+    Ok(())
+}
+
+#[test]
+fn each_flipped_bit_of_the_third_quarter_is_found(rt: HostRuntime) -> Result<(), Fail> {
+    let bytes = bytes_sent(rt.alloc(), 1000)?;
+    assert_eq!(rt; found(rt.alloc(), &bytes, 2152), 8608);
+    Ok(())
+}
+
+#[test]
+fn each_flipped_bit_of_the_last_quarter_is_found(rt: HostRuntime) -> Result<(), Fail> {
+    let bytes = bytes_sent(rt.alloc(), 1000)?;
+    assert_eq!(rt; found(rt.alloc(), &bytes, 3228), 8608);
     Ok(())
 }
 
@@ -275,7 +322,7 @@ fn fed(alloc: Global, pieces: [&[u8]; 3]) -> Option<Cutter> {
 
 fn is_next(cutter: &mut Cutter, want: &[u8; PACKET_SIZE]) -> bool {
     match cutter.next_packet() {
-        Some(block) => block == *want,
+        Some(block) => block == Block::Long(*want),
         None => false,
     }
 }
@@ -288,6 +335,22 @@ fn are_cut(alloc: Global, pieces: [&[u8]; 3], block: &[u8; PACKET_SIZE], rest: u
         }
         None => false,
     }
+}
+
+// Whether the first 720 bytes of the packet are a block.
+fn begins_with_block(packet: &[u8; PACKET_SIZE]) -> bool {
+    match packet.split_at_checked(720) {
+        Some((front, _)) => split_block(front).is_some(),
+        None => false,
+    }
+}
+
+// So the packets of the tests are not read as some of 720 bytes.
+#[test]
+fn the_first_720_bytes_of_a_packet_are_no_block(rt: HostRuntime) -> Result<(), Fail> {
+    let bytes = bytes_sent(rt.alloc(), 1000)?;
+    assert!(rt; !begins_with_block(&bytes));
+    Ok(())
 }
 
 #[test]

@@ -11,6 +11,8 @@ use Rattle.gate_grammar.specs.Parsing.{parsed_line, fields_at, time_at, name_at,
 use Rattle.gate_core.specs.Merge.{numbered}
 use Rattle.gate_core.specs.declared.event.Event.TheVariants.{Close}
 use Rattle.gate_core.specs.declared.event.Reply.TheVariants.{Begun}
+use Rattle.gate_replay.specs.declared.script_line.PacketForm.TheVariants.{Short}
+use Rattle.gate_replay.specs.SentPacket.{sent}
 use Rattle.gate_replay.specs.declared.script.Step.TheVariants as step
 use Rattle.gate_replay.specs.declared.script.Setup.{Setup}
 use Rattle.gate_replay.specs.Gateway.{Heard, gateway_after}
@@ -24,9 +26,10 @@ setup = record { table = []; moment = at; age = 30; capacity = 1; limit = 10 }
 abbrev nothing : Heard
 nothing = record { reply = Ok 0; closed = None; takes = [] }
 
--- a packet of 40 seconds ago is stale, and asks the queue nothing
+-- a packet of 40 seconds ago is stale, and asks the queue nothing. It is sent in 720 bytes, where it is read as it was
+-- sent by definition
 stale_packet :
-    gateway_after setup ((step.Packet (content 1000 (pos 0) (codes "web1") [] (codes "up")), nothing) ∷ (step.Clock (record { 0 = 1040 }), nothing) ∷ [])
+    gateway_after setup ((step.Packet (sent Short (content 1000 (pos 0) (codes "web1") [] (codes "up"))), nothing) ∷ (step.Clock (record { 0 = 1040 }), nothing) ∷ [])
     ≡ record { clock = record { 0 = 1040 }; moment = at; run = []; records = []; printed = codes "Stale\n"; full = false }
 stale_packet = refl
 

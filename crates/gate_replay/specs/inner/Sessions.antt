@@ -5,7 +5,8 @@ use Rattle.gate_model.specs.declared.record.Moment.{Moment}
 use Rattle.gate_model.specs.declared.submission.Body.{Body}
 use Rattle.gate_model.specs.declared.submission.Numbered.{Numbered}
 use Rattle.gate_packet.specs.Packet.{Content, reported_body}
-use Rattle.gate_packet.specs.Decoding.{is_stale}
+use Rattle.gate_packet.specs.Decoding.{IsPacket, is_stale}
+use Rattle.gate_packet.specs.Stream.{Begins}
 use Rattle.gate_grammar.specs.declared.faults.LineFault.{LineFault}
 use Rattle.gate_core.specs.declared.submit.Refused.{Refused}
 use Rattle.gate_core.specs.declared.submit.CloseFault.{CloseFault}
@@ -14,7 +15,7 @@ use Rattle.gate_reader.specs.declared.report.Answer.{Answer}
 use Rattle.gate_reader.specs.declared.report.Answer.TheVariants.{Queued, Stale, Bad, Down}
 use Rattle.gate_reader.specs.declared.report.Report.{Report}
 use Rattle.gate_reader.specs.declared.report.Stop.{Stop}
-use Rattle.gate_reader.specs.declared.report.Stop.TheVariants.{End, Shutdown}
+use Rattle.gate_reader.specs.declared.report.Stop.TheVariants.{End, Truncated, Shutdown}
 use Rattle.gate_reader.specs.Report.{answer_to, answer_line}
 use Rattle.gate_reader.specs.Session.{ClientView, Submits}
 use Rattle.gate_reader.specs.Lines.{OperatorView, Closes, first_close}
@@ -23,9 +24,10 @@ use Rattle.gate_replay.specs.declared.script.Setup.{Setup}
 use Rattle.gate_replay.specs.Gateway.{Gateway, Heard, prints, asks, is_shutdown, number_queued, serves}
 use Rattle.gate_replay.specs.inner.Playing.{DeskView, HoldsRun}
 
--- the session stopped at the end of its input, or after the answer that reports a close
+-- the session stopped at the end of its input, after a rest or none, or after the answer that reports a close
 abbrev pub HasEnded : Stop → Type 0
 HasEnded End = ⊤
+HasEnded (Truncated count) = ⊤
 HasEnded Shutdown = ⊤
 HasEnded _ = ⊥
 
@@ -44,6 +46,13 @@ IsPacketAnswer _ = ⊤
 abbrev pub SubmitsBody : {S : Type 0} → ClientView S → S → Body → Answer → S → Type 0
 SubmitsBody view old body answer new =
     (reply : Result ℕ Refused) × Submits view old body reply new × (answer ≡ answer_to reply)
+
+-- the first block of the bytes is this packet
+pub record BeginsWith (bytes : List ℕ) (packet : Content) : Type 0 where
+  pub block : List ℕ
+  pub more : List ℕ
+  pub begins : Begins bytes block more
+  pub is_packet : IsPacket block packet
 
 -- the packet was dropped as stale, or its result submitted
 abbrev pub AnswersPacket : {S : Type 0} → ClientView S → ℕ → Content → Moment → S → Answer → S → Type 0

@@ -8,7 +8,7 @@ use Rattle.gate_replay.proofs.player.Player.packet.Goals as goal
 pub returns-clause-served : goal.returns-clause-served
 returns-clause-served g c =
     let state = sink_state g.W.Write.contents g.W.Sink.pending g.W.Sink.failures in
-    serves_session (desk_view g.D.Desk.after g.D.Desk.limits) c.args.self _ (state c.args.output.now) (state c.print_answer.new.output) (step.Packet c.args.packet.now) c.in-Some.answer.now
+    serves_session (desk_view g.D.Desk.after g.D.Desk.limits) c.args.self _ (state c.args.output.now) (state c.print_answer.new.output) (step.Packet c.args.sent.now) c.in-Some.answer.now
     (c.serve_packet-desk.ensures.answered c.in-Some.answer.now c.in-Some.ensures)
     c.in_default-print_answer.ensures.ok refl refl refl c.queued_after-queued.ensures
 

@@ -1,0 +1,25 @@
+ghost use Rattle.std.specs.Prelude.{◌≡◌};
+ghost use Rattle.gate_packet.specs.Stream.{block_bytes};
+
+use crate::layout::{PACKET_SIZE, SHORT_PACKET_SIZE};
+
+/// A block of a stream, which is to be read as one packet by `decode_block`.
+#[derive(Clone, Copy, Debug, PartialEq, Eq)]
+pub enum Block {
+    /// A block of the older form.
+    Short([u8; SHORT_PACKET_SIZE]),
+    /// A block of the newer form.
+    Long([u8; PACKET_SIZE]),
+}
+
+impl Block {
+    /// The block's bytes.
+    pub fn bytes(&self) -> &[u8]
+        ensures { result.now ≡ block_bytes self.now }
+    {
+        match self {
+            Block::Short(bytes) => bytes,
+            Block::Long(bytes) => bytes,
+        }
+    }
+}
