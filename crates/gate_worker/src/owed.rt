@@ -3,12 +3,9 @@ ghost use Rattle.std.specs.List.{list_any};
 ghost use Rattle.std.specs.Duration.{as_nanos};
 ghost use Rattle.gate_worker.specs.declared.owed.Due.TheVariants.{Bytes};
 
-use crate::times::{FIRST_PACKET_MILLIS, LINE_MILLIS, NEXT_BYTES_MILLIS};
-use gate_packet::PACKET_SIZE;
+use crate::times::{FIRST_BYTES_MILLIS, LINE_MILLIS, NEXT_BYTES_MILLIS};
+use gate_packet::SHORT_PACKET_SIZE;
 use std::time::Duration;
-
-// The least packet that there is, in bytes.
-const LEAST_PACKET: usize = 720;
 
 // What a peer has to bring next.
 #[derive(Clone, Copy, Debug, PartialEq, Eq)]
@@ -26,14 +23,14 @@ pub(crate) struct Owed {
     pub(crate) left: Duration,
 }
 
-// What a sender owes once it is greeted: a packet of 4304 bytes within 8 seconds.
+// What a sender owes once it is greeted: 720 bytes, the least packet that there is, within 8 seconds.
 pub(crate) fn owed_by_sender() -> Owed
-    ensures due { result.due ≡ Bytes 4304 }
+    ensures due { result.due ≡ Bytes 720 }
     ensures left { as_nanos result.left ≡ 8_000_000_000 }
 {
     Owed {
-        due: Due::Bytes(PACKET_SIZE),
-        left: Duration::from_millis(FIRST_PACKET_MILLIS),
+        due: Due::Bytes(SHORT_PACKET_SIZE),
+        left: Duration::from_millis(FIRST_BYTES_MILLIS),
     }
 }
 
@@ -63,7 +60,7 @@ impl Owed {
             }
         } else {
             Owed {
-                due: Due::Bytes(LEAST_PACKET),
+                due: Due::Bytes(SHORT_PACKET_SIZE),
                 left: Duration::from_millis(NEXT_BYTES_MILLIS),
             }
         }

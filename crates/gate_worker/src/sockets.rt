@@ -75,9 +75,9 @@ impl<'a, R> Accepted<'a, R> {
         }
     }
 
-    /// Connections of senders. The greeting is to be taken within 10 seconds; within 8 more the first
-    /// packet has to come, and from then on at least 720 bytes in each 10 seconds. The listener is
-    /// one whose `accept` waits for a turn.
+    /// Connections of senders. The greeting is to be taken within 10 seconds; within 8 more 720 bytes
+    /// have to come, which is the least packet that there is, and from then on as many in each 10
+    /// seconds. The listener is one whose `accept` waits for a turn.
     pub fn of_agents(rt: &'a R, listener: TcpListener, ending: &'a Ending) -> Accepted<'a, R> {
         Accepted::new(rt, listener, Peers::Agents, &ending.agents)
     }

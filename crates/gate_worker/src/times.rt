@@ -11,16 +11,17 @@ pub const TURN_MILLIS: u64 = 100;
 /// In what time a sender takes its greeting.
 pub const GREETING_MILLIS: u64 = 10_000;
 
-/// In what time a sender brings its first packet, from its greeting on.
-pub const FIRST_PACKET_MILLIS: u64 = 8_000;
+/// In what time a sender brings its first 720 bytes, from its greeting on: the least packet that there
+/// is.
+pub const FIRST_BYTES_MILLIS: u64 = 8_000;
 
 /// How long a `send_nsca` waits for its greeting.
 const SENDER_MILLIS: u64 = 10_000;
 
 // The sender that comes after a silent one is greeted before it gives up.
-const _: () = prove!(FIRST_PACKET_MILLIS + TURN_MILLIS < SENDER_MILLIS);
+const _: () = prove!(FIRST_BYTES_MILLIS + TURN_MILLIS < SENDER_MILLIS);
 
-/// In what time a sender brings each 720 bytes more, which is the least packet that there is.
+/// In what time a sender brings each 720 bytes more.
 pub const NEXT_BYTES_MILLIS: u64 = 10_000;
 
 /// In what time an operator ends a line, from the end of the one before on.
