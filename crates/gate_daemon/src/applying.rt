@@ -8,7 +8,7 @@ use gate_applier::{Applier, PrepareCause, PrepareFault, Ready};
 use gate_model::{Moment, Numbered};
 use gate_pages::{Board, publish};
 use gate_queue::{Gate, Taker};
-use gate_worker::times::BOARD_PAUSES;
+use gate_worker::times::{BOARD_PAUSES, QUIET_PAUSES};
 use gate_worker::{Hold, Point, Watch, pause};
 use std::alloc::Global;
 use std::sync::{Mutex, Wait};
@@ -125,7 +125,7 @@ fn try_show<R: Wait>(rt: &R, alloc: Global, applier: &Applier, board: &Mutex<Boa
     }
 }
 
-// The same, where that is the first board of a second.
+// The same, where that is the first board of a second. The next one waits until no item comes.
 fn show_busy<R: Wait>(
     rt: &R,
     alloc: Global,
@@ -137,7 +137,7 @@ fn show_busy<R: Wait>(
     Shown {
         is_complete: moment.0 > shown.moment.0 && try_show(rt, alloc, applier, board),
         moment,
-        turns_left: shown.turns_left,
+        turns_left: shown.turns_left.max(QUIET_PAUSES),
     }
 }
 
@@ -183,9 +183,9 @@ fn show_last<R: Wait + Clock>(rt: &R, alloc: Global, applier: &Applier, board: &
 }
 
 /// Takes and applies the items of the queue, one by one, each at the clock's moment or the
-/// applier's, whichever is later. While the queue is empty it goes on to the clock's moment, and
-/// publishes a board where something was applied or a second has passed, at most every 50 ms. While
-/// it is never empty a board is published each second.
+/// applier's, whichever is later. While no item comes it goes on to the clock's moment, and publishes
+/// a board where something was applied or a second has passed, at most every 50 ms. While items come
+/// one after another a board is published each second.
 ///
 /// It stops where the queue is empty and the gate is closing, and where the log is full, once a
 /// board shows all of it: the queue fills up then, and nobody waits for room in it. Where memory is

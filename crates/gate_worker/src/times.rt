@@ -65,3 +65,7 @@ const _: () = prove!(ROOM_PAUSE_MICROS * 10 == PAUSE_MILLIS * 1_000);
 
 /// How many rests of the applier lie between two boards.
 pub const BOARD_PAUSES: u32 = 25;
+
+/// How many rests without an item come before a board. While items come one after another, a board is
+/// made each second.
+pub const QUIET_PAUSES: u32 = 3;
