@@ -98,9 +98,9 @@ def read_exactly(connection, count):
     return found
 
 
-def packet(timestamp, host, service, code, output):
-    """A data packet of 4304 bytes, as the sender's own structure has it."""
-    fields = struct.pack(">hxxIIh64s128s4096sxx", 3, 0, timestamp, code, host, service, output)
+def packet(timestamp, host, service, code, output, room=4096):
+    """A data packet with so much room for its output, of 4304 bytes or of 720, as the sender's own structure has it."""
+    fields = struct.pack(f">hxxIIh64s128s{room}sxx", 3, 0, timestamp, code, host, service, output)
     return fields[:4] + struct.pack(">I", zlib.crc32(fields)) + fields[8:]
 
 

@@ -127,6 +127,70 @@ def play_an_old_packet(program, folder):
           "[T] 2:1 ADD_HOST_COMMENT;web1;0;ann;hi -> Accepted\n")
 
 
+def start_client(daemon, folder, lines, *words):
+    """The real client under way, with these words, which sends these results on one connection."""
+    client = shutil.which("send_nsca") or shutil.which("send_nsca", path="/usr/sbin")
+    configuration = os.path.join(folder, "send_nsca.cfg")
+    with open(configuration, "w", encoding="ascii") as file:
+        file.write("encryption_method=0\n")
+    started = subprocess.Popen([client, "-H", "127.0.0.1", "-p", str(daemon.ports["agents"]), "-c", configuration, *words],
+                               stdin=subprocess.PIPE, stdout=subprocess.PIPE, stderr=subprocess.PIPE, text=True)
+    started.stdin.write("\x17".join(lines) + "\n")
+    started.stdin.close()
+    return started
+
+
+def play_real_clients_of_both_lengths(program, folder):
+    """Real clients of both lengths are served at once, with no setting for either."""
+    if not (shutil.which("send_nsca") or shutil.which("send_nsca", path="/usr/sbin")):
+        print("real clients of both lengths ... skipped: send_nsca is not installed")
+        return
+    daemon = Daemon(program, folder, CONFIGURATION)
+    outputs = {}
+    clients = []
+    for number in range(6):
+        words = ["--legacy-2-7-mode"] if number % 2 else []
+        outputs[number] = [f"result {one} of client {number}, {'x' * 480}" for one in range(10)]
+        clients.append(start_client(daemon, folder, [f"web1\tHTTP\t1\t{output}" for output in outputs[number]], *words))
+    for client in clients:
+        client.wait(PATIENCE)
+        check("the status of a client of either length", client.returncode, 0)
+        client.stdout.close()
+        client.stderr.close()
+    # Connections are served in turn, so all of them have been once this one is.
+    send(daemon, [(b"web1", b"", 0, b"the last one")])
+    daemon.page_with("the last one")
+    ask(daemon, "[1] SHUTDOWN_PROGRAM")
+    status, output, _ = daemon.end()
+    check("the status after clients of both lengths", status, 0)
+    logged = re.findall(r"HTTP;1;(result \d+ of client (\d), x*) -> Accepted", output)
+    check("as many results are logged as were sent", (output.split("\n", 1)[0], len(logged)), ("log 61", 60))
+    for number, expected in outputs.items():
+        check("the results of each client, in its order", [text for text, client in logged if int(client) == number], expected)
+
+
+def play_both_lengths_in_turns(program, folder):
+    """Packets of both lengths on one connection; the last one's first 720 bytes carry their own check word too."""
+    forged = b"a" * 514 + b'00002K"&_'
+    daemon = Daemon(program, folder, CONFIGURATION)
+    with daemon.connect("agents") as connection:
+        read_exactly(connection, 132)
+        connection.sendall(packet(1000, b"web1", b"", 0, b"short", 512) + packet(1000, b"web1", b"HTTP", 0, b"long")
+                           + packet(1000, b"web1", b"", 1, b"short again", 512) + packet(1000, b"web1", b"HTTP", 2, forged))
+        connection.shutdown(socket.SHUT_WR)
+        read_all(connection)
+    check("the last of both lengths is applied", "CRITICAL" in daemon.page_with("CRITICAL"), True)
+    ask(daemon, "[1] SHUTDOWN_PROGRAM")
+    status, output, _ = daemon.end()
+    check("the status after both lengths in turns", status, 0)
+    check("both lengths are logged in their order", without_moments(output),
+          "log 4\n"
+          "[T] 1:1 PROCESS_HOST_CHECK_RESULT;web1;0;short -> Accepted\n"
+          "[T] 1:2 PROCESS_SERVICE_CHECK_RESULT;web1;HTTP;0;long -> Accepted\n"
+          "[T] 1:3 PROCESS_HOST_CHECK_RESULT;web1;1;short again -> Accepted\n"
+          f"[T] 1:4 PROCESS_SERVICE_CHECK_RESULT;web1;HTTP;2;{'a' * 511} -> Accepted\n")
+
+
 def play_few_sessions(program, folder):
     """Operators are served when the worker of packets has served all of its connections."""
     daemon = Daemon(program, folder, "sessions = 1\n" + CONFIGURATION)
@@ -170,6 +234,8 @@ def main():
         play_a_burst(program, folder)
         play_a_full_log(program, folder)
         play_an_old_packet(program, folder)
+        play_real_clients_of_both_lengths(program, folder)
+        play_both_lengths_in_turns(program, folder)
         play_few_sessions(program, folder)
         play_on_version_6(program, folder)
         refuse(program, folder, "colour = 1\n", 2, "config: UnknownKey colour")
