@@ -1,7 +1,7 @@
 ghost use Rattle.std.specs.Prelude.{◌≡◌, length, IfSome};
 
 use gate_model::{Kind, Moment, ObjectId, ObjectLine, ObjectTable, State, Text};
-use gate_objects::{Change, NoProblem, NotAcknowledged, ObjectBook};
+use gate_objects::{Change, NoProblem, NotAcknowledged, ObjectBook, PassiveDisabled};
 use std::alloc::Global;
 
 const WEB1: ObjectId = ObjectId {
@@ -55,7 +55,7 @@ fn acknowledged(alloc: Global, sticky: bool) -> Option<ObjectBook>
     ensures { IfSome result (λ book. length book.rows ≡ 2) }
 {
     let mut book = opened(alloc)?;
-    book.result(HTTP, 1, 0, Moment(1100));
+    let _ = book.result(HTTP, 1, 0, Moment(1100));
     book.acknowledge(HTTP, sticky, 1).ok()?;
     Some(book)
 }
@@ -63,23 +63,23 @@ fn acknowledged(alloc: Global, sticky: bool) -> Option<ObjectBook>
 fn after_critical(alloc: Global, sticky: bool) -> Option<(Change, bool)> {
     let mut book = acknowledged(alloc, sticky)?;
     let change = book.result(HTTP, 2, 2, Moment(1120));
-    let answer = Some((change, book.ack(HTTP).is_some()));
+    let acknowledged = book.ack(HTTP).is_some();
     drop(book);
-    answer
+    Some((change.ok()?, acknowledged))
 }
 
 fn after_critical_and_ok(alloc: Global, sticky: bool) -> Option<(Change, bool)> {
     let mut book = acknowledged(alloc, sticky)?;
-    book.result(HTTP, 2, 2, Moment(1120));
+    let _ = book.result(HTTP, 2, 2, Moment(1120));
     let change = book.result(HTTP, 0, 3, Moment(1130));
-    let answer = Some((change, book.ack(HTTP).is_some()));
+    let acknowledged = book.ack(HTTP).is_some();
     drop(book);
-    answer
+    Some((change.ok()?, acknowledged))
 }
 
 fn acknowledged_while_ok(alloc: Global) -> Option<Result<(), NoProblem>> {
     let mut book = opened(alloc)?;
-    book.result(HTTP, 0, 0, Moment(1100));
+    let _ = book.result(HTTP, 0, 0, Moment(1100));
     let answer = Some(book.acknowledge(HTTP, true, 1));
     drop(book);
     answer
@@ -105,7 +105,7 @@ fn with_a_result_at_1400(alloc: Global) -> Option<ObjectBook>
     ensures { IfSome result (λ book. length book.rows ≡ 2) }
 {
     let mut book = opened(alloc)?;
-    book.result(HTTP, 0, 0, Moment(1400));
+    let _ = book.result(HTTP, 0, 0, Moment(1400));
     Some(book)
 }
 
@@ -133,11 +133,32 @@ fn are_stale(alloc: Global, moment: u32, want: &[ObjectId]) -> bool {
 fn state_by(alloc: Global, host: bool, code: i16) -> Option<State> {
     let mut book = opened(alloc)?;
     let object = if host { WEB1 } else { HTTP };
-    book.result(object, code, 0, Moment(1100));
+    let _ = book.result(object, code, 0, Moment(1100));
     let state = Some(book.state(object));
     drop(book);
     state
 }
+
+// A CRITICAL result of HTTP after two settings of its passive checks, its state then, and whether
+// they are enabled.
+fn critical_after(
+    alloc: Global,
+    first: bool,
+    second: bool,
+) -> Option<(Result<Change, PassiveDisabled>, State, bool)> {
+    let mut book = opened(alloc)?;
+    book.set_passive(HTTP, first);
+    book.set_passive(HTTP, second);
+    let answer = book.result(HTTP, 2, 0, Moment(1100));
+    let left = Some((answer, book.state(HTTP), book.passive(HTTP)));
+    drop(book);
+    left
+}
+
+const BEGUN: Change = Change {
+    transition: true,
+    cleared: false,
+};
 
 const NEITHER: Change = Change {
     transition: false,
@@ -204,4 +225,17 @@ fn stale_objects_are_listed_in_table_order(rt: HostRuntime) {
 fn a_code_of_no_state_is_unknown_for_a_service_and_down_for_a_host(rt: HostRuntime) {
     assert_eq!(rt; state_by(rt.alloc(), false, -1), Some(State::Unknown));
     assert_eq!(rt; state_by(rt.alloc(), true, 3), Some(State::Down));
+}
+
+#[test]
+fn a_result_is_refused_while_passive_checks_are_disabled(rt: HostRuntime) {
+    #[rattlefmt::skip]
+    let cases = [
+        ("enabled twice", critical_after(rt.alloc(), true, true),  (Ok(BEGUN), State::Critical, true)),
+        ("disabled",      critical_after(rt.alloc(), true, false), (Err(PassiveDisabled), State::Pending, false)),
+        ("enabled again", critical_after(rt.alloc(), false, true), (Ok(BEGUN), State::Critical, true)),
+    ];
+    for (name, left, want) in cases {
+        assert_eq!(rt; left, Some(want), "{name}");
+    }
 }

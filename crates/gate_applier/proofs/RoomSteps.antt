@@ -3,7 +3,7 @@ use Rattle.std.proofs.Common.{◌≡◌, ℕ, ◌+◌, ◌-◌, ◌≤◌, List,
 use Rattle.gate_model.specs.declared.record.Moment.{Moment}
 use Rattle.gate_model.specs.declared.record.Record.{Record}
 use Rattle.gate_model.specs.Record.{later, AreInOrder}
-use Rattle.std.specs.Prelude.{min, max}
+use Rattle.std.specs.Prelude.{min, max, Result, Ok, Err, OnErr}
 use Rattle.gate_applier.specs.inner.Applier.{IsModest}
 
 -- memory is taken for as many again, or 16, and for none past the limit
@@ -31,3 +31,8 @@ in_order-later opening records moment now order = record {
   never_decreasing = order.never_decreasing;
   come = λ index applied within. omega (arith, order.come index applied within);
 }
+
+-- what holds at all holds on a fault
+pub on-err : {T E P : Type 0} (result : Result T E) → P → OnErr result P
+on-err (Ok value) holds = record {}
+on-err (Err fault) holds = holds

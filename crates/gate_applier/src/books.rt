@@ -1,13 +1,15 @@
-ghost use Rattle.std.specs.Prelude.{◌≡◌, ◌<◌, ◌≤◌, ℕ, Bool, false, None, [], length, IsOk, IfOk, OnOk, OnErr};
+ghost use Rattle.std.specs.Prelude.{◌≡◌, ◌<◌, ◌≤◌, ◌+◌, max, ℕ, Bool, false, None, [], length, is_ok, IsOk, IfOk, OnOk, OnErr};
 ghost use Rattle.gate_model.specs.declared.record.Moment.{Moment};
 ghost use Rattle.gate_model.specs.Record.{later};
+ghost use Rattle.gate_model.specs.Table.{most_services};
+ghost use Rattle.gate_model.specs.Status.{is_passive};
 ghost use Rattle.gate_downtime.specs.Book.{next_id, next_gone_now};
-ghost use Rattle.gate_applier.specs.inner.Books.{Events, events_of, BooksFollow, BooksStand, ReturnsGone, Follows, TakesOne, SameTable, KeepsRoom, HasRoom, room_of_books, SharesRoom, IsOfTable, result_added, comment_added, transition_added, clearing_added, IsStandingSource};
+ghost use Rattle.gate_applier.specs.inner.Books.{Events, events_of, BooksFollow, BooksStand, ReturnsGone, Follows, TakesOne, SameTable, KeepsRoom, room_of_books, SharesRoom, IsOfTable, result_added, comment_added, transition_added, clearing_added, IsStandingSource};
 
 use gate_comments::CommentBook;
 use gate_downtime::DowntimeBook;
 use gate_model::{Moment, ObjectId, ObjectTable, Source};
-use gate_objects::ObjectBook;
+use gate_objects::{ObjectBook, PassiveDisabled};
 use std::alloc::{AllocError, Global};
 
 /// What the judged records leave, kept so that no question and no further record needs a scan of
@@ -17,6 +19,9 @@ pub struct Books {
     pub objects: ObjectBook,
     pub downtime: DowntimeBook,
     pub comments: CommentBook,
+    /// The most comments and the most entries that one record makes: 1, or one for each service of the
+    /// host with the most of them.
+    pub per_record: usize,
 }
 
 impl Books {
@@ -29,21 +34,25 @@ impl Books {
             objects: ObjectBook::open(alloc, table, opening)?,
             downtime: DowntimeBook::open(alloc, table.len(), 1, opening)?,
             comments: CommentBook::open(alloc, 1),
+            per_record: most_per_record(table),
         })
     }
 
-    /// Makes room for one more comment and one more downtime entry.
+    /// Makes room for all comments and downtime entries that one more record makes. It takes no
+    /// memory where there is room.
     pub fn make_room(&mut self) -> Result<(), AllocError>
+        requires one { 1 ≤ self.old.per_record }
+        requires few { self.old.per_record ≤ 1024 }
         ensures same { SharesRoom self.old self.new }
-        ensures room { OnOk result (HasRoom self.new) }
+        ensures room { OnOk result (1 ≤ room_of_books self.new) }
         ensures kept { OnErr result (room_of_books self.new ≡ room_of_books self.old) }
-        ensures has_room { HasRoom self.old → IsOk result × (self.new ≡ self.old) }
+        ensures has_room { 1 ≤ room_of_books self.old → IsOk result × (self.new ≡ self.old) }
     {
-        if self.comments.room() == 0 {
-            self.comments.reserve(1)?;
+        if self.comments.room() < self.per_record {
+            self.comments.reserve(self.per_record)?;
         }
-        if self.downtime.room() == 0 {
-            self.downtime.reserve(1)?;
+        if self.downtime.room() < self.per_record {
+            self.downtime.reserve(self.per_record as u32)?;
         }
         Ok(())
     }
@@ -73,16 +82,32 @@ impl Books {
         }
     }
 
-    /// Takes an accepted result: what it makes of its object, what it begins and what it clears.
-    pub fn take_result(&mut self, object: ObjectId, code: i16, log_index: u32, moment: Moment)
+    /// Takes a result, unless passive checks of its object are disabled: what it makes of the
+    /// object, what it begins and what it clears.
+    pub fn take_result(
+        &mut self,
+        object: ObjectId,
+        code: i16,
+        log_index: u32,
+        moment: Moment,
+    ) -> Result<(), PassiveDisabled>
         requires row { object.place < length self.old.objects.rows }
         requires place { object.place < self.old.downtime.objects }
-        ensures follow { Follows moment (result_added object code log_index moment) self.old self.new }
+        ensures follow { OnOk result (
+            Follows moment (result_added object code log_index moment) self.old self.new) }
+        ensures accepted { (events : Events) → BooksFollow events moment self.old
+            → is_ok result ≡ is_passive object.place events.objects }
+        ensures err { OnErr result (self.new ≡ self.old) }
         ensures takes { TakesOne self.old self.new }
     {
-        let change = self.objects.result(object, code, log_index, moment);
-        self.take_transition(object, change.transition);
-        self.take_clearing(object, change.cleared);
+        match self.objects.result(object, code, log_index, moment) {
+            Err(refusal) => Err(refusal),
+            Ok(change) => {
+                self.take_transition(object, change.transition);
+                self.take_clearing(object, change.cleared);
+                Ok(())
+            }
+        }
     }
 
     /// Begins the downtime entries that a transition of the object begins, if there is one.
@@ -125,6 +150,7 @@ impl Books {
         ensures follow { (moment : Moment) → IsStandingSource self.old.downtime source
             → Follows moment (comment_added object source persistent log_index) self.old self.new }
         ensures takes { TakesOne self.old self.new }
+        ensures next_id { self.new.comments.next_id ≡ self.old.comments.next_id + 1 }
         ensures downtime { self.new.downtime ≡ self.old.downtime }
     {
         match self.comments.add(object, source, persistent, log_index) {
@@ -145,4 +171,13 @@ fn drain_gone(downtime: &mut DowntimeBook) -> bool
         any = true;
     }
     any
+}
+
+/// The most comments, and the most entries, that a record makes over this table.
+fn most_per_record(table: &ObjectTable) -> usize
+    ensures most { result ≡ max 1 (most_services table.now) }
+    ensures few { result ≤ 1024 }
+{
+    let most = table.most_services();
+    if most > 1 { most } else { 1 }
 }

@@ -59,7 +59,7 @@ line_there lines i line lt there = slice_get-get_or lines i line lt ∙ ap (λ (
 fault_at-there : (lines : List ObjectLine) (i : ℕ) (line : ObjectLine) → i < length lines → line ≡ get_or lines i line → fault_at lines i ≡ line_fault (take i lines) (i + 1) line
 fault_at-there lines i line lt there = ap (line_fault_at lines i) (line_there lines i line lt there)
 
-length-before : (lines : List ObjectLine) (i : ℕ) → i < length lines → length (take i lines) ≡ i
+pub length-before : (lines : List ObjectLine) (i : ℕ) → i < length lines → length (take i lines) ≡ i
 length-before lines i lt = omega (arith, length-take i lines)
 
 none_is_some : (p : ℕ) → none {A = ℕ} ≡ Some p → ⊥

@@ -5,6 +5,9 @@ pub mod Hosts
 pub mod Faults
 mod Rows
 mod MeaningExamples
+mod ServiceExamples
+pub mod ServiceSteps
+pub mod ServiceListSteps
 pub mod ObjectSteps
 pub mod CommentSteps
 pub mod DowntimeSteps

@@ -1,9 +1,9 @@
--- The table of monitored objects: which object two names are those of (`object_of`), and when lines
--- are no table (`IsFaultless`, `IsFaultOf`).
+-- The table of monitored objects: which object two names are those of (`object_of`), the services of
+-- a host (`services_of`), and when lines are no table (`IsFaultless`, `IsFaultOf`).
 -- Own rules: the limits, and the order of the faults.
-use Rattle.std.specs.Prelude.{◌≡◌, ℕ, ◌+◌, ◌<◌, ◌≤◌, ◌⊎◌, Bool, true, false, not, ◌&&◌, nat_lt, List, take, length, count_by, slice_get, Option, Some, None, is_some, is_none, option_map, if◌then◌else◌}
+use Rattle.std.specs.Prelude.{◌≡◌, ℕ, ◌+◌, ◌<◌, ◌≤◌, ◌⊎◌, Bool, true, false, not, ◌&&◌, nat_lt, List, [], ◌∷◌, take, length, max, map, filter, count_by, slice_get, Option, Some, None, is_some, is_none, option_map, if◌then◌else◌}
 use Rattle.std.specs.Str.{bytes_eq}
-use Rattle.std.specs.List.{position_from}
+use Rattle.std.specs.List.{position_from, enumerate_from}
 use Rattle.gate_model.specs.declared.object.Kind.{Kind}
 use Rattle.gate_model.specs.declared.object.Kind.TheVariants.{Host, Service}
 use Rattle.gate_model.specs.declared.object.ObjectId.{ObjectId}
@@ -47,15 +47,45 @@ abbrev pub object_of : List ObjectLine → List ℕ → Option (List ℕ) → Op
 object_of table host service =
     option_map (object_at (object_kind service)) (place_of table host service)
 
+-- ---- the services of a host
+
+-- the line of a service of this host
+abbrev pub is_service_line_of : List ℕ → ObjectLine → Bool
+is_service_line_of host line = bytes_eq line.host host && is_some line.service
+
+-- the services of the host of this name among lines of which the first has this place, in their order
+abbrev pub services_from : List ℕ → ℕ → List ObjectLine → List ObjectId
+services_from host place lines =
+    map (λ (one : ℕ × ObjectLine). object_at Service one.0)
+    (filter (λ (one : ℕ × ObjectLine). is_service_line_of host one.1) (enumerate_from place lines))
+
+-- the services of the host of this name, in table order
+abbrev pub services_of : List ObjectLine → List ℕ → List ObjectId
+services_of table host = services_from host 0 table
+
+-- the services of the host that this line names
+abbrev pub services_by : List ObjectLine → Option ObjectLine → List ObjectId
+services_by table None = []
+services_by table (Some line) = services_of table line.host
+
+-- the services of the host of the object at this place, in table order
+abbrev pub services_at : List ObjectLine → ℕ → List ObjectId
+services_at table place = services_by table (slice_get table place)
+
+-- the greatest of these numbers, and 0 of none
+abbrev pub greatest : List ℕ → ℕ
+greatest [] = 0
+greatest (number ∷ numbers) = max number (greatest numbers)
+
+-- how many services the host with the most of them has
+abbrev pub most_services : List ObjectLine → ℕ
+most_services table = greatest (map (λ (line : ObjectLine). count_by (is_service_line_of line.host) table) table)
+
 -- ---- faults of a list of lines
 
 -- a host's line
 abbrev pub is_host_line : ObjectLine → Bool
 is_host_line line = is_none line.service
-
--- the line of a service of this host
-abbrev pub is_service_line_of : List ℕ → ObjectLine → Bool
-is_service_line_of host line = bytes_eq line.host host && is_some line.service
 
 -- no name, or the name of a service: at most 127 bytes
 abbrev pub is_service_name : Option (List ℕ) → Bool

@@ -1,9 +1,10 @@
 //! The table of monitored objects.
 
-ghost use Rattle.std.specs.Prelude.{◌≡◌, ◌≢◌, ◌<◌, ℕ, length, slice_get, option_copied, IfErr, IfOk, IfSome, MatchResult, None, Some, true, false, ◌↔◌, IsTrue};
+ghost use Rattle.std.specs.Prelude.{◌≡◌, ◌≢◌, ◌<◌, ◌≤◌, ℕ, List, length, map, slice_get, option_copied, [], IfErr, IfOk, IfSome, MatchResult, None, Some, true, false, ◌↔◌, IsTrue};
 ghost use Rattle.gate_model.specs.declared.table.TableFault.TheVariants.{OutOfMemory};
+ghost use Rattle.gate_model.specs.declared.object.Kind.TheVariants.{Service};
 ghost use Rattle.gate_model.specs.declared.record.Outcome.{Outcome};
-ghost use Rattle.gate_model.specs.Table.{has_object, object_kind, object_of, place_of, IsFaultless, IsFaultOf};
+ghost use Rattle.gate_model.specs.Table.{has_object, object_at, object_kind, object_of, place_of, services_of, services_at, most_services, IsFaultless, IsFaultOf};
 ghost use Rattle.gate_model.specs.Record.{is_accepted};
 ghost use Rattle.gate_model.specs.Meaning.{outcome_for};
 ghost use Rattle.gate_model.specs.inner.Keys.{IsIndex};
@@ -11,6 +12,8 @@ ghost use Rattle.gate_model.specs.inner.Keys.{IsIndex};
 use crate::keys::Keys;
 use crate::object::{Kind, ObjectId, ObjectLine};
 use crate::record::Outcome;
+use crate::service_lists::ServiceLists;
+use crate::services::Services;
 use crate::table_builder::TableBuilder;
 use crate::text::Text;
 use std::alloc::Global;
@@ -102,18 +105,22 @@ impl Error for BuildFault {}
 pub struct ObjectTable {
     lines: Vec<ObjectLine>,
     keys: Keys,
+    services: ServiceLists,
+    // How many services the host with the most of them has.
+    most: usize,
 }
 
 impl Model for ObjectTable {
     ghost use Rattle.std.specs.Prelude.{List};
     ghost use Rattle.gate_model.specs.declared.object.ObjectLine.{ObjectLine};
-    ghost use Rattle.gate_model.specs.inner.Keys.{IsIndex};
+    ghost use Rattle.gate_model.specs.inner.ServiceLists.{IsTable};
 
     ghost Value = { List ObjectLine };
 
     ghost view = { λ table. table.lines.items };
 
-    ghost invariant = { λ table. IsIndex table.lines.items table.keys };
+    ghost invariant = { λ table.
+        IsTable table.lines.items table.keys table.services table.most };
 }
 
 impl ObjectTable {
@@ -131,9 +138,21 @@ impl ObjectTable {
         ensures faulty { IfErr result (λ refused.
             refused.cause ≢ OutOfMemory → ¬ IsFaultless refused.lines.items) }
     {
-        match keys_of(alloc, &lines) {
-            Ok(keys) => Ok(ObjectTable { lines, keys }),
-            Err(cause) => Err(BuildFault { cause, lines }),
+        let (keys, most) = match keys_of(alloc, &lines) {
+            Ok(found) => found,
+            Err(cause) => return Err(BuildFault { cause, lines }),
+        };
+        match ServiceLists::of(alloc, &lines, &keys) {
+            Ok(services) => Ok(ObjectTable {
+                lines,
+                keys,
+                services,
+                most,
+            }),
+            Err(_) => Err(BuildFault {
+                cause: TableFault::OutOfMemory,
+                lines,
+            }),
         }
     }
 
@@ -190,6 +209,36 @@ impl ObjectTable {
         self.lines.get(place as usize)
     }
 
+    /// The services of the host of this object, in table order. They are listed when the table is
+    /// built: finding them takes the same time in a table of any size.
+    pub fn services(&self, host: ObjectId) -> Services<'_>
+        ensures services { result ≡ services_at self.now host.place }
+        ensures named { (name : List ℕ) → place_of self.now name None ≡ Some host.place
+            → result ≡ services_of self.now name }
+    {
+        Services::new(self.service_places(host.place))
+    }
+
+    /// How many services the host with the most of them has, at most 1,024.
+    pub fn most_services(&self) -> usize
+        ensures most { result ≡ most_services self.now }
+        ensures few { result ≤ 1024 }
+    {
+        self.most
+    }
+
+    fn service_places(&self, place: u32) -> &[u32]
+        ensures services { map (object_at Service) result.now ≡ services_at self.now place }
+    {
+        match self.line(place) {
+            None => &[],
+            Some(line) => match self.keys.find(line.host.bytes(), None) {
+                None => &[],
+                Some(host) => self.services.row(host),
+            },
+        }
+    }
+
     fn place(&self, host: &[u8], service: Option<&[u8]>) -> Option<u32>
         ensures value { result ≡ place_of self.now host.now (option_copied service.entry) }
         ensures within { IfSome result (λ place. place < length self.now) }
@@ -238,9 +287,11 @@ pub fn find_object(
     }
 }
 
-/// The keys of the lines, or why these are no table.
-fn keys_of(alloc: Global, lines: &[ObjectLine]) -> Result<Keys, TableFault>
-    ensures index { IfOk result (IsIndex lines.now) }
+/// The keys of the lines and how many services the host with the most of them has, or why these are
+/// no table.
+fn keys_of(alloc: Global, lines: &[ObjectLine]) -> Result<(Keys, usize), TableFault>
+    ensures index { IfOk result (λ found. IsIndex lines.now found.0) }
+    ensures most { IfOk result (λ found. found.1 ≡ most_services lines.now) }
     ensures fault { IfErr result (IsFaultOf lines.now) }
     ensures faulty { IfErr result (λ fault. fault ≢ OutOfMemory → ¬ IsFaultless lines.now) }
 {
@@ -253,5 +304,6 @@ fn keys_of(alloc: Global, lines: &[ObjectLine]) -> Result<Keys, TableFault>
             return Err(fault);
         }
     }
-    Ok(builder.into_keys())
+    let most = builder.most_services(lines);
+    Ok((builder.into_keys(), most))
 }

@@ -1,27 +1,31 @@
 -- Only proofs and private functions use this: what happened in judged records, and when the books follow it.
-use Rattle.std.specs.Prelude.{◌≡◌, ℕ, ℤ, min, ◌+◌, ◌<◌, ◌≤◌, ◌==◌, Bool, true, false, not, List, ◌∷◌, length, filter, slice_get, Option, Some, None, if◌then◌else◌}
-use Rattle.std.specs.List.{cons_option, list_any, list_all}
+use Rattle.std.specs.Prelude.{◌≡◌, ℕ, ℤ, min, max, ◌+◌, ◌/◌, ◌≤◌, ◌==◌, Bool, true, false, not, List, ◌∷◌, ◌++◌, length, map, reverse, filter, slice_get, Option, Some, None, if◌then◌else◌}
+use Rattle.std.specs.List.{cons_option, list_any, list_all, enumerate_from}
+use Rattle.std.specs.Option.{option_to_list}
 use Rattle.gate_model.specs.declared.record.Moment.{Moment}
 use Rattle.gate_model.specs.declared.object.ObjectId.{ObjectId}
 use Rattle.gate_model.specs.declared.object.ObjectLine.{ObjectLine}
 use Rattle.gate_model.specs.declared.submission.Body.{Body}
 use Rattle.gate_model.specs.declared.record.Outcome.{Outcome}
+use Rattle.gate_model.specs.declared.record.Outcome.TheVariants.{Accepted}
 use Rattle.gate_model.specs.declared.status.ObjectEvent.{ObjectEvent}
 use Rattle.gate_model.specs.declared.downtime.DowntimeEvent.{DowntimeEvent}
-use Rattle.gate_model.specs.declared.downtime.DowntimeEvent.TheVariants.{Transition}
+use Rattle.gate_model.specs.declared.downtime.DowntimeEvent.TheVariants.{Schedule, Transition}
 use Rattle.gate_model.specs.declared.downtime.Entry.{Entry}
 use Rattle.gate_model.specs.declared.comments.CommentEvent.{CommentEvent}
 use Rattle.gate_model.specs.declared.comments.CommentEvent.TheVariants.{Add, Clear}
 use Rattle.gate_model.specs.declared.comments.Comment.{Comment}
 use Rattle.gate_model.specs.declared.comments.Source.{Source}
+use Rattle.gate_model.specs.declared.downtime.Plan.{Plan}
 use Rattle.gate_model.specs.Record.{is_accepted}
+use Rattle.gate_model.specs.Table.{most_services}
 use Rattle.gate_model.specs.Comments.{comments_of, number_made}
 use Rattle.gate_model.specs.Downtime.{scheduled_in, is_live_in}
-use Rattle.gate_model.specs.Meaning.{Judged, object_event_of, object_events, downtime_event_of, downtime_events, transition_by, clearing_by, comment_event_of, comment_events, outlives, outcome_at}
+use Rattle.gate_model.specs.Meaning.{Judged, object_event_of, object_events, downtime_events_of_body, downtime_events, transition_by, clearing_by, addition_of_entry, comment_events_of_body, comment_events, outlives, outcome_of_window, outcome_at}
 use Rattle.gate_objects.specs.Book.{shown_threshold}
 use Rattle.gate_objects.specs.Standing.{IsStanding as ObjectsStand, result_event}
 use Rattle.gate_downtime.specs.Standing.{IsStanding as DowntimeStands}
-use Rattle.gate_downtime.specs.Book.{DowntimeView, next_id, was_returned, next_gone_of}
+use Rattle.gate_downtime.specs.Book.{DowntimeView, next_id, is_live_now, was_returned, next_gone_of}
 use Rattle.gate_applier.specs.declared.books.Books.{Books}
 
 -- what happened to the objects, to the downtime entries and to the comments, the newest first
@@ -47,11 +51,10 @@ threshold_of_line (Some line) = line.threshold
 abbrev pub events_after : List ObjectLine → Moment → ℕ → Body → Events → Events
 events_after table moment log_index body events = record {
   objects = cons_option (object_event_of table moment log_index body) events.objects;
-  downtimes = cons_option (downtime_event_of table events.objects moment log_index body) events.downtimes;
+  downtimes = downtime_events_of_body table events.objects moment log_index body ++ events.downtimes;
   comments =
-      cons_option
-      (comment_event_of table events.objects (1 + length (scheduled_in 1 events.downtimes)) moment log_index body)
-      events.comments;
+      comment_events_of_body table events.objects (1 + length (scheduled_in 1 events.downtimes)) moment log_index body
+      ++ events.comments;
 }
 
 -- these events, and what a body of this outcome adds to them: nothing, if it was refused
@@ -123,15 +126,15 @@ result_added object code log_index moment events =
     let event = result_event object code log_index moment in
     record {
       objects = event ∷ events.objects;
-      downtimes = cons_option (transition_by events.objects (Some event)) events.downtimes;
-      comments = cons_option (clearing_by events.objects (Some event)) events.comments;
+      downtimes = option_to_list (transition_by events.objects (Some event)) ++ events.downtimes;
+      comments = option_to_list (clearing_by events.objects (Some event)) ++ events.comments;
     }
 
 -- the events with a transition of the object at this place, if there is one
 abbrev pub transition_added : Bool → Moment → ℕ → Events → Events
 transition_added transition moment place events = record {
   objects = events.objects;
-  downtimes = cons_option (if transition then Some (Transition moment place) else None) events.downtimes;
+  downtimes = option_to_list (if transition then Some (Transition moment place) else None) ++ events.downtimes;
   comments = events.comments;
 }
 
@@ -140,7 +143,7 @@ abbrev pub clearing_added : Bool → ℕ → Events → Events
 clearing_added cleared place events = record {
   objects = events.objects;
   downtimes = events.downtimes;
-  comments = cons_option (if cleared then Some (Clear place) else None) events.comments;
+  comments = option_to_list (if cleared then Some (Clear place) else None) ++ events.comments;
 }
 
 -- the events with a comment added
@@ -151,35 +154,64 @@ comment_added object source persistent log_index events = record {
   comments = Add object source persistent log_index ∷ events.comments;
 }
 
+-- the events with an entry scheduled for each of these objects in their order, and its comment
+abbrev pub entries_added : Moment → Plan → List ObjectId → Events → Events
+entries_added moment plan objects events = record {
+  objects = events.objects;
+  downtimes = reverse (map (λ object. Schedule moment object plan) objects) ++ events.downtimes;
+  comments =
+      reverse (map (addition_of_entry plan.log_index) (enumerate_from (1 + length (scheduled_in 1 events.downtimes)) objects))
+      ++ events.comments;
+}
+
+-- the outcome of this plan for any object, by what the downtime book shows
+abbrev pub outcome_of_plan : Plan → DowntimeView → Outcome
+outcome_of_plan plan book = outcome_of_window (is_live_now book) book.moment plan.starts plan.ends plan.trigger
+
+-- where the plan is accepted, the new books follow the events with the entries of these objects, and would accept it again
+pub record SchedulesEach (moment : Moment) (plan : Plan) (objects : List ObjectId) (events : Events) (new : Books) : Type 0 where
+  pub follow : BooksFollow (entries_added moment plan objects events) moment new
+  pub again : outcome_of_plan plan new.downtime ≡ Accepted
+
+abbrev pub Schedules : Plan → List ObjectId → Books → Books → Type 0
+Schedules plan objects old new =
+    (events : Events) (moment : Moment) → BooksFollow events moment old → outcome_of_plan plan old.downtime ≡ Accepted
+    → SchedulesEach moment plan objects events new
+
 -- the objects are those of the table, at that opening
 pub record IsOfTable (table : List ObjectLine) (opening : Moment) (books : Books) : Type 0 where
   pub opening_is : books.objects.opening ≡ opening
   pub rows : length books.objects.rows ≡ length table
   pub thresholds : (place : ℕ) → shown_threshold books.objects place ≡ threshold_of_line (slice_get table place)
   pub places : books.downtime.objects ≡ length table
+  pub per_record_is : books.per_record ≡ max 1 (most_services table)
+  pub few : books.per_record ≤ 1024
 
--- for how many more comments and entries there is room
+-- for the comments and entries of how many more records there is room
 abbrev pub room_of_books : Books → ℕ
-room_of_books books = min books.comments.room books.downtime.room
-
--- there is room for one more comment and one more entry
-pub record HasRoom (books : Books) : Type 0 where
-  pub comment_room : 0 < books.comments.room
-  pub entry_room : 0 < books.downtime.room
+room_of_books books = min (books.comments.room / books.per_record) (books.downtime.room / books.per_record)
 
 -- the books are the same but for the room
 pub record SharesRoom (old new : Books) : Type 0 where
   pub objects : new.objects ≡ old.objects
   pub downtime : new.downtime ≡ record old.downtime { room = new.downtime.room }
   pub comments : new.comments ≡ record old.comments { room = new.comments.room }
+  pub per_record : new.per_record ≡ old.per_record
 
--- the books have a row for each object of the table, room and ids for one more comment and one more entry
+-- there is room, and there are ids, for so many more comments and entries
+pub record CanMake (count : ℕ) (books : Books) : Type 0 where
+  pub comment_room : count ≤ books.comments.room
+  pub entry_room : count ≤ books.downtime.room
+  pub comment_ids : books.comments.next_id + count ≤ 4294967296
+  pub entry_ids : next_id books.downtime + count ≤ 4294967296
+
+-- the books have a row for each object of the table, room and ids for all comments and entries that one more record makes
 pub record CanTake (table : List ObjectLine) (books : Books) : Type 0 where
   pub rows : length books.objects.rows ≡ length table
   pub places : books.downtime.objects ≡ length table
-  pub room : HasRoom books
-  pub comment_id : books.comments.next_id ≤ 4294967295
-  pub entry_id : next_id books.downtime ≤ 4294967295
+  pub one : 1 ≤ books.per_record
+  pub services : most_services table ≤ books.per_record
+  pub make : CanMake books.per_record books
 
 -- the objects are those of the same table, at the same opening
 pub record SameTable (old new : Books) : Type 0 where
@@ -187,6 +219,7 @@ pub record SameTable (old new : Books) : Type 0 where
   pub rows : length new.objects.rows ≡ length old.objects.rows
   pub thresholds : (place : ℕ) → shown_threshold new.objects place ≡ shown_threshold old.objects place
   pub places : new.downtime.objects ≡ old.downtime.objects
+  pub per_record : new.per_record ≡ old.per_record
 
 -- there is no less room, and no id was given
 pub record KeepsRoom (old new : Books) : Type 0 where
@@ -195,11 +228,20 @@ pub record KeepsRoom (old new : Books) : Type 0 where
   pub next_comment : new.comments.next_id ≡ old.comments.next_id
   pub next_entry : next_id new.downtime ≡ next_id old.downtime
 
--- the table is the same, and the room of one comment and of one entry is taken at most
-pub record TakesOne (old new : Books) : Type 0 where
+-- the table is the same, and the room of so many comments and entries is taken at most
+pub record Takes (count : ℕ) (old new : Books) : Type 0 where
   pub table : SameTable old new
-  pub comments : old.comments.room ≤ new.comments.room + 1
-  pub entries : old.downtime.room ≤ new.downtime.room + 1
+  pub comments : old.comments.room ≤ new.comments.room + count
+  pub entries : old.downtime.room ≤ new.downtime.room + count
+
+-- the table is the same, and the room of one comment and of one entry is taken at most
+abbrev pub TakesOne : Books → Books → Type 0
+TakesOne old new = Takes 1 old new
+
+-- so many ids were given at most
+pub record Gives (count : ℕ) (old new : Books) : Type 0 where
+  pub comments : new.comments.next_id ≤ old.comments.next_id + count
+  pub entries : next_id new.downtime ≤ next_id old.downtime + count
 
 -- entries were returned as gone, and nothing else changed
 pub record ReturnsGone (old new : DowntimeView) : Type 0 where

@@ -1,4 +1,4 @@
-use Rattle.std.proofs.Common.{◌≡◌, ◌<◌, Some, None, sym, ap, ◌∙◌, arith, length}
+use Rattle.std.proofs.Common.{◌<◌, sym, ap, ◌∙◌, arith, length}
 use Rattle.std.specs.Prelude.{slice_get, option_copied}
 use Rattle.gate_pages.specs.Rows.{object_row}
 use Rattle.gate_pages.proofs.FillingSteps.{row-added, none-missing}
