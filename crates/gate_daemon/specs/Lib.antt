@@ -1,3 +1,4 @@
+pub mod Answered
 pub mod Applying
 pub mod Faults
 pub mod inner
