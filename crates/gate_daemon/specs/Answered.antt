@@ -1,6 +1,5 @@
 -- What the clients of a gateway were answered, and that its log holds it. Own rules: the numbers of clients and of items.
-use Rattle.std.specs.Prelude.{◌≡◌, ℕ, ◌+◌, List, ◌∷◌, All, length, map}
-use Rattle.std.specs.Vec.{Vec}
+use Rattle.std.specs.Prelude.{◌≡◌, ℕ, ◌+◌, List, ◌∷◌, All, Vec, length, map}
 use Rattle.gate_model.specs.declared.submission.Numbered.{Numbered}
 use Rattle.gate_core.specs.Merge.{IsClient, of_client}
 use Rattle.gate_reader.specs.declared.report.Report.{Report}

@@ -12,9 +12,9 @@ pub(crate) fn close_gate<R: Wait + Clock, K: Watch, W>(
     shared: &Shared<'_, R, K, W>,
     closer: &mut Closer,
 ) -> Notice
-    requires { closer.old.cell ≡ shared.gate.now.cell }
-    ensures cell { closer.new.cell ≡ shared.gate.now.cell }
-    ensures notice { result.cell ≡ shared.gate.now.cell }
+    requires { closer.old.cell ≡ shared.now.gate.now.cell }
+    ensures cell { closer.new.cell ≡ shared.now.gate.now.cell }
+    ensures notice { result.cell ≡ shared.now.gate.now.cell }
 {
     for _ in shared.rt.forever() {
         match closer.close(shared.alloc, shared.gate, shared.clock.read()) {
@@ -34,8 +34,8 @@ pub(crate) fn close_and_wake<R: Wait + Clock, K: Watch, W: Wake>(
     shared: &Shared<'_, R, K, W>,
     closer: &mut Closer,
 )
-    requires { closer.old.cell ≡ shared.gate.now.cell }
-    ensures { closer.new.cell ≡ shared.gate.now.cell }
+    requires { closer.old.cell ≡ shared.now.gate.now.cell }
+    ensures { closer.new.cell ≡ shared.now.gate.now.cell }
 {
     let notice = close_gate(shared, closer);
     wake_agents(shared.wake, &notice);

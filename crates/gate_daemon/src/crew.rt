@@ -49,12 +49,12 @@ fn run_operator<
     closer: &mut Closer,
     collected: &mut Collected,
 ) -> bool
-    requires gate { client.gate ≡ shared.gate.now }
-    requires closer { closer.old.cell ≡ shared.gate.now.cell }
+    requires gate { client.gate ≡ shared.now.gate.now }
+    requires closer { closer.old.cell ≡ shared.now.gate.now.cell }
     requires fresh { client.queued ≡ [] }
     requires room { HasRoom 1 collected.old }
-    ensures closer { closer.new.cell ≡ shared.gate.now.cell }
-    ensures ends { AreCollected shared.gate.now 0 client.number collected.old collected.new result }
+    ensures closer { closer.new.cell ≡ shared.now.gate.now.cell }
+    ensures ends { AreCollected shared.now.gate.now 0 client.number collected.old collected.new result }
 {
     let spare = Some(closer.another());
     let of_operator = Shared {
@@ -94,12 +94,12 @@ pub(crate) fn run_workers<
     crew: Crew<C, H>,
     closer: &mut Closer,
 ) -> (Collected, bool)
-    requires new { AreNew shared.gate.now
+    requires new { AreNew shared.now.gate.now
         crew.clients.items (length crew.posts.items) crew.operator }
-    requires closer { closer.old.cell ≡ shared.gate.now.cell }
+    requires closer { closer.old.cell ≡ shared.now.gate.now.cell }
     requires room { HasRoom (length crew.clients.items + 1) crew.collected }
-    ensures closer { closer.new.cell ≡ shared.gate.now.cell }
-    ensures ends { AreCollected shared.gate.now (length crew.clients.items) crew.operator.number
+    ensures closer { closer.new.cell ≡ shared.now.gate.now.cell }
+    ensures ends { AreCollected shared.now.gate.now (length crew.clients.items) crew.operator.number
         crew.collected result.0 result.1 }
 {
     let Crew {

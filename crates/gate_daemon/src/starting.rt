@@ -48,10 +48,10 @@ pub(crate) fn start_worker<
     closer: Option<Closer>,
     post: Post<C, H>,
 ) -> Result<PromisedHandle<WorkerEnd, EndsClient<'s>>, Unstarted>
-    requires gate { client.gate ≡ shared.gate.now }
-    requires closer { IfSome closer (λ c. c.cell ≡ shared.gate.now.cell) }
+    requires gate { client.gate ≡ shared.now.gate.now }
+    requires closer { IfSome closer (λ c. c.cell ≡ shared.now.gate.now.cell) }
     requires fresh { client.queued ≡ [] }
-    ensures { IfOk result (λ handle. (handle.promise.gate.now ≡ shared.gate.now)
+    ensures { IfOk result (λ handle. (handle.promise.gate.now ≡ shared.now.gate.now)
         × (handle.promise.number ≡ client.number)) }
 {
     let number = client.number();
@@ -119,8 +119,8 @@ pub(crate) fn start_applier<
     hold: A,
     board: &'s Mutex<Board>,
 ) -> Result<PromisedHandle<(Taker, Applier, ApplierStop), KeepsLog<'s>>, Unstarted>
-    requires { IsApplied shared.gate.now taker applier }
-    ensures { IfOk result (λ handle. (handle.promise.gate.now ≡ shared.gate.now)
+    requires { IsApplied shared.now.gate.now taker applier }
+    ensures { IfOk result (λ handle. (handle.promise.gate.now ≡ shared.now.gate.now)
         × (handle.promise.before.value ≡ applier)) }
 {
     let before = Snapshot::of(&applier);

@@ -42,13 +42,13 @@ pub(crate) fn run_threads<
     start: Start<C, H>,
     board: &'s Mutex<Board>,
 ) -> Result<Joined, Unstarted>
-    requires applied { IsApplied shared.gate.now start.taker start.applier }
-    requires closer { start.closer.cell ≡ shared.gate.now.cell }
-    requires new { AreNew shared.gate.now start.crew.clients.items
+    requires applied { IsApplied shared.now.gate.now start.taker start.applier }
+    requires closer { start.closer.cell ≡ shared.now.gate.now.cell }
+    requires new { AreNew shared.now.gate.now start.crew.clients.items
         (length start.crew.posts.items) start.crew.operator }
     requires last { start.crew.operator.number ≡ length start.crew.clients.items + 1 }
     requires room { HasRoom (length start.crew.clients.items + 1) start.crew.collected }
-    ensures { IfOk result (λ joined. AreJoined shared.gate.now
+    ensures { IfOk result (λ joined. AreJoined shared.now.gate.now
         (length start.crew.clients.items) start.applier joined) }
 {
     let Start {
@@ -101,26 +101,26 @@ pub(crate) fn run_scoped<
     start: Start<C, H>,
     board: &Mutex<Board>,
 ) -> Result<Joined, Unstarted>
-    requires applied { IsApplied shared.gate.now start.taker start.applier }
-    requires closer { start.closer.cell ≡ shared.gate.now.cell }
-    requires new { AreNew shared.gate.now start.crew.clients.items
+    requires applied { IsApplied shared.now.gate.now start.taker start.applier }
+    requires closer { start.closer.cell ≡ shared.now.gate.now.cell }
+    requires new { AreNew shared.now.gate.now start.crew.clients.items
         (length start.crew.posts.items) start.crew.operator }
     requires last { start.crew.operator.number ≡ length start.crew.clients.items + 1 }
     requires room { HasRoom (length start.crew.clients.items + 1) start.crew.collected }
-    ensures { IfOk result (λ joined. AreJoined shared.gate.now
+    ensures { IfOk result (λ joined. AreJoined shared.now.gate.now
         (length start.crew.clients.items) start.applier joined) }
 {
     thread::scope(
         thread::scope_env(),
         shared.rt,
         move |scope| -> Result<Joined, Unstarted>
-            requires { IsApplied shared.gate.now start.taker start.applier
-                × (start.closer.cell ≡ shared.gate.now.cell)
-                × AreNew shared.gate.now start.crew.clients.items
+            requires { IsApplied shared.now.gate.now start.taker start.applier
+                × (start.closer.cell ≡ shared.now.gate.now.cell)
+                × AreNew shared.now.gate.now start.crew.clients.items
                 (length start.crew.posts.items) start.crew.operator
                 × (start.crew.operator.number ≡ length start.crew.clients.items + 1)
                 × HasRoom (length start.crew.clients.items + 1) start.crew.collected }
-            ensures { IfOk result (λ joined. AreJoined shared.gate.entry.now
+            ensures { IfOk result (λ joined. AreJoined shared.entry.now.gate.now
                 (length start.crew.clients.items) start.applier joined) }
         { run_threads(shared, scope, start, board) },
     )
