@@ -94,7 +94,7 @@ none_missing workers n c queued old can fault =
 -- the gate is closing
 is_known : (known : Option Moment) → IsSome known → known ≡ None → ⊥
 is_known (Some first) some none = absurd (cc)
-is_known None some none = absurd some
+is_known None some none = true≢false (sym some)
 
 -- what a drain that stopped returns
 stopped : (workers n : ℕ) (now : Moment) (queued : List (ℕ × List ℕ)) (old new : CloseParts) → CanDrain workers n queued old → IsStopped n now old new
