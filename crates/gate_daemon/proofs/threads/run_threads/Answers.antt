@@ -1,4 +1,4 @@
-use Rattle.std.proofs.Common.{ℕ, ◌∷◌, Option, sym, ap, ◌∙◌, subst, refl}
+use Rattle.std.proofs.Common.{ℕ, ◌∷◌, length, Option, sym, ap, ◌∙◌, subst, refl}
 use Rattle.std.specs.Prelude.{IsSome}
 use Rattle.gate_model.specs.declared.record.Moment.{Moment}
 use Rattle.gate_applier.specs.Applier.{ApplierView}
@@ -23,6 +23,6 @@ returns-then-all g c =
       };
       known_close = subst (λ (k : Option Moment). IsSome k) (sym (ap (λ (t : TakerState). t.known_close) known)) refl;
       same = subst (λ (a : ApplierView). IsSameLog a end.1) c.in-Ok.ensures.1 c.join-taker.ensures.1;
-      all = ends.all c.if-all.true ∙ ap (λ (k : ℕ). k ∷ numbers_after 0 _) c.requires.last;
+      all = ends.all c.if-all.true ∙ ap (λ (k : ℕ). k ∷ numbers_after 0 (length c.args.start.crew.clients.items)) c.requires.last;
       gates = ends.gates;
     }
