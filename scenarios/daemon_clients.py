@@ -42,22 +42,24 @@ def check(what, found, expected):
 class Daemon:
     """A running `nscagate serve`, and the addresses that it printed."""
 
-    def __init__(self, program, folder, configuration, host="127.0.0.1"):
-        self.host = host
+    def __init__(self, program, folder, configuration):
         path = os.path.join(folder, "gateway.toml")
         with open(path, "w", encoding="latin-1") as file:
             file.write(configuration)
         self.process = subprocess.Popen([program, "serve", "--config", path],
                                         stdout=subprocess.PIPE, stderr=subprocess.PIPE)
+        self.hosts = {}
         self.ports = {}
         for name in ("agents", "operators", "pages"):
             words = self.process.stdout.readline().decode().split()
             if len(words) != 2 or words[0] != name:
                 raise SystemExit(f"the daemon printed {words}, no address of its {name}")
-            self.ports[name] = int(words[1].rsplit(":", 1)[1])
+            host, port = words[1].rsplit(":", 1)
+            self.hosts[name] = host.strip("[]")
+            self.ports[name] = int(port)
 
     def connect(self, name):
-        connection = socket.create_connection((self.host, self.ports[name]), PATIENCE)
+        connection = socket.create_connection((self.hosts[name], self.ports[name]), PATIENCE)
         connection.settimeout(PATIENCE)
         return connection
 

@@ -128,15 +128,16 @@ def play_an_old_packet(program, folder):
 
 
 def start_client(daemon, folder, lines, *words):
-    """The real client under way, with these words, which sends these results on one connection."""
+    """The real client under way, with these words, which sends these results on one connection. Without any it is silent."""
     client = shutil.which("send_nsca") or shutil.which("send_nsca", path="/usr/sbin")
     configuration = os.path.join(folder, "send_nsca.cfg")
     with open(configuration, "w", encoding="ascii") as file:
         file.write("encryption_method=0\n")
     started = subprocess.Popen([client, "-H", "127.0.0.1", "-p", str(daemon.ports["agents"]), "-c", configuration, *words],
                                stdin=subprocess.PIPE, stdout=subprocess.PIPE, stderr=subprocess.PIPE, text=True)
-    started.stdin.write("\x17".join(lines) + "\n")
-    started.stdin.close()
+    if lines:
+        started.stdin.write("\x17".join(lines) + "\n")
+        started.stdin.close()
     return started
 
 
@@ -203,6 +204,72 @@ def play_few_sessions(program, folder):
     check("all is logged", output.split("\n", 1)[0], "log 4")
 
 
+def play_four_workers(program, folder):
+    """Of four real clients at once one is silent: with four workers the other three are served within a second."""
+    if not (shutil.which("send_nsca") or shutil.which("send_nsca", path="/usr/sbin")):
+        print("four clients at once ... skipped: send_nsca is not installed")
+        return
+    hosts = ("a", "b", "c")
+    daemon = Daemon(program, folder, "workers = 4\n" + CONFIGURATION + "".join(f'[[host]]\nname = "{host}"\n' for host in hosts))
+    silent = start_client(daemon, folder, [])
+    time.sleep(0.5)
+    began = time.monotonic()
+    clients = [start_client(daemon, folder, [f"{host}\t1\tfrom {host}"]) for host in hosts]
+    for client in clients:
+        client.wait(PATIENCE)
+        check("the status of a client beside a silent one", client.returncode, 0)
+        client.stdout.close()
+        client.stderr.close()
+    took = time.monotonic() - began
+    print(f"three clients beside a silent one took {took:.2f} s")
+    check("three clients beside a silent one are served within a second", took < 1.0, True)
+    for host in hosts:
+        check("the result of a client beside a silent one is shown", f";from {host}\n" in daemon.page_with(f";from {host}\n"), True)
+    check("the silent one is still connected", silent.poll(), None)
+    check("an operator is answered beside a silent client", ask(daemon, "[1] ADD_HOST_COMMENT;web1;0;ann;hi", "[1] SHUTDOWN_PROGRAM"),
+          ["queued 1", "closing"])
+    status, output, _ = daemon.end()
+    silent.kill()
+    silent.communicate()
+    check("the status with four workers", status, 0)
+    logged = re.findall(r"^\[\d+\] (\d):(\d+) PROCESS_HOST_CHECK_RESULT;(\w);1;from \3 -> Accepted$", output, flags=re.MULTILINE)
+    check("the results of three clients are logged once", sorted(host for _, _, host in logged), list(hosts))
+    for worker in "1234":
+        numbers = [number for client, number, _ in logged if client == worker]
+        check("the items of each worker are numbered from 1", numbers, [str(number) for number in range(1, len(numbers) + 1)])
+    check("the operator is the client after four workers", " 5:1 ADD_HOST_COMMENT;web1;0;ann;hi -> Accepted" in output, True)
+    check("as many records are logged as were queued", output.split("\n", 1)[0], "log 4")
+
+
+def free_port(host):
+    with socket.create_server((host, 0)) as probe:
+        return probe.getsockname()[1]
+
+
+def play_three_addresses(program, folder):
+    """Agents, operators and pages are served each at the address that is configured, with its port or, for 0, a free one."""
+    hosts = {"agents": "127.0.0.1", "operators": "127.0.0.2", "pages": "127.0.0.3"}
+    for without_port in hosts:
+        ports = {name: 0 if name == without_port else free_port(host) for name, host in hosts.items()}
+        addresses = "".join(f'{name} = "{host}:{ports[name]}"\n' for name, host in hosts.items())
+        daemon = Daemon(program, folder, "workers = 2\n" + addresses + CONFIGURATION.split("\n", 3)[3])
+        check("the hosts that are printed", daemon.hosts, hosts)
+        check("the ports that are printed", {name: port for name, port in daemon.ports.items() if name != without_port},
+              {name: port for name, port in ports.items() if name != without_port})
+        check("port 0 is printed as a free one", daemon.ports[without_port] > 0, True)
+        for name, host in hosts.items():
+            others = []
+            for other in hosts.values():
+                with socket.socket() as probe:
+                    if probe.connect_ex((other, daemon.ports[name])) == 0:
+                        others.append(other)
+            check(f"the port of {name} is open at its own address alone", others, [host])
+        send(daemon, [(b"web1", b"HTTP", 2, b"at the agents' address")])
+        check("a page is at the address of pages", "at the agents' address" in daemon.page_with("at the agents' address"), True)
+        check("an operator is answered at the address of operators", ask(daemon, "[1] SHUTDOWN_PROGRAM"), ["closing"])
+        check("the status with three addresses", daemon.end()[0], 0)
+
+
 def play_on_version_6(program, folder):
     """All three addresses may be of version 6 of the protocol, where the machine has it."""
     try:
@@ -211,7 +278,7 @@ def play_on_version_6(program, folder):
     except OSError:
         print("addresses of version 6 ... skipped: this machine has none")
         return
-    daemon = Daemon(program, folder, CONFIGURATION.replace("127.0.0.1:0", "[::1]:0"), host="::1")
+    daemon = Daemon(program, folder, CONFIGURATION.replace("127.0.0.1:0", "[::1]:0"))
     send(daemon, [(b"web1", b"HTTP", 1, b"by version 6")])
     check("a result that came by version 6 is shown", "by version 6" in daemon.page_with("by version 6"), True)
     check("an operator is answered by version 6", ask(daemon, "[1] SHUTDOWN_PROGRAM"), ["closing"])
@@ -237,6 +304,8 @@ def main():
         play_real_clients_of_both_lengths(program, folder)
         play_both_lengths_in_turns(program, folder)
         play_few_sessions(program, folder)
+        play_four_workers(program, folder)
+        play_three_addresses(program, folder)
         play_on_version_6(program, folder)
         refuse(program, folder, "colour = 1\n", 2, "config: UnknownKey colour")
         refuse(program, folder, "capacity = 0\n", 2, "config: BadValue capacity")

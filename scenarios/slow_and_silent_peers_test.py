@@ -80,7 +80,7 @@ def play_open_connections(program, folder):
     for _ in range(500):
         connection = socket.socket()
         connection.setblocking(False)
-        connection.connect_ex((daemon.host, daemon.ports["agents"]))
+        connection.connect_ex((daemon.hosts["agents"], daemon.ports["agents"]))
         silent.append(connection)
     time.sleep(1.0)
     shut_down(daemon, "open connections", 3.0)
@@ -151,7 +151,7 @@ def play_a_silent_sender(program, folder):
             settings = os.path.join(folder, "send_nsca.cfg")
             with open(settings, "w", encoding="ascii") as file:
                 file.write("encryption_method=0\n")
-            ran = subprocess.run([client, "-H", daemon.host, "-p", str(daemon.ports["agents"]), "-c", settings],
+            ran = subprocess.run([client, "-H", daemon.hosts["agents"], "-p", str(daemon.ports["agents"]), "-c", settings],
                                  input="web1\tHTTP\t1\tafter the silence\n", capture_output=True, text=True, timeout=PATIENCE,
                                  check=False)
             served = ran.returncode == 0
@@ -248,7 +248,7 @@ def play_an_operator_that_never_reads(program, folder):
     daemon = Daemon(program, folder, limited(items=1000000, limit=1000000))
     deaf = socket.socket()
     deaf.setsockopt(socket.SOL_SOCKET, socket.SO_RCVBUF, 4096)
-    deaf.connect((daemon.host, daemon.ports["operators"]))
+    deaf.connect((daemon.hosts["operators"], daemon.ports["operators"]))
     deaf.settimeout(1.0)
     try:
         for _ in range(2000):
@@ -256,7 +256,7 @@ def play_an_operator_that_never_reads(program, folder):
     except OSError:
         pass
     began = time.monotonic()
-    with socket.create_connection((daemon.host, daemon.ports["operators"]), 90.0) as other:
+    with socket.create_connection((daemon.hosts["operators"], daemon.ports["operators"]), 90.0) as other:
         other.settimeout(90.0)
         other.sendall(b"[1] ADD_HOST_COMMENT;web1;0;ann;hi\n")
         other.shutdown(socket.SHUT_WR)

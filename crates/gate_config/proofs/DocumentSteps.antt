@@ -1,5 +1,5 @@
 -- The tests of a document one after another, and what it configures.
-use Rattle.std.proofs.Common.{◌≡◌, ℕ, List, [], ◌∷◌, ◌++◌, Some, None, map, option_map, unwrap_or, subst, ap, ◌∙◌, sym, inl}
+use Rattle.std.proofs.Common.{◌≡◌, ℕ, List, [], ◌∷◌, ◌++◌, Some, None, map, option_map, unwrap_or, subst, ap, ◌∙◌, sym, inl, inr}
 use Rattle.std.specs.List.{flat_map}
 use Rattle.std.specs.declared.net.socket_addr.SocketAddr.{SocketAddr}
 use Rattle.std.specs.Net.Grammar.{IsSocketText}
@@ -9,12 +9,12 @@ use Rattle.toml.specs.declared.value.Value.{Value}
 use Rattle.gate_model.specs.declared.object.ObjectLine.{ObjectLine}
 use Rattle.gate_config.specs.declared.config.Address.{Address}
 use Rattle.gate_config.specs.declared.key.Key.{Key}
-use Rattle.gate_config.specs.declared.key.Key.TheVariants.{Agents, Operators, Pages, Capacity, GreatestAge, Items, Limit, Reads, Sessions, Host}
+use Rattle.gate_config.specs.declared.key.Key.TheVariants.{Agents, Operators, Pages, Capacity, GreatestAge, Items, Limit, Reads, Sessions, Host, Workers}
 use Rattle.gate_config.specs.declared.fault.ConfigFault.{ConfigFault}
-use Rattle.gate_config.specs.declared.fault.ConfigFault.TheVariants.{UnknownKey}
+use Rattle.gate_config.specs.declared.fault.ConfigFault.TheVariants.{UnknownKey, BadValue}
 use Rattle.gate_config.specs.Keys.{document_keys}
 use Rattle.gate_config.specs.Check.{Check, Passes, Fails, AllPass, FirstFails, object_table}
-use Rattle.gate_config.specs.Values.{value_at, tables_or_none}
+use Rattle.gate_config.specs.Values.{value_at, number_or, tables_or_none}
 use Rattle.gate_config.specs.Document.{least_unknown, bad_unless, key_check, table_checks, rows_at, host_checks, host_lines, object_lines, text_at, document_checks}
 use Rattle.gate_config.specs.Config.{IsAddressOf}
 use Rattle.gate_config.proofs.CheckSteps.{pass_both, fails_early, fails_late, flat_map-map}
@@ -30,6 +30,7 @@ pub record IsRead (document : Members) (hosts : List Value) : Type 0 where
   pub pages : Passes (key_check document Pages)
   pub limits : AllPass (map (key_check document) limit_keys)
   pub tables : tables_or_none (value_at document Host) ≡ Some (map view hosts)
+  pub workers : Passes (key_check document Workers)
 
 own_keys_pass : (document : Members) (hosts : List Value) → IsRead document hosts → AllPass (table_checks document_keys document)
 own_keys_pass document hosts read = (
@@ -40,11 +41,46 @@ own_keys_pass document hosts read = (
       read.operators,
       (
         read.pages,
-        pass_both (map (key_check document) limit_keys) (key_check document Host ∷ []) read.limits (ap (bad_unless Host) read.tables, tt),
+        pass_both (map (key_check document) limit_keys) (key_check document Host ∷ key_check document Workers ∷ []) read.limits
+            (ap (bad_unless Host) read.tables, (read.workers, tt)),
       ),
     ),
   ),
 )
+
+-- the first of the document's own keys that is not good is one of its limits, or its hosts, or its workers
+pub own_fails : (document : Members) (fault : ConfigFault) → least_unknown document_keys document ≡ None
+    → Passes (key_check document Agents) → Passes (key_check document Operators) → Passes (key_check document Pages)
+    → FirstFails (map (key_check document) limit_keys ++ key_check document Host ∷ key_check document Workers ∷ []) fault
+    → FirstFails (document_checks document) fault
+own_fails document fault known agents operators pages fails =
+    fails_early (table_checks document_keys document) _ fault
+    (inr (ap (option_map UnknownKey) known, inr (agents, inr (operators, inr (pages, fails)))))
+
+pub limits_fail : (document : Members) (fault : ConfigFault) → least_unknown document_keys document ≡ None
+    → Passes (key_check document Agents) → Passes (key_check document Operators) → Passes (key_check document Pages)
+    → FirstFails (map (key_check document) limit_keys) fault → FirstFails (document_checks document) fault
+limits_fail document fault known agents operators pages fails =
+    own_fails document fault known agents operators pages
+    (fails_early (map (key_check document) limit_keys) (key_check document Host ∷ key_check document Workers ∷ []) fault fails)
+
+pub host_key_fails : (document : Members) (fault : ConfigFault) → least_unknown document_keys document ≡ None
+    → Passes (key_check document Agents) → Passes (key_check document Operators) → Passes (key_check document Pages)
+    → AllPass (map (key_check document) limit_keys) → fault ≡ BadValue Host → tables_or_none (value_at document Host) ≡ None
+    → FirstFails (document_checks document) fault
+host_key_fails document fault known agents operators pages limits reported bad =
+    own_fails document fault known agents operators pages
+    (fails_late (map (key_check document) limit_keys) (key_check document Host ∷ key_check document Workers ∷ []) fault limits
+    (inl (ap (bad_unless Host) bad ∙ ap Some (sym reported))))
+
+pub workers_fail : (document : Members) (hosts : List Value) (fault : ConfigFault) → least_unknown document_keys document ≡ None
+    → Passes (key_check document Agents) → Passes (key_check document Operators) → Passes (key_check document Pages)
+    → AllPass (map (key_check document) limit_keys) → tables_or_none (value_at document Host) ≡ Some (map view hosts)
+    → fault ≡ BadValue Workers → number_or 1 63 1 (value_at document Workers) ≡ None → FirstFails (document_checks document) fault
+workers_fail document hosts fault known agents operators pages limits tables reported bad =
+    own_fails document fault known agents operators pages
+    (fails_late (map (key_check document) limit_keys) (key_check document Host ∷ key_check document Workers ∷ []) fault limits
+    (inr (ap (bad_unless Host) tables, inl (ap (bad_unless Workers) bad ∙ ap Some (sym reported)))))
 
 hosts_same : (document : Members) (hosts : List Value) → tables_or_none (value_at document Host) ≡ Some (map view hosts)
     → flat_map (λ row. host_checks (as_table (view row))) hosts ≡ flat_map (λ row. host_checks (as_table row)) (rows_at document Host)

@@ -7,7 +7,7 @@ use Rattle.gate_config.specs.declared.config.Address.{Address}
 use Rattle.gate_config.specs.declared.limits.Limits.{Limits}
 use Rattle.gate_config.specs.declared.config.Config.{Config}
 use Rattle.gate_config.specs.declared.key.Key.{Key}
-use Rattle.gate_config.specs.declared.key.Key.TheVariants.{Agents, Operators, Pages, Capacity, GreatestAge, Items, Limit, Reads, Sessions}
+use Rattle.gate_config.specs.declared.key.Key.TheVariants.{Agents, Operators, Pages, Capacity, GreatestAge, Items, Limit, Reads, Sessions, Workers}
 use Rattle.gate_config.specs.Check.{AllPass}
 use Rattle.gate_config.specs.Document.{text_at, number_at, document_checks, object_lines}
 
@@ -38,4 +38,5 @@ pub record IsConfigOf (document : Members) (config : Config) : Type 0 where
   pub operators : IsAddressOf document Operators config.operators
   pub pages : IsAddressOf document Pages config.pages
   pub limits : AreLimitsOf document config.limits
+  pub workers : number_at document Workers ≡ Some config.workers
   pub table : config.table ≡ object_lines document

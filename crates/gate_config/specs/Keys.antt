@@ -1,7 +1,7 @@
 -- The keys of a configuration: their names, and what each may hold (`kind_of`). Own rule.
 use Rattle.std.specs.Prelude.{ℕ, List, [], ◌∷◌, codes}
 use Rattle.gate_config.specs.declared.key.Key.{Key}
-use Rattle.gate_config.specs.declared.key.Key.TheVariants.{Agents, Operators, Pages, Capacity, GreatestAge, Items, Limit, Reads, Sessions, Host, Name, Freshness, Service}
+use Rattle.gate_config.specs.declared.key.Key.TheVariants.{Agents, Operators, Pages, Capacity, GreatestAge, Items, Limit, Reads, Sessions, Host, Name, Freshness, Service, Workers}
 
 -- the key as a document has it
 abbrev pub name_of : Key → List ℕ
@@ -18,6 +18,7 @@ name_of Host = codes "host"
 name_of Name = codes "name"
 name_of Freshness = codes "freshness"
 name_of Service = codes "service"
+name_of Workers = codes "workers"
 
 -- what a key may hold
 pub data Kind : Type 0 where
@@ -44,11 +45,13 @@ kind_of Host = tables
 kind_of Name = name
 kind_of Freshness = number 0 4294967295 0
 kind_of Service = tables
+kind_of Workers = number 1 63 1
 
 -- the keys of a document, in the order in which their values are tested
 abbrev pub document_keys : List Key
 document_keys =
-    Agents ∷ Operators ∷ Pages ∷ Capacity ∷ GreatestAge ∷ Items ∷ Limit ∷ Reads ∷ Sessions ∷ Host ∷ []
+    Agents ∷ Operators ∷ Pages ∷ Capacity ∷ GreatestAge ∷ Items ∷ Limit ∷ Reads ∷ Sessions ∷ Host
+    ∷ Workers ∷ []
 
 -- the keys of a host's table, in that order
 abbrev pub host_keys : List Key

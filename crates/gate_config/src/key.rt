@@ -19,6 +19,7 @@ pub enum Key {
     Name,
     Freshness,
     Service,
+    Workers,
 }
 
 impl Key {
@@ -40,6 +41,7 @@ impl Key {
             Key::Name => "name",
             Key::Freshness => "freshness",
             Key::Service => "service",
+            Key::Workers => "workers",
         }
     }
 }

@@ -7,9 +7,11 @@ mod fault;
 mod key;
 mod limits;
 mod objects;
+mod reading;
 mod values;
 
-pub use config::{Address, CONFIG_BYTES, Config, read_config};
+pub use config::{Address, Config};
 pub use fault::{ConfigFault, KeyText};
 pub use key::Key;
 pub use limits::Limits;
+pub use reading::{CONFIG_BYTES, read_config};

@@ -1,8 +1,8 @@
-ghost use Rattle.std.specs.Prelude.{◌≡◌, ℕ, List, map, IfErr, IfOk};
+ghost use Rattle.std.specs.Prelude.{◌≡◌, map, IfErr, IfOk, vec_len};
 ghost use Rattle.gate_reader.specs.Sink.{sink_state};
 ghost use Rattle.gate_daemon.specs.Faults.{IsGatewayFault};
 ghost use Rattle.gate_setup.specs.Fault.{fault_in};
-ghost use Rattle.gate_setup.specs.Setup.{Configures};
+ghost use Rattle.gate_setup.specs.Setup.{AreBoundAs};
 ghost use Rattle.gate_serve.specs.Serve.{ServeEnds, AreOfClients, IsServeRun};
 ghost use Rattle.gate_serve.specs.inner.Serving.{RunsOn};
 
@@ -13,16 +13,16 @@ use gate_model::ObjectTable;
 use gate_reader::{SessionLimits, Sink};
 use gate_setup::{Listeners, ServeFault, announce, configuration, listen};
 use gate_worker::{Accepted, Ending, NoHold, SystemWatch, WorkerLimits};
-use std::alloc::Global;
+use std::alloc::{AllocError, Global};
 use std::fs::Files;
 use std::net::{Net, TcpListener, TcpStream};
 use std::sync::Wait;
 use std::thread::Threads;
 use std::time::Clock;
 
-// What a gateway of one worker of packets is run with.
-fn gateway_config(limits: Limits, table: ObjectTable) -> gate_daemon::Config
-    ensures workers { result.workers ≡ 1 }
+// What a gateway is run with.
+fn gateway_config(workers: u32, limits: Limits, table: ObjectTable) -> gate_daemon::Config
+    ensures workers { result.workers ≡ workers }
     ensures capacity { result.capacity ≡ limits.capacity }
     ensures limit { result.limit ≡ limits.limit }
     ensures sessions { result.worker.sessions ≡ limits.sessions }
@@ -32,7 +32,7 @@ fn gateway_config(limits: Limits, table: ObjectTable) -> gate_daemon::Config
     ensures table { result.table ≡ table }
 {
     gate_daemon::Config {
-        workers: 1,
+        workers,
         capacity: limits.capacity as usize,
         limit: limits.limit,
         worker: WorkerLimits {
@@ -54,37 +54,49 @@ fn post<C>(connections: C) -> Post<C, NoHold> {
     }
 }
 
+// A post for each of these listeners, of workers of packets.
+fn posts_of<'a, R>(
+    rt: &'a R,
+    alloc: Global,
+    mut listeners: Vec<TcpListener>,
+    ending: &'a Ending,
+) -> Result<Vec<Post<Accepted<'a, R>, NoHold>>, AllocError>
+    ensures { IfOk result (λ posts. vec_len posts ≡ vec_len listeners) }
+{
+    let mut posts = Vec::with_capacity(alloc, listeners.len())?;
+    while let Some(listener) = listeners.pop() {
+        posts.push_reserved(post(Accepted::of_agents(rt, listener, ending)));
+    }
+    Ok(posts)
+}
+
 // Runs a gateway on these listeners until it is closed.
 fn run<R: Net<Listener = TcpListener, Stream = TcpStream> + Threads + Wait + Clock + Sync>(
     rt: &R,
     alloc: Global,
-    limits: Limits,
-    table: ObjectTable,
+    config: Config,
     listeners: Listeners,
 ) -> Result<Finished, GatewayFault>
+    requires workers { vec_len listeners.agents.listeners ≡ config.workers }
     ensures clients { IfOk result (λ finished.
-        AreOfClients finished.closed.applier.records
+        AreOfClients config.workers finished.closed.applier.records
         (map (λ pair. (pair.0, pair.1.items)) finished.reports.items)) }
-    ensures table { IfOk result (λ finished. finished.closed.applier.table ≡ table) }
-    ensures limit { IfOk result (λ finished. finished.closed.applier.limit ≡ limits.limit) }
-    ensures fault { IfErr result (IsGatewayFault 1 limits.capacity limits.limit table) }
+    ensures table { IfOk result (λ finished. finished.closed.applier.table ≡ config.table) }
+    ensures limit { IfOk result (λ finished. finished.closed.applier.limit ≡ config.limits.limit) }
+    ensures fault { IfErr result
+        (IsGatewayFault config.workers config.limits.capacity config.limits.limit config.table) }
 {
     let ending = Ending::new();
-    let Ok(mut posts) = Vec::with_capacity(alloc, 1) else {
-        drop(listeners);
-        drop(table);
-        return Err(GatewayFault::OutOfMemory);
-    };
     let Listeners {
         agents,
         operators,
         pages,
     } = listeners;
-    posts.push_reserved(post(Accepted::of_agents(rt, agents.listener, &ending)));
+    let posts = posts_of(rt, alloc, agents.listeners, &ending)?;
     run_gateway(
         rt,
         alloc,
-        gateway_config(limits, table),
+        gateway_config(config.workers, config.limits, config.table),
         posts,
         post(Accepted::of_operators(rt, operators.listener, &ending)),
         Accepted::of_readers(rt, pages.listener, &ending),
@@ -101,13 +113,15 @@ fn serve_on<
 >(
     rt: &R,
     alloc: Global,
-    limits: Limits,
-    table: ObjectTable,
+    config: Config,
     listeners: Listeners,
     output: &mut W,
 ) -> Result<(), ServeFault>
+    requires bound { AreBoundAs config
+        listeners.agents.address listeners.operators.address listeners.pages.address }
+    requires workers { vec_len listeners.agents.listeners ≡ config.workers }
     ensures { let state = sink_state W.contents W.pending W.failures in
-        RunsOn table limits.limit (state output.old) (state output.new) (fault_in result) }
+        RunsOn config (state output.old) (state output.new) (fault_in result) }
 {
     match announce(
         alloc,
@@ -117,41 +131,22 @@ fn serve_on<
         output,
     ) {
         Ok(()) => {
-            let ran = run(rt, alloc, limits, table, listeners);
+            let ran = run(rt, alloc, config, listeners);
             end(alloc, ran, output)
         }
         Err(fault) => {
             drop(listeners);
-            drop(table);
+            drop(config);
             Err(fault)
         }
     }
 }
 
-// Serves as a configuration says.
-fn serve_config<
-    R: Net<Listener = TcpListener, Stream = TcpStream> + Threads + Wait + Clock + Sync,
-    W: Sink,
->(rt: &R, alloc: Global, config: Config, output: &mut W) -> Result<(), ServeFault>
-    ensures { let state = sink_state W.contents W.pending W.failures in
-        (text : List ℕ) → Configures text config
-        → ServeEnds (state output.old) (state output.new) (fault_in result) }
-{
-    let Config {
-        agents,
-        operators,
-        pages,
-        limits,
-        table,
-    } = config;
-    let listeners = listen(rt, agents, operators, pages)?;
-    serve_on(rt, alloc, limits, table, listeners, output)
-}
-
-/// Runs the daemon as the file of this path configures it, with one worker of packets, until an
-/// operator shuts it down: it binds the addresses of agents, operators and pages, in this order, and
-/// prints them as they are bound, each on a line. In the end it prints the log page, also where not
-/// all that was queued could be applied.
+/// Runs the daemon as the file of this path configures it, until an operator shuts it down: it
+/// binds the addresses of agents, operators and pages, in this order, and prints them as they are
+/// bound, each on a line. As many workers as are configured serve packets side by side, of clients 1,
+/// 2 and so on; the operator is the client after them. In the end it prints the log page, also where
+/// not all that was queued could be applied.
 ///
 /// Unreadable, Config and Bind come before anything is printed: the file can't be read, it
 /// configures nothing, or an address can't be bound. LogFull is an item that finds the log full: the
@@ -167,7 +162,13 @@ pub fn serve<
         ServeEnds (state output.old) (state output.new) (fault_in result) }
 {
     let config = configuration(rt, alloc, path)?;
-    serve_config(rt, alloc, config, output)
+    match listen(rt, alloc, &config) {
+        Ok(listeners) => serve_on(rt, alloc, config, listeners, output),
+        Err(fault) => {
+            drop(config);
+            Err(fault)
+        }
+    }
 }
 
 /// Runs the daemon as `serve` does, reports what stops it in one line on `errors`, and returns the

@@ -1,7 +1,8 @@
 -- What is known of a configuration, of addresses, and of a step that fails before a daemon serves. Of its file and of its
--- sockets nothing is known: a file holds some bytes, and a socket is bound to some address.
+-- sockets nothing is known: a file holds some bytes, and a socket reports an address of its own.
 use Rattle.std.specs.Prelude.{◌≡◌, ◌≢◌, ◌⊎◌, ◌<◌, ◌≤◌, ℕ, List, ◌++◌, codes, length}
 use Rattle.std.specs.declared.net.socket_addr.SocketAddr.{SocketAddr}
+use Rattle.std.specs.Net.Socket.{socket_ip, socket_port}
 use Rattle.std.specs.Net.Text.{socket_text}
 use Rattle.toml.specs.Data.{Members}
 use Rattle.gate_reader.specs.Sink.{SinkState, FailsOnce}
@@ -48,6 +49,18 @@ abbrev pub IsAddress : List ℕ → Type 0
 IsAddress address =
     (text : List ℕ) × (config : Config) × Configures text config × IsAddressIn config address
 
+-- where this address was configured, a socket is bound to that one: it is the same, but a port of 0, for which the
+-- system chose another
+pub record IsBoundAs (configured address : SocketAddr) : Type 0 where
+  pub ip : socket_ip address ≡ socket_ip configured
+  pub port : socket_port configured ≢ 0 → socket_port address ≡ socket_port configured
+
+-- the three addresses are those of the configuration, as they are bound
+abbrev pub AreBoundAs : Config → SocketAddr → SocketAddr → SocketAddr → Type 0
+AreBoundAs config agents operators pages =
+    IsBoundAs config.agents.socket agents × IsBoundAs config.operators.socket operators
+    × IsBoundAs config.pages.socket pages
+
 -- the line of an address
 abbrev pub address_line : List ℕ → SocketAddr → List ℕ
 address_line name address = name ++ socket_text address ++ codes "\n"
@@ -65,9 +78,10 @@ IsConfigEnd (fault.Config reported) = IsFaulty reported
 IsConfigEnd OutOfMemory = Unit {0}
 IsConfigEnd _ = ⊥
 
--- an address can't be bound, for which this holds
+-- an address can't be bound, for which this holds, or memory ran out
 abbrev pub IsBindEnd : (List ℕ → Type 0) → ServeFault → Type 0
 IsBindEnd P (Bind address) = P address
+IsBindEnd P OutOfMemory = Unit {0}
 IsBindEnd P _ = ⊥
 
 -- a write failed, or memory ran out for what was to be written

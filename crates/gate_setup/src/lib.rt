@@ -11,5 +11,5 @@ mod reporting;
 pub use announcing::{announce, print};
 pub use configuring::configuration;
 pub use fault::ServeFault;
-pub use listening::{Bound, Listeners, listen};
+pub use listening::{Bound, Listeners, Shared, listen};
 pub use reporting::{report_line, report_text};

@@ -1,6 +1,6 @@
 //! Reads a configuration on standard input, and prints what it configures in one line: the three
-//! addresses, the six limits and the lines of the object table, each `HOST;SERVICE;THRESHOLD`; or why
-//! it configures nothing.
+//! addresses, the six limits, how many workers, and the lines of the object table, each
+//! `HOST;SERVICE;THRESHOLD`; or why it configures nothing.
 #![tactic(auto)]
 
 use gate_config::{Address, CONFIG_BYTES, Config, ConfigFault, read_config};
@@ -40,13 +40,14 @@ fn show_config(config: &Config, output: &mut impl Write) -> io::Result<()> {
     let limits = config.limits;
     write!(
         output,
-        "{} {} {} {} {} {}",
+        "{} {} {} {} {} {} {}",
         limits.capacity,
         limits.greatest_age,
         limits.items,
         limits.limit,
         limits.reads,
-        limits.sessions
+        limits.sessions,
+        config.workers
     )?;
     show_objects(config, output)
 }

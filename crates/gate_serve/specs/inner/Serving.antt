@@ -1,6 +1,5 @@
 -- Only proofs and private functions use this: how the steps of a daemon fail.
-use Rattle.std.specs.Prelude.{◌≡◌, ◌⊎◌, ◌≤◌, ℕ, List, length, Option, Some, None, Result, Ok, Err}
-use Rattle.gate_model.specs.declared.object.ObjectLine.{ObjectLine}
+use Rattle.std.specs.Prelude.{◌≡◌, ◌⊎◌, ◌≤◌, length, Option, Some, None, Result, Ok, Err}
 use Rattle.gate_reader.specs.Sink.{SinkState, Delivers, FailsOnce}
 use Rattle.gate_applier.specs.Applier.{ApplierView}
 use Rattle.gate_queue.specs.declared.drained_close.CloseAllCause.{CloseAllCause}
@@ -8,6 +7,7 @@ use Rattle.gate_queue.specs.declared.drained_close.CloseAllCause.TheVariants as 
 use Rattle.gate_daemon.specs.declared.gateway.Finished.{Finished}
 use Rattle.gate_daemon.specs.declared.gateway.GatewayFault.{GatewayFault}
 use Rattle.gate_daemon.specs.declared.gateway.GatewayFault.TheVariants as gateway_fault
+use Rattle.gate_config.specs.declared.config.Config.{Config}
 use Rattle.gate_setup.specs.declared.fault.ServeFault.{ServeFault}
 use Rattle.gate_setup.specs.declared.fault.ServeFault.TheVariants.{LogFull, OutOfMemory, Spawn, WriteFault}
 use Rattle.gate_setup.specs.Setup.{IsWriteEnd}
@@ -47,12 +47,12 @@ IsRunEnd (Err (gateway_fault.CloseAll gate drain reports)) before after found =
     IsCloseEnd drain.cause drain.applier before after found
 IsRunEnd (Err _) before after found = IsLoglessEnd before after found
 
--- a daemon of these objects, whose log has this limit, ended without a fault or with this one
-abbrev pub RunsOn : List ObjectLine → ℕ → SinkState → SinkState → Option ServeFault → Type 0
-RunsOn table limit before after None = IsRun table limit before after
-RunsOn table limit before after (Some LogFull) = IsFull table limit before after
-RunsOn table limit before after (Some OutOfMemory) =
-    (after ≡ before) ⊎ FailsOnce before after ⊎ IsStarved table limit before after
-RunsOn table limit before after (Some Spawn) = IsStopped table limit before after
-RunsOn table limit before after (Some WriteFault) = FailsOnce before after
-RunsOn table limit before after (Some _) = ⊥
+-- a daemon of this configuration ended without a fault or with this one
+abbrev pub RunsOn : Config → SinkState → SinkState → Option ServeFault → Type 0
+RunsOn config before after None = IsRun config before after
+RunsOn config before after (Some LogFull) = IsFull config before after
+RunsOn config before after (Some OutOfMemory) =
+    (after ≡ before) ⊎ FailsOnce before after ⊎ IsStarved config before after
+RunsOn config before after (Some Spawn) = IsStopped config before after
+RunsOn config before after (Some WriteFault) = FailsOnce before after
+RunsOn config before after (Some _) = ⊥

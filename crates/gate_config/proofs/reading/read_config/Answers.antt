@@ -1,5 +1,5 @@
 use Rattle.toml.specs.View.{table_view}
-use Rattle.gate_config.proofs.config.read_config.Goals as goal
+use Rattle.gate_config.proofs.reading.read_config.Goals as goal
 
 pub returns-clause-not_toml : goal.returns-clause-not_toml
 returns-clause-not_toml c =
