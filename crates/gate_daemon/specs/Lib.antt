@@ -1,3 +1,4 @@
 pub mod Applying
+pub mod Boards
 pub mod Faults
 pub mod inner

@@ -1,2 +1,3 @@
 pub mod Collecting
 pub mod Opening
+pub mod Publishing

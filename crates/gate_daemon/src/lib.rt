@@ -4,6 +4,7 @@
 #![tactic(auto)]
 
 mod applying;
+mod boards;
 mod collected;
 mod gateway;
 mod opening;
