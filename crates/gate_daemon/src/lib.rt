@@ -4,6 +4,7 @@
 #![tactic(auto)]
 
 mod applying;
+mod boards;
 mod closing;
 mod collected;
 mod crew;
