@@ -12,3 +12,5 @@ mod downtime;
 mod objects;
 #[cfg(test)]
 mod pages;
+#[cfg(test)]
+mod services;

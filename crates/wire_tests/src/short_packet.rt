@@ -1,7 +1,7 @@
 use gate_model::Moment;
 use gate_packet::{
-    Cutter, Packet, PacketFault, SHORT_PACKET_SIZE, crc32, decode_block, decode_short, encode,
-    encode_short, fits_short,
+    Block, Cutter, Packet, PacketFault, SHORT_PACKET_SIZE, crc32, decode_block, decode_short,
+    encode, encode_short, fits_short, round_trip_short, split_block,
 };
 use std::alloc::Global;
 use std::test::Fail;
@@ -136,6 +136,33 @@ fn an_output_of_at_most_511_bytes_fits_a_short_packet(rt: HostRuntime) {
     }
 }
 
+fn is_read_again(alloc: Global, sent: &Packet) -> bool {
+    if !fits_short(sent) {
+        return false;
+    }
+    let read = round_trip_short(alloc, sent, Moment(1000), 30);
+    let same = match &read {
+        Ok(packet) => *packet == *sent,
+        Err(_) => false,
+    };
+    drop(read);
+    same
+}
+
+fn comes_back(alloc: Global, output: &[u8]) -> bool {
+    let Some(sent) = new_packet(alloc, output) else {
+        return false;
+    };
+    let same = is_read_again(alloc, &sent);
+    drop(sent);
+    same
+}
+
+#[test]
+fn the_longest_output_of_a_short_packet_is_read_as_it_was_written(rt: HostRuntime) {
+    assert!(rt; comes_back(rt.alloc(), &[b'a'; 511]));
+}
+
 // Whether the bytes with this bit flipped have the fault of a version or of a check word.
 fn is_found(alloc: Global, bytes: &[u8; SHORT_PACKET_SIZE], offset: usize, bit: u8) -> bool {
     let mut flipped = *bytes;
@@ -211,5 +238,18 @@ fn packets_of_both_lengths_are_cut_out_of_one_stream(rt: HostRuntime) -> Result<
     let mut cutter = Cutter::new(rt.alloc());
     cutter.feed(&stream)?;
     assert!(rt; is_cut(rt.alloc(), &mut cutter, 3));
+    Ok(())
+}
+
+fn first_block(bytes: &[u8]) -> Option<Block> {
+    let (block, _) = split_block(bytes)?;
+    Some(block.to_block())
+}
+
+#[test]
+fn a_short_packet_is_the_first_block_of_its_stream(rt: HostRuntime) -> Result<(), Fail> {
+    let short = bytes_sent(rt.alloc())?;
+    let stream = stream(rt.alloc(), b"").ok_or("no stream")?;
+    assert!(rt; first_block(&stream) == Some(Block::Short(short)));
     Ok(())
 }
