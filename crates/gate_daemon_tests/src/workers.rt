@@ -1,9 +1,10 @@
 ghost use Rattle.std.specs.Prelude.{◌≡◌, []};
 
 use crate::fakes::{AlwaysAt, Sending, limits, one_client, packet};
-use gate_queue::{Client, Gate, Taker};
+use gate_model::Moment;
+use gate_queue::{Client, Closer, Gate, Taker, open};
 use gate_reader::{Answer, Report, Stop};
-use gate_worker::{Cause, NoHold, WorkerEnd, WorkerLimits, run_worker};
+use gate_worker::{Cause, Connections, NoHold, WorkerEnd, WorkerLimits, run_worker};
 use std::alloc::Global;
 use std::sync::Wait;
 use std::time::Clock;
@@ -140,4 +141,58 @@ fn hands_on<R: Wait + Clock>(rt: &R, alloc: Global) -> bool {
 #[test]
 fn a_worker_hands_its_limits_on(rt: HostRuntime) {
     assert!(rt; hands_on(&rt, rt.alloc()));
+}
+
+// A connection that comes after the gate is closed.
+#[derive(Drop)]
+struct Late<'a> {
+    alloc: Global,
+    gate: &'a Gate,
+    closer: Closer,
+    bytes: &'a [u8],
+    ghost same: { closer.cell ≡ gate.now.cell },
+}
+
+impl<'a> Connections for Late<'a> {
+    type In = &'a [u8];
+
+    type Out = Vec<u8>;
+
+    fn next(&mut self) -> Option<(&'a [u8], Vec<u8>)> {
+        let _ = self.closer.close(self.alloc, self.gate, Moment(NOW));
+        Some((self.bytes, Vec::new(self.alloc)))
+    }
+}
+
+// Why a worker ends whose first connection comes after the close, and how many it served.
+fn comes_late<R: Wait + Clock>(rt: &R, alloc: Global) -> Option<(Cause, usize)> {
+    let bytes = packet(alloc)?;
+    let (gate, taker, closer, mut clients) = open(alloc, 1, 16).ok()?;
+    drop(taker);
+    let client = clients.pop()?;
+    let late = Late {
+        alloc,
+        gate: &gate,
+        closer,
+        bytes: &bytes,
+    };
+    let end = run_worker(
+        rt,
+        alloc,
+        &gate,
+        client,
+        None,
+        late,
+        &AlwaysAt(NOW),
+        NoHold,
+        limits(),
+    );
+    let left = (end.cause, end.reports.len());
+    drop(end);
+    Some(left)
+}
+
+#[test]
+fn a_connection_after_the_close_is_not_served(rt: HostRuntime) {
+    assert!(rt; comes_late(&rt, rt.alloc()) == Some((Cause::Closing, 0)));
 }
