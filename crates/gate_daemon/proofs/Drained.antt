@@ -1,19 +1,23 @@
--- What is known of a gateway whose queue couldn't be drained.
-use Rattle.std.proofs.Common.{◌≡◌, ℕ, zero, suc, ◌+◌, ◌≤◌, ◌<◌, ◌⊎◌, inl, inr, ⊎_elim, Bool, true, false, ◌||◌, eqb, eq-eqb, List, [], ◌∷◌, ◌++◌, map, refl, sym, ap, ◌∙◌, subst, arith}
+-- What is known of a gateway whose queue was drained, or couldn't be.
+use Rattle.std.proofs.Common.{◌≡◌, ℕ, zero, suc, ◌+◌, ◌≤◌, ◌<◌, ◌⊎◌, inl, inr, ⊎_elim, Bool, true, false, ◌||◌, eqb, eq-eqb, List, [], ◌∷◌, ◌++◌, length, Option, Some, None, refl, sym, ap, ◌∙◌, subst, arith}
+use Rattle.std.specs.Prelude.{All, IsSome}
 use Rattle.std.specs.List.{list_any}
 use Rattle.std.proofs.lemmas.Bool.{true≢false}
+use Rattle.gate_model.specs.declared.object.ObjectLine.{ObjectLine}
 use Rattle.gate_model.specs.declared.record.Moment.{Moment}
 use Rattle.gate_model.specs.declared.submission.Numbered.{Numbered}
-use Rattle.gate_core.specs.Merge.{of_client}
+use Rattle.gate_core.specs.Merge.{IsMerge}
 use Rattle.gate_queue.specs.declared.rule.EndedList.{EndedList}
 use Rattle.gate_queue.specs.declared.drained_close.CloseAllCause.{CloseAllCause}
 use Rattle.gate_queue.specs.declared.drained_close.CloseAllCause.TheVariants as cause
 use Rattle.gate_queue.specs.Client.{ClientState}
-use Rattle.gate_queue.specs.DrainedClose.{is_present, queued_by, items_of_records, CloseParts, IsCloseAllFault, IsStopped, LeavesSome}
-use Rattle.gate_worker.specs.Numbers.{item_numbers, numbers_after}
-use Rattle.gate_daemon.specs.Faults.{LosesNothing, IsDrainFault}
-use Rattle.gate_daemon.specs.inner.Collecting.{numbers_of}
-use Rattle.gate_daemon.proofs.Joined.{all_merged, reports_agree, map_twice}
+use Rattle.gate_queue.specs.Gate.{GateId}
+use Rattle.gate_queue.specs.DrainedClose.{is_present, queued_by, items_of_records, CloseParts, CanClose, IsCloseAllFault, IsLeastMissing, IsStopped, LeavesSome}
+use Rattle.gate_worker.specs.Numbers.{numbers_after}
+use Rattle.gate_daemon.specs.Answered.{HoldsAll}
+use Rattle.gate_daemon.specs.Faults.{LosesNothing, IsUndrained}
+use Rattle.gate_daemon.specs.inner.Collecting.{numbers_of, queued_for_each}
+use Rattle.gate_daemon.proofs.Merged.{holds_all}
 
 -- ---- no client is missing
 
@@ -46,48 +50,89 @@ any_number c (e ∷ es) = ap (λ b. eqb e.number c || b) (any_number c es)
 
 -- ---- what is left
 
-left_merged : {Y : Type 0} (workers : ℕ) (es : List ClientState) (rs : List Y) (number : Y → ℕ) (answered : Y → List ℕ) (log : List Numbered)
-    → map {B = ℕ × List ℕ} (λ e. (e.number, item_numbers e.queued)) es ≡ map (λ r. (number r, answered r)) rs
-    → numbers_of es ≡ suc workers ∷ numbers_after 0 workers
-    → LeavesSome (suc workers) (queued_by es []) log → LosesNothing (suc workers) (map number rs) (map answered rs) log
-left_merged workers es rs number answered log reported all leaves = record {
-  next = leaves.next;
-  rest = leaves.rest;
-  each = map_twice (λ c. item_numbers (of_client c (log ++ leaves.next ∷ leaves.rest))) number rs
-      ∙ reports_agree es rs (λ x. x.number) (λ x. x.queued) number answered (log ++ leaves.next ∷ leaves.rest) reported
-      (all_merged workers (log ++ leaves.next ∷ leaves.rest) es all leaves.merge);
-  items = leaves.merge.clients;
+-- some of the items are left, and the clients' ends are those that the gate was drained with
+left : (workers n : ℕ) (es : List ClientState) (queued : List (ℕ × List ℕ)) (log : List Numbered) → n ≡ workers + 1
+    → numbers_of es ≡ (workers + 1) ∷ numbers_after 0 workers → queued_for_each es ≡ queued
+    → All (λ (pair : ℕ × List ℕ). pair.1 ≡ numbers_after 0 (length pair.1)) (queued_for_each es)
+    → LeavesSome n (queued_by es []) log → LosesNothing workers queued log
+left workers n es queued log same all reported counted some = record {
+  next = some.next;
+  rest = some.rest;
+  holds = holds_all workers n es queued (log ++ some.next ∷ some.rest) same all reported counted some.merge;
 }
 
-stopped_left : {Y : Type 0} (workers : ℕ) (now : Moment) (old new : CloseParts) (rs : List Y) (number : Y → ℕ) (answered : Y → List ℕ)
-    → old.taker.ended ≡ []
-    → map {B = ℕ × List ℕ} (λ e. (e.number, item_numbers e.queued)) old.clients ≡ map (λ r. (number r, answered r)) rs
-    → numbers_of old.clients ≡ suc workers ∷ numbers_after 0 workers
-    → IsStopped (suc workers) now old new → LosesNothing (suc workers) (map number rs) (map answered rs) (items_of_records new.applier.records)
-stopped_left workers now old new rs number answered none reported all stopped =
-    left_merged workers old.clients rs number answered _ reported all
-    (subst (λ (o : List EndedList). LeavesSome (suc workers) (queued_by old.clients o) (items_of_records new.applier.records)) none stopped.left)
+-- the gate is drained with the ends of all clients, and its taker took none in and knows of the close
+pub record CanDrain (workers n : ℕ) (queued : List (ℕ × List ℕ)) (old : CloseParts) : Type 0 where
+  pub count : n ≡ workers + 1
+  pub none_in : old.taker.ended ≡ []
+  pub known_close : IsSome old.taker.known_close
+  pub all : numbers_of old.clients ≡ (workers + 1) ∷ numbers_after 0 workers
+  pub reported : queued_for_each old.clients ≡ queued
+  pub counted : All (λ (pair : ℕ × List ℕ). pair.1 ≡ numbers_after 0 (length pair.1)) (queued_for_each old.clients)
 
-pub drain_fault : {Y : Type 0} (why : CloseAllCause) (workers : ℕ) (now : Moment) (old new : CloseParts) (rs : List Y) (number : Y → ℕ) (answered : Y → List ℕ)
-    → old.taker.ended ≡ []
-    → map {B = ℕ × List ℕ} (λ e. (e.number, item_numbers e.queued)) old.clients ≡ map (λ r. (number r, answered r)) rs
-    → numbers_of old.clients ≡ suc workers ∷ numbers_after 0 workers
-    → IsCloseAllFault why (suc workers) now old new → IsDrainFault (suc workers) why (map number rs) (map answered rs) new.applier
-drain_fault (cause.Missing c) workers now old new rs number answered none reported all fault =
-    let missing : list_any (λ e. eqb e.number c) old.clients ≡ false = subst (λ (o : List EndedList). is_present old.clients o c ≡ false) none fault.0.missing in
-    let found = any_number c old.clients ∙ ap (list_any (λ k. eqb k c)) all ∙ any_client workers c fault.0.client.0 fault.0.client.1 in
+pub drained_all : (workers n : ℕ) (queued : List (ℕ × List ℕ)) (old : CloseParts) (log : List Numbered) → CanDrain workers n queued old
+    → IsMerge n (queued_by old.clients old.taker.ended) log → HoldsAll workers queued log
+drained_all workers n queued old log can merge =
+    holds_all workers n old.clients queued log can.count can.all can.reported can.counted
+    (subst (λ (o : List EndedList). IsMerge n (queued_by old.clients o) log) can.none_in merge)
+
+drained_left : (workers n : ℕ) (queued : List (ℕ × List ℕ)) (old : CloseParts) (log : List Numbered) → CanDrain workers n queued old
+    → LeavesSome n (queued_by old.clients old.taker.ended) log → LosesNothing workers queued log
+drained_left workers n queued old log can some =
+    left workers n old.clients queued log can.count can.all can.reported can.counted
+    (subst (λ (o : List EndedList). LeavesSome n (queued_by old.clients o) log) can.none_in some)
+
+-- no client is missing
+none_missing : (workers n c : ℕ) (queued : List (ℕ × List ℕ)) (old : CloseParts) → CanDrain workers n queued old → IsLeastMissing n old.clients old.taker.ended c → ⊥
+none_missing workers n c queued old can fault =
+    let missing : list_any (λ e. eqb e.number c) old.clients ≡ false = subst (λ (o : List EndedList). is_present old.clients o c ≡ false) can.none_in fault.missing in
+    let e : workers + 1 ≡ suc workers = omega arith in
+    let low : c ≤ suc workers = subst (λ (k : ℕ). c ≤ k) (can.count ∙ e) fault.client.1 in
+    let found = any_number c old.clients ∙ ap (list_any (λ k. eqb k c)) (can.all ∙ ap (λ k. k ∷ numbers_after 0 workers) e) ∙ any_client workers c fault.client.0 low in
     true≢false (sym found ∙ missing)
-drain_fault cause.NotClosing workers now old new rs number answered none reported all fault = tt
-drain_fault cause.LogFull workers now old new rs number answered none reported all fault =
-    (stopped_left workers now old new rs number answered none reported all fault.1, fault.2)
-drain_fault cause.OutOfMemory workers now old new rs number answered none reported all fault =
-    (stopped_left workers now old new rs number answered none reported all fault.1, fault.2)
 
--- ---- whose log it is
+-- the gate is closing
+is_known : (known : Option Moment) → IsSome known → known ≡ None → ⊥
+is_known (Some first) some none = absurd (cc)
+is_known None some none = true≢false (sym some)
 
-pub drain_same : (why : CloseAllCause) (n : ℕ) (now : Moment) (old new : CloseParts) → IsCloseAllFault why n now old new
-    → (new.applier.table ≡ old.applier.table) × (new.applier.limit ≡ old.applier.limit)
-drain_same (cause.Missing c) n now old new fault = (ap (λ p. p.applier.table) fault.1, ap (λ p. p.applier.limit) fault.1)
-drain_same cause.NotClosing n now old new fault = (ap (λ p. p.applier.table) fault.2, ap (λ p. p.applier.limit) fault.2)
-drain_same cause.LogFull n now old new fault = (fault.1.applied.table, fault.1.applied.limit)
-drain_same cause.OutOfMemory n now old new fault = (fault.1.applied.table, fault.1.applied.limit)
+-- what a drain that stopped returns
+stopped : (workers n : ℕ) (now : Moment) (queued : List (ℕ × List ℕ)) (old new : CloseParts) → CanDrain workers n queued old → IsStopped n now old new
+    → LosesNothing workers queued (items_of_records new.applier.records)
+    × ((log : List Numbered) → IsMerge n (queued_by new.clients new.taker.ended) log → HoldsAll workers queued log)
+    × ((log : List Numbered) → LeavesSome n (queued_by new.clients new.taker.ended) log → LosesNothing workers queued log)
+stopped workers n now queued old new can is =
+    let given : queued_by new.clients new.taker.ended ≡ queued_by old.clients old.taker.ended =
+        ap (λ (es : List ClientState). queued_by es new.taker.ended) is.clients ∙ ap (queued_by []) is.taken_in in (
+      drained_left workers n queued old _ can is.left,
+      λ log merge. drained_all workers n queued old log can (subst (λ (sent : ℕ → List Numbered). IsMerge n sent log) given merge),
+      λ log some. drained_left workers n queued old log can (subst (λ (sent : ℕ → List Numbered). LeavesSome n sent log) given some),
+    )
+
+pub undrained : (workers limit : ℕ) (table : List ObjectLine) (gate : GateId) (now : Moment) (why : CloseAllCause) (queued : List (ℕ × List ℕ)) (old new : CloseParts)
+    → CanDrain workers gate.limits.clients queued old → CanClose gate new → old.applier.table ≡ table → old.applier.limit ≡ limit
+    → IsCloseAllFault why gate.limits.clients now old new → IsUndrained workers limit table gate why new queued
+undrained workers limit table gate now (cause.Missing c) queued old new can again of_table of_limit fault =
+    absurd (none_missing workers gate.limits.clients c queued old can fault.0)
+undrained workers limit table gate now cause.NotClosing queued old new can again of_table of_limit fault =
+    absurd (is_known old.taker.known_close can.known_close fault.1.taker)
+undrained workers limit table gate now cause.LogFull queued old new can again of_table of_limit fault =
+    let t = stopped workers gate.limits.clients now queued old new can fault.1 in record {
+      clients = can.count;
+      can_close = again;
+      of_table = fault.1.applied.table ∙ of_table;
+      of_limit = fault.1.applied.limit ∙ of_limit;
+      fault = (t.0, fault.2);
+      again = t.1;
+      later = t.2;
+    }
+undrained workers limit table gate now cause.OutOfMemory queued old new can again of_table of_limit fault =
+    let t = stopped workers gate.limits.clients now queued old new can fault.1 in record {
+      clients = can.count;
+      can_close = again;
+      of_table = fault.1.applied.table ∙ of_table;
+      of_limit = fault.1.applied.limit ∙ of_limit;
+      fault = (t.0, fault.2);
+      again = t.1;
+      later = t.2;
+    }

@@ -1,3 +1,3 @@
 pub mod Clients
-pub mod Joined
+pub mod Merged
 pub mod Drained

@@ -1,3 +1,5 @@
+pub mod Answered
 pub mod Applying
+pub mod Boards
 pub mod Faults
 pub mod inner

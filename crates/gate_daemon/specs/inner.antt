@@ -1,2 +1,4 @@
 pub mod Collecting
+pub mod Joining
 pub mod Opening
+pub mod Publishing

@@ -1,14 +1,15 @@
-ghost use Rattle.std.specs.Prelude.{◌≡◌, ◌≢◌, [], ◌∷◌, ◌++◌, IsSome, length};
+ghost use Rattle.std.specs.Prelude.{◌≡◌, ◌≢◌, ◌≤◌, [], ◌∷◌, ◌++◌, IsSome, length};
 ghost use Rattle.gate_queue.specs.DrainedClose.{items_of_records};
 ghost use Rattle.gate_daemon.specs.declared.applying.ApplierStop.TheVariants.{Closing, LogFull};
 ghost use Rattle.gate_daemon.specs.Applying.{IsSameLog};
 ghost use Rattle.gate_daemon.specs.declared.applying.Step.TheVariants as step;
+ghost use Rattle.gate_daemon.specs.declared.boards.Found.TheVariants.{Item, Nothing};
 
+use crate::boards::{Found, LastBoard, show, show_last};
 use gate_applier::{Applier, PrepareCause, PrepareFault, Ready};
 use gate_model::{Moment, Numbered};
-use gate_pages::{Board, publish};
+use gate_pages::Board;
 use gate_queue::{Gate, Taker};
-use gate_worker::times::{BOARD_PAUSES, QUIET_PAUSES};
 use gate_worker::{Hold, Point, Watch, pause};
 use std::alloc::Global;
 use std::sync::{Mutex, Wait};
@@ -26,8 +27,7 @@ pub enum ApplierStop {
 // What one turn of the applier did.
 #[derive(Clone, Copy, Debug, PartialEq, Eq)]
 pub(crate) enum Step {
-    Applied,
-    Empty,
+    Took(Found),
     LogFull,
     OutOfMemory,
 }
@@ -68,13 +68,17 @@ fn apply_next<R: Wait, K: Watch, H: Hold>(
     ensures applied { items_of_records result.0.records ≡ taker.new.taken }
     ensures same { IsSameLog ready result.0 }
     ensures not_full { result.1 ≢ step.LogFull }
+    ensures moment { result.1 ≢ step.Took Item → result.0.moment ≡ ready.moment }
 {
     match taker.take(rt, gate) {
         Some(item) => {
             hold.pass(Point::BeforeApply);
-            (apply_item(ready, item, clock.read()), Step::Applied)
+            (
+                apply_item(ready, item, clock.read()),
+                Step::Took(Found::Item),
+            )
         }
-        None => (ready.give_back(), Step::Empty),
+        None => (ready.give_back(), Step::Took(Found::Nothing)),
     }
 }
 
@@ -93,6 +97,7 @@ fn turn<R: Wait, K: Watch, H: Hold>(
     ensures ended { taker.new.ended ≡ taker.old.ended }
     ensures applied { items_of_records result.0.records ≡ taker.new.taken }
     ensures same { IsSameLog applier result.0 }
+    ensures moment { result.1 ≢ step.Took Item → result.0.moment ≡ applier.moment }
     ensures log_full { result.1 ≡ step.LogFull
         → length result.0.records ≡ result.0.limit }
 {
@@ -102,84 +107,36 @@ fn turn<R: Wait, K: Watch, H: Hold>(
     }
 }
 
-// How the published board stands to what the applier shows.
-#[derive(Clone, Copy)]
-struct Shown {
-    // The board shows every record that was applied.
-    is_complete: bool,
-    // The board's moment, or that of the opening.
-    moment: Moment,
-    // In how many more turns without an item the next board may be made: it copies all that a page
-    // shows.
-    turns_left: u32,
-}
-
-// Publishes a board of what the applier shows, if there is memory for it.
-fn try_show<R: Wait>(rt: &R, alloc: Global, applier: &Applier, board: &Mutex<Board>) -> bool {
-    match Board::of(alloc, applier) {
-        Ok(next) => {
-            publish(&mut board.lock(rt), next);
-            true
-        }
-        Err(_) => false,
-    }
-}
-
-// The same, where that is the first board of a second. The next one waits until no item comes.
-fn show_busy<R: Wait>(
-    rt: &R,
-    alloc: Global,
-    applier: &Applier,
-    shown: Shown,
-    board: &Mutex<Board>,
-) -> Shown {
-    let moment = applier.moment();
-    Shown {
-        is_complete: moment.0 > shown.moment.0 && try_show(rt, alloc, applier, board),
-        moment,
-        turns_left: shown.turns_left.max(QUIET_PAUSES),
-    }
-}
-
-// Goes on to the clock's moment, and publishes a board where it would show something new and the
-// last one is old enough.
-fn show_idle<R: Wait>(
+// Publishes a board, where one is due, and rests where no item was found. While none is, the applier
+// goes on with the clock.
+fn show_turn<R: Wait + Clock, K: Watch>(
     rt: &R,
     alloc: Global,
     applier: &mut Applier,
-    now: Moment,
-    shown: Shown,
+    found: Found,
+    clock: &K,
+    last: LastBoard,
     board: &Mutex<Board>,
-) -> Shown
+) -> LastBoard
+    requires pauses { last.pauses_left ≤ 25 }
+    requires shown { found ≡ Nothing → applier.old.moment.0 ≤ last.moment.0 }
+    ensures pauses { result.pauses_left ≤ 25 }
+    ensures shown { applier.new.moment.0 ≤ result.moment.0 }
     ensures records { applier.new.records ≡ applier.old.records }
     ensures same { IsSameLog applier.old applier.new }
 {
-    if shown.turns_left > 0 {
-        return Shown {
-            turns_left: shown.turns_left - 1,
-            ..shown
-        };
-    }
-    if shown.is_complete && now.0 <= applier.moment().0 {
-        return shown;
-    }
-    applier.advance(now);
-    Shown {
-        is_complete: try_show(rt, alloc, applier, board),
-        moment: applier.moment(),
-        turns_left: BOARD_PAUSES,
-    }
-}
-
-// Publishes a board of what the applier shows, once there is memory for it.
-fn show_last<R: Wait + Clock>(rt: &R, alloc: Global, applier: &Applier, board: &Mutex<Board>) {
-    for _ in rt.forever() {
-        if try_show(rt, alloc, applier, board) {
-            return;
+    match found {
+        Found::Item => {
+            let now = applier.moment();
+            show(rt, alloc, applier, found, now, last, board)
         }
-        pause(rt);
+        Found::Nothing => {
+            let shown = show(rt, alloc, applier, found, clock.read(), last, board);
+            // No call waits for the queue to have an item, so the applier looks every 2 ms.
+            pause(rt);
+            shown
+        }
     }
-    unreachable!()
 }
 
 /// Takes and applies the items of the queue, one by one, each at the clock's moment or the
@@ -215,31 +172,31 @@ pub fn run_applier<R: Wait + Clock, K: Watch, H: Hold + Drop>(
 {
     let mut taker = taker;
     let mut applier = applier;
-    let mut shown = Shown {
-        is_complete: false,
+    let mut last = LastBoard {
+        records: 0,
         moment: applier.moment(),
-        turns_left: 0,
+        is_published: false,
+        pauses_left: 0,
     };
     for _ in rt.forever() {
         let (next, step) = turn(rt, gate, &mut taker, applier, clock, &mut hold);
         applier = next;
-        match step {
-            Step::Applied => shown = show_busy(rt, alloc, &applier, shown, board),
+        let found = match step {
             Step::LogFull => {
                 gate.stop_taking();
                 show_last(rt, alloc, &applier, board);
                 return (taker, applier, ApplierStop::LogFull);
             }
-            Step::OutOfMemory => pause(rt),
-            Step::Empty => {
+            Step::OutOfMemory => Found::Nothing,
+            Step::Took(Found::Item) => Found::Item,
+            Step::Took(Found::Nothing) => {
                 if taker.look(gate).is_some() {
                     return (taker, applier, ApplierStop::Closing);
                 }
-                shown = show_idle(rt, alloc, &mut applier, clock.read(), shown, board);
-                // No call waits for the queue to have an item, so the applier looks every 2 ms.
-                pause(rt);
+                Found::Nothing
             }
-        }
+        };
+        last = show_turn(rt, alloc, &mut applier, found, clock, last, board);
     }
     unreachable!()
 }

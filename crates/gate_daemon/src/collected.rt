@@ -1,6 +1,7 @@
-ghost use Rattle.std.specs.Prelude.{◌≡◌, ◌≤◌, ◌<◌, ◌++◌, [], ◌∷◌, length, map, IfOk};
-ghost use Rattle.gate_worker.specs.Numbers.{reported_numbers};
-ghost use Rattle.gate_daemon.specs.inner.Collecting.{queued_by_each};
+ghost use Rattle.std.specs.Prelude.{◌≡◌, ℕ, ◌≤◌, ◌<◌, ◌++◌, List, [], ◌∷◌, All, length, IfOk};
+ghost use Rattle.gate_worker.specs.Numbers.{numbers_after};
+ghost use Rattle.gate_daemon.specs.Answered.{queued_by_each};
+ghost use Rattle.gate_daemon.specs.inner.Collecting.{queued_for_each};
 
 use gate_queue::Ended;
 use gate_reader::Report;
@@ -8,13 +9,14 @@ use gate_worker::WorkerEnd;
 use std::alloc::{AllocError, Global};
 
 /// What joined workers returned: their clients, and the reports of each with its number. The items
-/// that were queued for each client are those that its reports answer with Queued.
+/// that were queued for each client are those that its reports answer with Queued, numbered from 1.
 #[derive(Drop)]
 pub(crate) struct Collected {
     pub(crate) ended: Vec<Ended>,
     pub(crate) reports: Vec<(u32, Vec<Report>)>,
-    pub(crate) ghost reported: { queued_by_each ended.items
-        ≡ map (λ pair. (pair.0, reported_numbers pair.1.items)) reports.items },
+    pub(crate) ghost reported: { queued_for_each ended.items ≡ queued_by_each reports.items },
+    pub(crate) ghost counted: { All (λ (pair : ℕ × List ℕ). pair.1 ≡ numbers_after 0 (length pair.1))
+        (queued_for_each ended.items) },
 }
 
 impl Collected {

@@ -1,26 +1,26 @@
-ghost use Rattle.std.specs.Prelude.{All, ◌≡◌, ℕ, ◌+◌, ◌≤◌, List, [], ◌∷◌, length, map, vec_len};
-ghost use Rattle.std.specs.Prelude.{IfOk, IfErr, None};
+ghost use Rattle.std.specs.Prelude.{◌≡◌, ℕ, ◌+◌, ◌≤◌, List, vec_len, IfOk, IfErr};
 ghost use Rattle.gate_model.specs.declared.object.ObjectLine.{ObjectLine};
-ghost use Rattle.gate_core.specs.Merge.{IsClient, of_client};
-ghost use Rattle.gate_queue.specs.Client.{client_state};
-ghost use Rattle.gate_queue.specs.Opening.{new_clients};
 ghost use Rattle.gate_queue.specs.DrainedClose.{items_of_records};
-ghost use Rattle.gate_worker.specs.Numbers.{item_numbers, numbers_after, reported_numbers};
+ghost use Rattle.gate_daemon.specs.Answered.{queued_by_each, HoldsAll};
 ghost use Rattle.gate_daemon.specs.Applying.{IsSameLog};
 ghost use Rattle.gate_daemon.specs.Faults.{IsGatewayFault};
 ghost use Rattle.gate_daemon.specs.declared.gateway.GatewayFault.TheVariants.{OutOfMemory};
-ghost use Rattle.gate_daemon.specs.inner.Collecting.{numbers_of, AreOf};
-ghost use Rattle.gate_daemon.specs.inner.Opening.{IsUnopened};
+ghost use Rattle.gate_daemon.specs.inner.Joining.{AreJoined};
+ghost use Rattle.gate_daemon.specs.inner.Opening.{AreParts, IsUnopened};
 
 use crate::collected::Collected;
+use crate::crew::Crew;
+use crate::joined::Joined;
 use crate::opening::{Opening, Parts, Unopened, open_parts};
+use crate::posts::Posts;
 use crate::settings::Config;
-use crate::starting::{Post, Unstarted};
-use crate::threads::{Crew, run_scoped};
-use gate_applier::{Applier, OpenCause};
+use crate::shared::Shared;
+use crate::starting::Unstarted;
+use crate::threads::{Start, run_scoped};
+use gate_applier::OpenCause;
 use gate_core::OpenFault;
 use gate_model::Moment;
-use gate_queue::{CloseAllFault, Closed, Gate, Taker, close_all};
+use gate_queue::{CloseAllFault, Closed, Gate, close_all};
 use gate_reader::Report;
 use gate_worker::{Connections, Hold, Wake, Watch, WorkerLimits};
 use std::alloc::{AllocError, Global};
@@ -100,34 +100,30 @@ fn fault_of(unopened: Unopened) -> GatewayFault
     }
 }
 
-// Drains the gate, once all clients are collected.
+// Drains the gate of so many workers of packets, once all threads are joined.
 fn finish<R: Wait>(
     rt: &R,
-    gate: Gate,
     workers: u32,
-    taker: Taker,
-    applier: Applier,
-    collected: Collected,
+    gate: Gate,
+    joined: Joined,
     now: Moment,
 ) -> Result<Finished, GatewayFault>
     requires workers { workers ≤ 63 }
     requires gate { gate.limits.clients ≡ workers + 1 }
-    requires taker { (taker.gate ≡ gate) × (taker.ended ≡ [])
-        × (items_of_records applier.records ≡ taker.taken) }
-    requires all { numbers_of collected.ended.items ≡ (workers + 1) ∷ numbers_after 0 workers }
-    requires gates { AreOf gate collected.ended.items }
-    ensures clients { IfOk result (λ finished. map (λ pair. pair.0) finished.reports.items
-        ≡ (workers + 1) ∷ numbers_after 0 workers) }
-    ensures answered { IfOk result (λ finished. let log = items_of_records (
-        finished.closed.applier.records) in
-        map (λ pair. item_numbers (of_client pair.0 log)) finished.reports.items
-        ≡ map (λ pair. reported_numbers pair.1.items) finished.reports.items) }
-    ensures items { IfOk result (λ finished. All (λ item. IsClient (workers + 1) item.client)
+    requires joined { AreJoined gate workers joined.applier joined }
+    ensures holds { IfOk result (λ finished. HoldsAll workers
+        (queued_by_each finished.reports.items)
         (items_of_records finished.closed.applier.records)) }
-    ensures same { IfOk result (λ finished. IsSameLog applier finished.closed.applier) }
-    ensures fault { IfErr result (λ fault.
-        (capacity : ℕ) → IsGatewayFault workers capacity applier.limit applier.table fault) }
+    ensures same { IfOk result (λ finished.
+        IsSameLog joined.applier finished.closed.applier) }
+    ensures fault { IfErr result (λ fault. (capacity : ℕ)
+        → IsGatewayFault workers capacity joined.applier.limit joined.applier.table fault) }
 {
+    let Joined {
+        taker,
+        applier,
+        collected,
+    } = joined;
     let Collected { ended, reports } = collected;
     match close_all(rt, &gate, taker, ended, applier, now) {
         Ok(closed) => Ok(Finished { closed, reports }),
@@ -150,39 +146,21 @@ fn run_opened<
     rt: &R,
     alloc: Global,
     parts: Parts,
-    workers: u32,
-    posts: Vec<Post<C, H>>,
-    operator: Post<C, H>,
-    pages: C,
+    posts: Posts<C, H>,
     clock: &K,
-    hold: H,
     wake: &W,
     limits: WorkerLimits,
+    workers: u32,
 ) -> Result<Finished, GatewayFault>
     requires workers { workers ≤ 63 }
-    requires posts { vec_len posts ≡ workers }
-    requires gate { parts.opening.gate.limits.clients ≡ workers + 1 }
-    requires taker { (parts.opening.taker.gate ≡ parts.opening.gate)
-        × (parts.opening.taker.ended ≡ [])
-        × (items_of_records parts.applier.records ≡ parts.opening.taker.taken) }
-    requires closer { parts.opening.closer.cell ≡ parts.opening.gate.cell }
-    requires clients { parts.opening.clients.items ≡ new_clients parts.opening.gate workers }
-    requires count { length parts.opening.clients.items ≡ workers }
-    requires last { parts.opening.last ≡ client_state parts.opening.gate (workers + 1) [] None }
-    requires none { parts.collected.ended.items ≡ [] }
-    requires room { (workers + 1 ≤ parts.collected.ended.cap)
-        × (workers + 1 ≤ parts.collected.reports.cap) }
-    ensures clients { IfOk result (λ finished. map (λ pair. pair.0) finished.reports.items
-        ≡ (workers + 1) ∷ numbers_after 0 workers) }
-    ensures answered { IfOk result (λ finished. let log = items_of_records (
-        finished.closed.applier.records) in
-        map (λ pair. item_numbers (of_client pair.0 log)) finished.reports.items
-        ≡ map (λ pair. reported_numbers pair.1.items) finished.reports.items) }
-    ensures items { IfOk result (λ finished. All (λ item. IsClient (workers + 1) item.client)
+    requires posts { vec_len posts.packets ≡ workers }
+    requires parts { AreParts workers parts }
+    ensures holds { IfOk result (λ finished. HoldsAll workers
+        (queued_by_each finished.reports.items)
         (items_of_records finished.closed.applier.records)) }
     ensures same { IfOk result (λ finished. IsSameLog parts.applier finished.closed.applier) }
-    ensures fault { IfErr result (λ fault.
-        (capacity : ℕ) → IsGatewayFault workers capacity parts.applier.limit parts.applier.table fault) }
+    ensures fault { IfErr result (λ fault. (capacity : ℕ)
+        → IsGatewayFault workers capacity parts.applier.limit parts.applier.table fault) }
 {
     let Parts {
         opening,
@@ -197,35 +175,37 @@ fn run_opened<
         clients,
         last,
     } = opening;
-    let crew = Crew {
-        clients,
-        posts,
-        operator: (last, operator),
-        collected,
+    let start = Start {
+        taker,
+        applier,
+        closer,
+        crew: Crew {
+            clients,
+            posts: posts.packets,
+            operator: last,
+            operator_post: posts.operator,
+            collected,
+        },
+        pages: posts.pages,
+        hold: posts.applier,
     };
-    match run_scoped(
+    let shared = Shared {
         rt,
         alloc,
-        &gate,
-        (taker, applier, closer),
-        crew,
-        pages,
+        gate: &gate,
         clock,
-        hold,
-        &board,
         wake,
         limits,
-    ) {
-        Ok((taker, applier, collected)) => {
-            finish(rt, gate, workers, taker, applier, collected, clock.read())
-        }
+    };
+    match run_scoped(&shared, start, &board) {
+        Ok(joined) => finish(rt, workers, gate, joined, clock.read()),
         Err(Unstarted) => Err(GatewayFault::Spawn),
     }
 }
 
 /// Runs a gateway until it is closed: a thread for each worker of packets, one for the operator's
-/// lines, one that applies and one that serves pages, around one queue. `posts` has the connections
-/// and the hold of each worker of packets. Client 1 is the first of them, and the operator is the
+/// lines, one that applies and one that serves pages, around one queue. Of the workers of packets,
+/// which are clients 1, 2 and so on, `posts` has as many as the configuration; the operator is the
 /// last client.
 ///
 /// Once the operator's worker has ended, the workers of packets are woken where it closed the gate,
@@ -235,8 +215,8 @@ fn run_opened<
 ///
 /// It fails where the queue or the applier can't be opened, where memory is missing at the start,
 /// where a thread can't be started (all others are ended then as above), and where `close_all`
-/// fails, which is never for a client that is missing. Where it fails with LogFull or OutOfMemory,
-/// nothing is lost: the log and the items that are left hold what the reports answer with Queued.
+/// fails with LogFull or OutOfMemory. Then nothing is lost: the log and the items that are left hold
+/// what the reports answer with Queued, and `close_all` may be called again with what is returned.
 /// It waits for all of its threads. Own rule.
 pub fn run_gateway<
     R: Threads + Wait + Clock + Sync,
@@ -248,27 +228,17 @@ pub fn run_gateway<
     rt: &R,
     alloc: Global,
     config: Config,
-    posts: Vec<Post<C, H>>,
-    operator: Post<C, H>,
-    pages: C,
+    posts: Posts<C, H>,
     clock: &K,
-    hold: H,
     wake: &W,
 ) -> Result<Finished, GatewayFault>
     requires workers { config.workers ≤ 63 }
-    requires posts { vec_len posts ≡ config.workers }
+    requires posts { vec_len posts.packets ≡ config.workers }
 
-    // Every client was joined.
-    ensures clients { IfOk result (λ finished. map (λ pair. pair.0) finished.reports.items
-        ≡ (config.workers + 1) ∷ numbers_after 0 config.workers) }
-    // The log holds for each client the items that its reports answer with Queued, in that order.
-    ensures answered { IfOk result (λ finished. let log = items_of_records (
-        finished.closed.applier.records) in
-        map (λ pair. item_numbers (of_client pair.0 log)) finished.reports.items
-        ≡ map (λ pair. reported_numbers pair.1.items) finished.reports.items) }
-    // It holds no others.
-    ensures items { IfOk result (λ finished. All
-        (λ item. IsClient (config.workers + 1) item.client)
+    // Every client was joined, and the log holds for each of them the items that its reports answer
+    // with Queued, numbered from 1, in that order, and no others.
+    ensures holds { IfOk result (λ finished. HoldsAll config.workers
+        (queued_by_each finished.reports.items)
         (items_of_records finished.closed.applier.records)) }
     // State and pages are what these records mean for the objects of the configuration.
     ensures table { IfOk result (λ finished. finished.closed.applier.table ≡ config.table) }
@@ -285,9 +255,7 @@ pub fn run_gateway<
         table,
     } = config;
     match open_parts(alloc, workers, capacity, limit, table, clock.read()) {
-        Ok(parts) => run_opened(
-            rt, alloc, parts, workers, posts, operator, pages, clock, hold, wake, worker,
-        ),
+        Ok(parts) => run_opened(rt, alloc, parts, posts, clock, wake, worker, workers),
         Err(unopened) => Err(fault_of(unopened)),
     }
 }

@@ -4,16 +4,22 @@
 #![tactic(auto)]
 
 mod applying;
+mod boards;
+mod closing;
 mod collected;
+mod crew;
 mod gateway;
+mod joined;
 mod opening;
+mod posts;
 mod settings;
+mod shared;
 mod showing;
 mod starting;
 mod threads;
 
 pub use applying::{ApplierStop, run_applier};
 pub use gateway::{Finished, GatewayFault, run_gateway};
+pub use posts::{Post, Posts};
 pub use settings::Config;
 pub use showing::run_pages;
-pub use starting::Post;

@@ -1,9 +1,7 @@
-ghost use Rattle.std.specs.Prelude.{◌≡◌, ℕ, ◌+◌, ◌≤◌, [], length, IfOk, IfErr, None};
-ghost use Rattle.gate_queue.specs.Client.{client_state};
-ghost use Rattle.gate_queue.specs.Opening.{new_clients};
+ghost use Rattle.std.specs.Prelude.{◌≡◌, ℕ, ◌≤◌, IfOk, IfErr};
 ghost use Rattle.gate_applier.specs.Applier.{opened};
 ghost use Rattle.gate_daemon.specs.declared.opening.Unopened.TheVariants.{OutOfMemory};
-ghost use Rattle.gate_daemon.specs.inner.Opening.{IsUnopened};
+ghost use Rattle.gate_daemon.specs.inner.Opening.{AreParts, IsOpening, IsUnopened};
 
 use crate::collected::Collected;
 use gate_applier::{Applier, OpenCause};
@@ -43,15 +41,7 @@ pub(crate) struct Opening {
 // Opens a gate for so many workers and the operator.
 fn open_gate(alloc: Global, workers: u32, capacity: usize) -> Result<Opening, Unopened>
     requires { workers ≤ 63 }
-    ensures gate { IfOk result (λ opening. opening.gate.limits.clients ≡ workers + 1) }
-    ensures taker { IfOk result (λ opening. (opening.taker.gate ≡ opening.gate)
-        × (opening.taker.ended ≡ []) × (opening.taker.taken ≡ [])) }
-    ensures closer { IfOk result (λ opening. opening.closer.cell ≡ opening.gate.cell) }
-    ensures clients { IfOk result (λ opening.
-        opening.clients.items ≡ new_clients opening.gate workers) }
-    ensures count { IfOk result (λ opening. length opening.clients.items ≡ workers) }
-    ensures last { IfOk result (λ opening.
-        opening.last ≡ client_state opening.gate (workers + 1) [] None) }
+    ensures opening { IfOk result (IsOpening workers) }
     ensures fault { IfErr result (λ fault. (limit : ℕ) → IsUnopened workers capacity limit fault) }
 {
     match open(alloc, workers + 1, capacity) {
@@ -115,20 +105,8 @@ pub(crate) fn open_parts(
     now: Moment,
 ) -> Result<Parts, Unopened>
     requires { workers ≤ 63 }
-    ensures gate { IfOk result (λ parts. parts.opening.gate.limits.clients ≡ workers + 1) }
-    ensures taker { IfOk result (λ parts. (parts.opening.taker.gate ≡ parts.opening.gate)
-        × (parts.opening.taker.ended ≡ []) × (parts.opening.taker.taken ≡ [])) }
-    ensures closer { IfOk result (λ parts.
-        parts.opening.closer.cell ≡ parts.opening.gate.cell) }
-    ensures clients { IfOk result (λ parts.
-        parts.opening.clients.items ≡ new_clients parts.opening.gate workers) }
-    ensures count { IfOk result (λ parts. length parts.opening.clients.items ≡ workers) }
-    ensures last { IfOk result (λ parts.
-        parts.opening.last ≡ client_state parts.opening.gate (workers + 1) [] None) }
+    ensures parts { IfOk result (AreParts workers) }
     ensures applier { IfOk result (λ parts. parts.applier ≡ opened table now limit) }
-    ensures none { IfOk result (λ parts. parts.collected.ended.items ≡ []) }
-    ensures room { IfOk result (λ parts. (workers + 1 ≤ parts.collected.ended.cap)
-        × (workers + 1 ≤ parts.collected.reports.cap)) }
     ensures fault { IfErr result (λ fault. IsUnopened workers capacity limit fault) }
 {
     let Ok(collected) = Collected::with_room(alloc, workers as usize + 1) else {

@@ -1,6 +1,8 @@
 ghost use Rattle.std.specs.Prelude.{◌≡◌};
 
-use gate_pages::{Board, status_page};
+use gate_applier::Applier;
+use gate_model::Moment;
+use gate_pages::{Board, publish, status_page};
 use gate_reader::Sink;
 use gate_worker::{Connections, pause};
 use std::alloc::{AllocError, Global};
@@ -34,6 +36,24 @@ fn write_page<O: Sink>(output: &mut O, page: &[u8]) {
     if output.put(page).is_ok() {
         let _ = output.deliver();
     }
+}
+
+// Publishes a board that is marked closing, so that the pages end with it.
+pub(crate) fn show_close<R: Wait + Clock>(
+    rt: &R,
+    alloc: Global,
+    applier: &Applier,
+    board: &Mutex<Board>,
+    moment: Moment,
+) {
+    for _ in rt.forever() {
+        if let Ok(next) = Board::of(alloc, applier) {
+            publish(&mut board.lock(rt), next.closing(moment));
+            return;
+        }
+        pause(rt);
+    }
+    unreachable!()
 }
 
 /// Writes the status page to each connection. It ends after the first connection that is served

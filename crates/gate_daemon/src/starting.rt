@@ -1,24 +1,18 @@
 ghost use Rattle.std.specs.Prelude.{◌≡◌, [], IfOk, IfSome};
-ghost use Rattle.gate_queue.specs.DrainedClose.{items_of_records};
 ghost use Rattle.gate_daemon.specs.Applying.{IsSameLog};
+ghost use Rattle.gate_daemon.specs.inner.Joining.{IsApplied};
 
 use crate::applying::{ApplierStop, run_applier};
+use crate::posts::Post;
+use crate::shared::Shared;
 use gate_applier::Applier;
 use gate_pages::Board;
 use gate_queue::{Client, Closer, Gate, Taker};
-use gate_worker::{Connections, Hold, Watch, WorkerEnd, WorkerLimits, run_worker};
-use std::alloc::Global;
+use gate_worker::{Connections, Hold, Watch, WorkerEnd, run_worker};
 use std::snapshot::Snapshot;
 use std::sync::{Mutex, Wait};
 use std::thread::{Promise, PromisedHandle, Scope, Threads};
 use std::time::Clock;
-
-/// A worker's connections, and its hold.
-#[derive(Drop)]
-pub struct Post<C, H> {
-    pub connections: C,
-    pub hold: H,
-}
 
 // No thread could be started.
 #[derive(Clone, Copy, Debug, PartialEq, Eq)]
@@ -46,24 +40,29 @@ pub(crate) fn start_worker<
     C: Connections + Send + Drop + 's,
     K: Watch + Sync,
     H: Hold + Send + Drop + 's,
+    W,
 >(
-    rt: &'s R,
-    alloc: Global,
+    shared: &Shared<'s, R, K, W>,
     scope: &Scope<'s, E>,
-    gate: &'s Gate,
     client: Client,
     closer: Option<Closer>,
     post: Post<C, H>,
-    clock: &'s K,
-    limits: WorkerLimits,
 ) -> Result<PromisedHandle<WorkerEnd, EndsClient<'s>>, Unstarted>
-    requires gate { client.gate ≡ gate.now }
-    requires closer { IfSome closer (λ c. c.cell ≡ gate.now.cell) }
+    requires gate { client.gate ≡ shared.now.gate.now }
+    requires closer { IfSome closer (λ c. c.cell ≡ shared.now.gate.now.cell) }
     requires fresh { client.queued ≡ [] }
-    ensures { IfOk result (λ handle. (handle.promise.gate.now ≡ gate.now)
+    ensures { IfOk result (λ handle. (handle.promise.gate.now ≡ shared.now.gate.now)
         × (handle.promise.number ≡ client.number)) }
 {
     let number = client.number();
+    let Shared {
+        rt,
+        alloc,
+        gate,
+        clock,
+        wake: _,
+        limits,
+    } = *shared;
     let Post { connections, hold } = post;
     let run = move || -> WorkerEnd
         requires { (client.gate ≡ gate.now) × IfSome closer (λ c. c.cell ≡ gate.now.cell)
@@ -97,12 +96,11 @@ pub(crate) struct KeepsLog<'a> {
 }
 
 impl<'a> Promise<(Taker, Applier, ApplierStop)> for KeepsLog<'a> {
-    ghost use Rattle.std.specs.Prelude.{◌≡◌, []};
-    ghost use Rattle.gate_queue.specs.DrainedClose.{items_of_records};
     ghost use Rattle.gate_daemon.specs.Applying.{IsSameLog};
+    ghost use Rattle.gate_daemon.specs.inner.Joining.{IsApplied};
 
-    ghost kept_by = { λ promise end. (end.0.gate ≡ promise.gate.now) × (end.0.ended ≡ [])
-        × (items_of_records end.1.records ≡ end.0.taken) × IsSameLog promise.before.value end.1 };
+    ghost kept_by = { λ promise end. IsApplied promise.gate.now end.0 end.1
+        × IsSameLog promise.before.value end.1 };
 }
 
 // Starts the applier.
@@ -112,29 +110,31 @@ pub(crate) fn start_applier<
     R: Threads + Wait + Clock + Sync,
     K: Watch + Sync,
     A: Hold + Send + Drop + 's,
+    W,
 >(
-    rt: &'s R,
-    alloc: Global,
+    shared: &Shared<'s, R, K, W>,
     scope: &Scope<'s, E>,
-    gate: &'s Gate,
     taker: Taker,
     applier: Applier,
-    clock: &'s K,
     hold: A,
     board: &'s Mutex<Board>,
 ) -> Result<PromisedHandle<(Taker, Applier, ApplierStop), KeepsLog<'s>>, Unstarted>
-    requires gate { taker.gate ≡ gate.now }
-    requires applied { items_of_records applier.records ≡ taker.taken }
-    requires fresh { taker.ended ≡ [] }
-    ensures { IfOk result (λ handle. (handle.promise.gate.now ≡ gate.now)
+    requires { IsApplied shared.now.gate.now taker applier }
+    ensures { IfOk result (λ handle. (handle.promise.gate.now ≡ shared.now.gate.now)
         × (handle.promise.before.value ≡ applier)) }
 {
     let before = Snapshot::of(&applier);
+    let Shared {
+        rt,
+        alloc,
+        gate,
+        clock,
+        wake: _,
+        limits: _,
+    } = *shared;
     let run = move || -> (Taker, Applier, ApplierStop)
-        requires { (taker.gate ≡ gate.now) × (items_of_records applier.records ≡ taker.taken)
-            × (taker.ended ≡ []) }
-        ensures { (result.0.gate ≡ gate.entry.now) × (result.0.ended ≡ [])
-            × (items_of_records result.1.records ≡ result.0.taken) × IsSameLog applier result.1 }
+        requires { IsApplied gate.now taker applier }
+        ensures { IsApplied gate.entry.now result.0 result.1 × IsSameLog applier result.1 }
     { run_applier(rt, alloc, gate, taker, applier, clock, hold, board) };
     match scope.spawn_with(KeepsLog { gate, before }, run) {
         Ok(handle) => Ok(handle),

@@ -58,7 +58,7 @@ impl<'a> Hold for Keeping<'a> {
     }
 }
 
-fn is_reached(count: &AtomicU64, least: u64) -> bool {
+pub fn is_reached(count: &AtomicU64, least: u64) -> bool {
     for _ in 0..TURNS {
         if count.load(Ordering::SeqCst) >= least {
             return true;

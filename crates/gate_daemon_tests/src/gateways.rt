@@ -1,7 +1,7 @@
 ghost use Rattle.std.specs.Prelude.{◌≡◌};
 
 use crate::fakes::{AlwaysAt, Keeping, NoWake, Sending, config, packet};
-use gate_daemon::{Config, Finished, GatewayFault, Post, run_gateway};
+use gate_daemon::{Config, Finished, GatewayFault, Post, Posts, run_gateway};
 use gate_reader::{Answer, Report};
 use gate_worker::Point;
 use std::alloc::Global;
@@ -88,29 +88,37 @@ fn run_both<'a, R: Threads + Wait + Clock + Sync>(
     requires { config.workers ≡ 1 }
 {
     let (worker, operator, applier) = holds;
-    let mut posts = Vec::with_capacity(alloc, 1).ok()?;
-    posts.push_reserved(Post {
+    let mut senders = Vec::with_capacity(alloc, 1).ok()?;
+    senders.push_reserved(Post {
         connections: packets,
         hold: worker,
     });
+    let posts = Posts {
+        packets: senders,
+        operator: Post {
+            connections: lines,
+            hold: operator,
+        },
+        pages: none(alloc),
+        applier,
+    };
     left_by(run_gateway(
         rt,
         alloc,
         config,
         posts,
-        Post {
-            connections: lines,
-            hold: operator,
-        },
-        Sending {
-            alloc,
-            connections: 0,
-            bytes: &[],
-        },
         &AlwaysAt(1000),
-        applier,
         &NoWake,
     ))
+}
+
+// No connections.
+fn none<'a>(alloc: Global) -> Sending<'a> {
+    Sending {
+        alloc,
+        connections: 0,
+        bytes: &[],
+    }
 }
 
 // A sender that connects once.

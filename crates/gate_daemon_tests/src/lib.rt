@@ -8,6 +8,8 @@ mod fakes;
 #[cfg(test)]
 mod gateways;
 #[cfg(test)]
+mod many_workers;
+#[cfg(test)]
 mod sockets;
 #[cfg(test)]
 mod workers;

@@ -1,6 +1,6 @@
 use crate::fakes::{config, packet};
 use crate::gateways::left_by;
-use gate_daemon::{Post, run_gateway};
+use gate_daemon::{Post, Posts, run_gateway};
 use gate_worker::{Accepted, Ending, NoHold, SystemWatch, by_turns};
 use std::alloc::Global;
 use std::io::{Read, Write};
@@ -58,25 +58,22 @@ fn serve<R: Net<Listener = TcpListener, Stream = TcpStream> + Threads + Wait + C
 ) -> Option<usize> {
     let ending = Ending::new();
     let config = config(alloc, 1)?;
-    let mut posts = Vec::with_capacity(alloc, 1).ok()?;
-    posts.push_reserved(Post {
+    let mut senders = Vec::with_capacity(alloc, 1).ok()?;
+    senders.push_reserved(Post {
         connections: Accepted::of_agents(rt, agents, &ending),
         hold: NoHold,
     });
-    let left = left_by(run_gateway(
-        rt,
-        alloc,
-        config,
-        posts,
-        Post {
+    let posts = Posts {
+        packets: senders,
+        operator: Post {
             connections: Accepted::of_operators(rt, operators, &ending),
             hold: NoHold,
         },
-        Accepted::of_readers(rt, pages, &ending),
-        &SystemWatch { rt },
-        NoHold,
-        &ending,
-    ))?;
+        pages: Accepted::of_readers(rt, pages, &ending),
+        applier: NoHold,
+    };
+    let watch = SystemWatch { rt };
+    let left = left_by(run_gateway(rt, alloc, config, posts, &watch, &ending))?;
     Some(left.records)
 }
 

@@ -1,4 +1,4 @@
-ghost use Rattle.std.specs.Prelude.{◌≡◌, IfOk, IfErr, IfSome, Some, None};
+ghost use Rattle.std.specs.Prelude.{◌≡◌, IfOk, IfErr, IfNone, IfSome, Some, None};
 ghost use Rattle.gate_queue.specs.Knowledge.{close_knowledge, Learns};
 ghost use Rattle.gate_queue.specs.Closer.{notice_of};
 
@@ -82,6 +82,19 @@ impl Closer {
         ensures { result ≡ self.now }
     {
         self.knowledge.again()
+    }
+
+    /// A notice of the close, where the closer knows of one. It takes no memory.
+    pub fn notice(&self) -> Option<Notice>
+        ensures some { IfSome result (λ notice. (notice.cell ≡ self.now.cell)
+            × (self.now.known_close ≡ Some notice.moment)) }
+        ensures none { IfNone result (self.now.known_close ≡ None) }
+    {
+        let moment = self.knowledge.moment()?;
+        Some(Notice {
+            knowledge: self.knowledge.again(),
+            moment,
+        })
     }
 
     /// One more right to close the gate. It knows what this one knows.

@@ -1,32 +1,26 @@
 -- The steps of a daemon: how they end, and what they print in all.
-use Rattle.std.proofs.Common.{◌≡◌, ℕ, ◌+◌, ◌<◌, ◌≤◌, List, [], ◌∷◌, ◌++◌, All, length, map, Option, Some, None, refl, sym, ◌∙◌, subst, inl, inr}
-use Rattle.std.specs.Prelude.{Result, Ok, Err, OnOk, IfOk, IfErr, IsOk}
+use Rattle.std.proofs.Common.{◌≡◌, ℕ, ◌<◌, ◌≤◌, List, [], ◌++◌, length, Option, Some, None, refl, sym, ◌∙◌, subst, inl, inr}
+use Rattle.std.specs.Prelude.{Result, Ok, Err, IfOk, IfErr, IfSome, IsOk}
 use Rattle.std.specs.declared.net.socket_addr.SocketAddr.{SocketAddr}
 use Rattle.std.proofs.lemmas.List.{append-nil}
-use Rattle.std.proofs.lemmas.Simd.{map-map}
 use Rattle.gate_model.specs.declared.object.ObjectLine.{ObjectLine}
-use Rattle.gate_model.specs.declared.record.Record.{Record}
-use Rattle.gate_model.specs.declared.submission.Numbered.{Numbered}
-use Rattle.gate_core.specs.Merge.{IsClient, of_client}
 use Rattle.gate_applier.specs.Applier.{ApplierView}
 use Rattle.gate_queue.specs.declared.drained_close.CloseAllCause.{CloseAllCause}
 use Rattle.gate_queue.specs.declared.drained_close.CloseAllCause.TheVariants as cause
 use Rattle.gate_queue.specs.DrainedClose.{items_of_records}
 use Rattle.gate_config.specs.declared.config.Config.{Config}
 use Rattle.gate_reader.specs.Sink.{SinkState, Delivers, FailsOnce}
-use Rattle.gate_reader.specs.declared.report.Report.{Report}
-use Rattle.gate_worker.specs.Numbers.{item_numbers, reported_numbers, numbers_after}
+use Rattle.gate_reader.proofs.Outputs.{fails_then, delivers_on}
+use Rattle.gate_daemon.specs.Answered.{queued_by_each, HoldsAll}
+use Rattle.gate_daemon.specs.Faults.{IsDrainFault, IsGatewayFault}
 use Rattle.gate_daemon.specs.declared.gateway.Finished.{Finished}
-use Rattle.gate_daemon.specs.Faults.{LosesNothing, IsDrainFault, IsGatewayFault}
 use Rattle.gate_daemon.specs.declared.gateway.GatewayFault.{GatewayFault}
 use Rattle.gate_daemon.specs.declared.gateway.GatewayFault.TheVariants as gateway_fault
-use Rattle.gate_reader.proofs.Outputs.{fails_then, delivers_on}
 use Rattle.gate_setup.specs.declared.fault.ServeFault.{ServeFault}
 use Rattle.gate_setup.specs.declared.fault.ServeFault.TheVariants as fault
-use Rattle.gate_setup.specs.Fault.{fault_in}
 use Rattle.gate_setup.specs.Setup.{Configures, AreBoundAs, IsAddressIn, IsBindEnd, IsConfigEnd, IsWriteEnd, address_lines}
-use Rattle.gate_serve.specs.Serve.{ServeEnds, clients_of, AreOfClients, FollowsAddresses, IsUnfinished, page_of}
-use Rattle.gate_serve.specs.inner.Serving.{IsPageGiven, IsCloseEnd, IsLoglessEnd, IsRunEnd, RunsOn, fault_for}
+use Rattle.gate_serve.specs.Serve.{ServeEnds, FollowsAddresses, page_of}
+use Rattle.gate_serve.specs.inner.Serving.{HasStopped, IsStopCause, IsFaultOf, IsPageGiven, IsCloseEnd, IsLoglessEnd, IsRunEnd, RunsOn, queued_after}
 
 -- a failed write ends the end of a gateway that did not apply all
 pub write_ends_close : (why : CloseAllCause) (applier : ApplierView) (before after : SinkState) (found : ServeFault) → IsWriteEnd before after found → IsCloseEnd why applier before after found
@@ -39,15 +33,15 @@ write_ends_close why applier before after fault.OutOfMemory (inr k) = inr (inl k
 write_ends_close why applier before after fault.Spawn k = absurd k
 write_ends_close why applier before after fault.WriteFault k = k
 
-closed_page : (why : CloseAllCause) (applier : ApplierView) (before after : SinkState) → IsPageGiven applier before after → IsCloseEnd why applier before after (fault_for why)
-closed_page cause.LogFull applier before after given = (refl, given)
-closed_page cause.OutOfMemory applier before after given = inr (inr (refl, given))
-closed_page cause.NotClosing applier before after given = given
-closed_page (cause.Missing client) applier before after given = given
-
 -- a gateway that did not apply all ends with its log page
-pub closed_end : (why : CloseAllCause) (applier : ApplierView) (before after : SinkState) (found : ServeFault) → found ≡ fault_for why → length applier.records ≤ applier.limit → Delivers before after (page_of applier.table applier.records) → IsCloseEnd why applier before after found
-closed_end why applier before after found same few printed = subst (λ (f : ServeFault). IsCloseEnd why applier before after f) (sym same) (closed_page why applier before after (record { few = few; printed = printed }))
+pub closed_end : (why : CloseAllCause) (applier : ApplierView) (before after : SinkState) (found : ServeFault) → IsFaultOf why found → length applier.records ≤ applier.limit
+    → Delivers before after (page_of applier.table applier.records) → IsCloseEnd why applier before after found
+closed_end cause.LogFull applier before after found same few printed =
+    subst (λ (f : ServeFault). IsCloseEnd cause.LogFull applier before after f) (sym same) (refl, record { few = few; printed = printed })
+closed_end cause.OutOfMemory applier before after found same few printed =
+    subst (λ (f : ServeFault). IsCloseEnd cause.OutOfMemory applier before after f) (sym same) (inr (inr (refl, record { few = few; printed = printed })))
+closed_end cause.NotClosing applier before after found same few printed = absurd same
+closed_end (cause.Missing client) applier before after found same few printed = absurd same
 
 -- nothing was printed before what comes after the addresses
 delivers_after : (before middle after : SinkState) (x y : List ℕ) → Delivers before middle x → Delivers middle after y → Delivers before after (x ++ y)
@@ -89,70 +83,50 @@ fails_after : (config : Config) (before middle after : SinkState) → FollowsAdd
 fails_after config before middle after printed k = fails_then before.failures middle.failures after.failures 1 printed.printed.none_failed k
 
 -- the addresses can't be written
-pub write_ends : (config : Config) (before after : SinkState) (found : ServeFault) → IsWriteEnd before after found → RunsOn config before after (Some found)
-write_ends config before after fault.Unreadable k = k
-write_ends config before after (fault.Config text) k = k
-write_ends config before after (fault.Bind text) k = k
-write_ends config before after fault.LogFull k = absurd k
-write_ends config before after fault.OutOfMemory (inl k) = inl k
-write_ends config before after fault.OutOfMemory (inr k) = inr (inl k)
-write_ends config before after fault.Spawn k = absurd k
-write_ends config before after fault.WriteFault k = k
+pub write_ends : (config : Config) (before after : SinkState) (queued : List (ℕ × List ℕ)) (found : ServeFault) → IsWriteEnd before after found → RunsOn config before after queued (Some found)
+write_ends config before after queued fault.Unreadable k = k
+write_ends config before after queued (fault.Config text) k = k
+write_ends config before after queued (fault.Bind text) k = k
+write_ends config before after queued fault.LogFull k = absurd k
+write_ends config before after queued fault.OutOfMemory (inl k) = inl k
+write_ends config before after queued fault.OutOfMemory (inr k) = inr (inl k)
+write_ends config before after queued fault.Spawn k = absurd k
+write_ends config before after queued fault.WriteFault k = k
 
 -- what runs as a text configures it is served
-pub served : (text : List ℕ) (config : Config) (before after : SinkState) (found : Option ServeFault) → Configures text config → RunsOn config before after found → ServeEnds before after found
-served text config before after None is k = record { text = text; config = config; configured = is; ran = k }
-served text config before after (Some fault.Unreadable) is k = absurd k
-served text config before after (Some (fault.Config reported)) is k = absurd k
-served text config before after (Some (fault.Bind address)) is k = absurd k
-served text config before after (Some fault.LogFull) is k = record { text = text; config = config; configured = is; ran = k }
-served text config before after (Some fault.OutOfMemory) is (inl k) = inl k
-served text config before after (Some fault.OutOfMemory) is (inr (inl k)) = inr (inl k)
-served text config before after (Some fault.OutOfMemory) is (inr (inr k)) = inr (inr (record { text = text; config = config; configured = is; ran = k }))
-served text config before after (Some fault.Spawn) is k = record { text = text; config = config; configured = is; ran = k }
-served text config before after (Some fault.WriteFault) is k = k
+pub served : (text : List ℕ) (config : Config) (before after : SinkState) (queued : List (ℕ × List ℕ)) (found : Option ServeFault) → Configures text config → RunsOn config before after queued found → ServeEnds before after queued found
+served text config before after queued None is k = record { text = text; config = config; configured = is; ran = k }
+served text config before after queued (Some fault.Unreadable) is k = absurd k
+served text config before after queued (Some (fault.Config reported)) is k = absurd k
+served text config before after queued (Some (fault.Bind address)) is k = absurd k
+served text config before after queued (Some fault.LogFull) is k = record { text = text; config = config; configured = is; ran = k }
+served text config before after queued (Some fault.OutOfMemory) is (inl k) = inl k
+served text config before after queued (Some fault.OutOfMemory) is (inr (inl k)) = inr (inl k)
+served text config before after queued (Some fault.OutOfMemory) is (inr (inr k)) = inr (inr (record { text = text; config = config; configured = is; ran = k }))
+served text config before after queued (Some fault.Spawn) is k = record { text = text; config = config; configured = is; ran = k }
+served text config before after queued (Some fault.WriteFault) is k = k
 
 -- without a configuration nothing is served
-pub unconfigured : (state : SinkState) (found : ServeFault) → IsConfigEnd found → ServeEnds state state (Some found)
-unconfigured state fault.Unreadable k = refl
-unconfigured state (fault.Config reported) k = (k, refl)
-unconfigured state (fault.Bind address) k = absurd k
-unconfigured state fault.LogFull k = absurd k
-unconfigured state fault.OutOfMemory k = inl refl
-unconfigured state fault.Spawn k = absurd k
-unconfigured state fault.WriteFault k = absurd k
+pub unconfigured : (state : SinkState) (queued : List (ℕ × List ℕ)) (found : ServeFault) → IsConfigEnd found → ServeEnds state state queued (Some found)
+unconfigured state queued fault.Unreadable k = refl
+unconfigured state queued (fault.Config reported) k = (k, refl)
+unconfigured state queued (fault.Bind address) k = absurd k
+unconfigured state queued fault.LogFull k = absurd k
+unconfigured state queued fault.OutOfMemory k = inl refl
+unconfigured state queued fault.Spawn k = absurd k
+unconfigured state queued fault.WriteFault k = absurd k
 
 -- without an address nothing is served
-pub unbound : (text : List ℕ) (config : Config) (state : SinkState) (found : ServeFault) → Configures text config → IsBindEnd (IsAddressIn config) found → ServeEnds state state (Some found)
-unbound text config state fault.Unreadable is k = absurd k
-unbound text config state (fault.Config reported) is k = absurd k
-unbound text config state (fault.Bind address) is k = ((text, config, is, k), refl)
-unbound text config state fault.LogFull is k = absurd k
-unbound text config state fault.OutOfMemory is k = inl refl
-unbound text config state fault.Spawn is k = absurd k
-unbound text config state fault.WriteFault is k = absurd k
+pub unbound : (text : List ℕ) (config : Config) (state : SinkState) (queued : List (ℕ × List ℕ)) (found : ServeFault) → Configures text config → IsBindEnd (IsAddressIn config) found → ServeEnds state state queued (Some found)
+unbound text config state queued fault.Unreadable is k = absurd k
+unbound text config state queued (fault.Config reported) is k = absurd k
+unbound text config state queued (fault.Bind address) is k = ((text, config, is, k), refl)
+unbound text config state queued fault.LogFull is k = absurd k
+unbound text config state queued fault.OutOfMemory is k = inl refl
+unbound text config state queued fault.Spawn is k = absurd k
+unbound text config state queued fault.WriteFault is k = absurd k
 
 -- ---- a gateway
-
--- the records of its log are of its clients
-pub of_clients : {Reports : Type 0} (reports_of : Reports → List Report) (workers of_workers : ℕ) (records : List Record) (pairs : List (ℕ × Reports)) → workers ≡ of_workers
-    → map (λ (pair : ℕ × Reports). pair.0) pairs ≡ (workers + 1) ∷ numbers_after 0 workers
-    → map (λ (pair : ℕ × Reports). item_numbers (of_client pair.0 (items_of_records records))) pairs ≡ map (λ (pair : ℕ × Reports). reported_numbers (reports_of pair.1)) pairs
-    → All (λ (item : Numbered). IsClient (workers + 1) item.client) (items_of_records records)
-    → AreOfClients of_workers records (map (λ (pair : ℕ × Reports). (pair.0, reports_of pair.1)) pairs)
-of_clients {Reports = Reports} reports_of workers of_workers records pairs same clients answered items = record {
-  clients = map-map _ _ pairs ∙ subst (λ (n : ℕ). map (λ (pair : ℕ × Reports). pair.0) pairs ≡ (n + 1) ∷ numbers_after 0 n) same clients;
-  answered = map-map _ _ pairs ∙ answered ∙ sym (map-map _ _ pairs);
-  items = subst (λ (n : ℕ). All (λ (item : Numbered). IsClient (n + 1) item.client) (items_of_records records)) same items;
-}
-
-pub ran_for_clients : (ran : Result Finished GatewayFault) (workers of_workers : ℕ) → workers ≡ of_workers
-    → IfOk ran (λ finished. map (λ pair. pair.0) finished.reports.items ≡ (workers + 1) ∷ numbers_after 0 workers)
-    → IfOk ran (λ finished. map (λ pair. item_numbers (of_client pair.0 (items_of_records finished.closed.applier.records))) finished.reports.items ≡ map (λ pair. reported_numbers pair.1.items) finished.reports.items)
-    → IfOk ran (λ finished. All (λ item. IsClient (workers + 1) item.client) (items_of_records finished.closed.applier.records))
-    → IfOk ran (λ finished. AreOfClients of_workers finished.closed.applier.records (map (λ pair. (pair.0, pair.1.items)) finished.reports.items))
-ran_for_clients (Ok finished) workers of_workers same clients answered items = of_clients (λ reports. reports.items) workers of_workers finished.closed.applier.records finished.reports.items same clients answered items
-ran_for_clients (Err cause) workers of_workers same clients answered items = tt
 
 -- a gateway of this configuration reports its faults so
 pub faults_of : (ran : Result Finished GatewayFault) (workers of_workers capacity of_capacity limit of_limit : ℕ) (table of_table : List ObjectLine)
@@ -164,80 +138,88 @@ faults_of ran workers of_workers capacity of_capacity limit of_limit table of_ta
     (subst (λ (n : ℕ). IfErr ran (IsGatewayFault of_workers n limit table)) same_capacity
     (subst (λ (n : ℕ). IfErr ran (IsGatewayFault n capacity limit table)) same_workers k)))
 
--- it could not apply all, and loses nothing
-unfinished : {Reports : Type 0} (reports_of : Reports → List Report) (Count : ℕ → Type 0) (config : Config) (before after : SinkState) (records : List Record) (pairs : List (ℕ × Reports))
-    → map (λ (pair : ℕ × Reports). pair.0) pairs ≡ clients_of config.workers
-    → LosesNothing (config.workers + 1) (map (λ (pair : ℕ × Reports). pair.0) pairs) (map (λ (pair : ℕ × Reports). reported_numbers (reports_of pair.1)) pairs) (items_of_records records)
-    → Count (length records) → FollowsAddresses config before after (page_of config.table records) → IsUnfinished Count config before after
-unfinished {Reports = Reports} reports_of Count config before after records pairs clients lost count printed = record {
-  records = records;
-  reports = map (λ (pair : ℕ × Reports). (pair.0, reports_of pair.1)) pairs;
-  clients = map-map _ _ pairs ∙ clients;
-  none_lost = subst (λ (answered : List (List ℕ)). LosesNothing (config.workers + 1) (clients_of config.workers) answered (items_of_records records)) (sym (map-map _ _ pairs))
-      (subst (λ (numbers : List ℕ). LosesNothing (config.workers + 1) numbers (map (λ (pair : ℕ × Reports). reported_numbers (reports_of pair.1)) pairs) (items_of_records records)) clients lost);
-  count = count;
-  printed = printed;
-}
+stop_cause : (workers : ℕ) (why : CloseAllCause) (queued : List (ℕ × List ℕ)) (applier : ApplierView) → IsDrainFault workers why queued applier → IsStopCause why
+stop_cause workers cause.LogFull queued applier known = tt
+stop_cause workers cause.OutOfMemory queued applier known = tt
+stop_cause workers cause.NotClosing queued applier known = absurd known
+stop_cause workers (cause.Missing client) queued applier known = absurd known
+
+-- where it did not apply all, the log was full or memory was missing
+pub has_stopped : (workers capacity limit : ℕ) (table : List ObjectLine) (why : GatewayFault) → IsGatewayFault workers capacity limit table why → HasStopped why
+has_stopped workers capacity limit table (gateway_fault.Queue cause) known = tt
+has_stopped workers capacity limit table (gateway_fault.Applier cause) known = tt
+has_stopped workers capacity limit table gateway_fault.OutOfMemory known = tt
+has_stopped workers capacity limit table gateway_fault.Spawn known = tt
+has_stopped workers capacity limit table (gateway_fault.CloseAll gate drain reports) known =
+    stop_cause workers drain.cause (queued_by_each reports.items) drain.applier known.fault
 
 -- it has no log
-logless_end : (config : Config) (before middle after : SinkState) (found : ServeFault) → FollowsAddresses config before middle [] → IsLoglessEnd middle after found → RunsOn config before after (Some found)
-logless_end config before middle after fault.Unreadable printed k = k
-logless_end config before middle after (fault.Config text) printed k = k
-logless_end config before middle after (fault.Bind text) printed k = k
-logless_end config before middle after fault.LogFull printed k = absurd k
-logless_end config before middle after fault.OutOfMemory printed k = inr (inr (inl (alone config before middle after printed k)))
-logless_end config before middle after fault.Spawn printed k = inl (alone config before middle after printed k)
-logless_end config before middle after fault.WriteFault printed k = absurd k
+logless_end : (config : Config) (before middle after : SinkState) (queued : List (ℕ × List ℕ)) (found : ServeFault) → FollowsAddresses config before middle [] → IsLoglessEnd middle after found → RunsOn config before after queued (Some found)
+logless_end config before middle after queued fault.Unreadable printed k = k
+logless_end config before middle after queued (fault.Config text) printed k = k
+logless_end config before middle after queued (fault.Bind text) printed k = k
+logless_end config before middle after queued fault.LogFull printed k = absurd k
+logless_end config before middle after queued fault.OutOfMemory printed k = inr (inr (inl (alone config before middle after printed k)))
+logless_end config before middle after queued fault.Spawn printed k = alone config before middle after printed k
+logless_end config before middle after queued fault.WriteFault printed k = absurd k
 
 -- its log page can't be written
-page_end : (config : Config) (before middle after : SinkState) (found : ServeFault) → FollowsAddresses config before middle [] → IsWriteEnd middle after found → RunsOn config before after (Some found)
-page_end config before middle after fault.Unreadable printed k = k
-page_end config before middle after (fault.Config text) printed k = k
-page_end config before middle after (fault.Bind text) printed k = k
-page_end config before middle after fault.LogFull printed k = absurd k
-page_end config before middle after fault.OutOfMemory printed (inl k) = inr (inr (inl (alone config before middle after printed k)))
-page_end config before middle after fault.OutOfMemory printed (inr k) = inr (inl (fails_after config before middle after printed k))
-page_end config before middle after fault.Spawn printed k = absurd k
-page_end config before middle after fault.WriteFault printed k = fails_after config before middle after printed k
+page_end : (config : Config) (before middle after : SinkState) (queued : List (ℕ × List ℕ)) (found : ServeFault) → FollowsAddresses config before middle [] → IsWriteEnd middle after found → RunsOn config before after queued (Some found)
+page_end config before middle after queued fault.Unreadable printed k = k
+page_end config before middle after queued (fault.Config text) printed k = k
+page_end config before middle after queued (fault.Bind text) printed k = k
+page_end config before middle after queued fault.LogFull printed k = absurd k
+page_end config before middle after queued fault.OutOfMemory printed (inl k) = inr (inr (inl (alone config before middle after printed k)))
+page_end config before middle after queued fault.OutOfMemory printed (inr k) = inr (inl (fails_after config before middle after printed k))
+page_end config before middle after queued fault.Spawn printed k = absurd k
+page_end config before middle after queued fault.WriteFault printed k = fails_after config before middle after printed k
+
+-- what it prints where it could not apply all
+undrained_end : (why : CloseAllCause) (drained : ApplierView) (config : Config) (before middle after : SinkState) (queued : List (ℕ × List ℕ)) (found : ServeFault) → FollowsAddresses config before middle []
+    → drained.table ≡ config.table → drained.limit ≡ config.limits.limit → IsDrainFault config.workers why queued drained → IsCloseEnd why drained middle after found → RunsOn config before after queued (Some found)
+undrained_end why drained config before middle after queued fault.Unreadable printed of_table of_limit known k = k
+undrained_end why drained config before middle after queued (fault.Config text) printed of_table of_limit known k = k
+undrained_end why drained config before middle after queued (fault.Bind text) printed of_table of_limit known k = k
+undrained_end why drained config before middle after queued fault.LogFull printed of_table of_limit known (is, given) =
+    let d = subst (λ (cause : CloseAllCause). IsDrainFault config.workers cause queued drained) is known in
+    record { records = drained.records; none_lost = d.0; count = d.1 ∙ of_limit; printed = page_after config before middle after drained printed of_table given }
+undrained_end why drained config before middle after queued fault.OutOfMemory printed of_table of_limit known (inl k) = inr (inr (inl (alone config before middle after printed k)))
+undrained_end why drained config before middle after queued fault.OutOfMemory printed of_table of_limit known (inr (inl k)) = inr (inl (fails_after config before middle after printed k))
+undrained_end why drained config before middle after queued fault.OutOfMemory printed of_table of_limit known (inr (inr (is, given))) =
+    let d = subst (λ (cause : CloseAllCause). IsDrainFault config.workers cause queued drained) is known in
+    inr (inr (inr (record {
+      records = drained.records;
+      none_lost = d.0;
+      count = subst (λ (n : ℕ). length drained.records < n) of_limit d.1;
+      printed = page_after config before middle after drained printed of_table given;
+    })))
+undrained_end why drained config before middle after queued fault.Spawn printed of_table of_limit known k = absurd k
+undrained_end why drained config before middle after queued fault.WriteFault printed of_table of_limit known k = fails_after config before middle after printed k
 
 -- it ends with a fault
 fault_end : (why : GatewayFault) (config : Config) (before middle after : SinkState) (found : ServeFault) → FollowsAddresses config before middle []
-    → IsGatewayFault config.workers config.limits.capacity config.limits.limit config.table why → IsRunEnd (Err why) middle after found → RunsOn config before after (Some found)
-fault_end (gateway_fault.Queue cause) config before middle after found printed known k = logless_end config before middle after found printed k
-fault_end (gateway_fault.Applier cause) config before middle after found printed known k = logless_end config before middle after found printed k
-fault_end gateway_fault.OutOfMemory config before middle after found printed known k = logless_end config before middle after found printed k
-fault_end gateway_fault.Spawn config before middle after found printed known k = logless_end config before middle after found printed k
-fault_end (gateway_fault.CloseAll gate drain reports) config before middle after fault.Unreadable printed known k = k
-fault_end (gateway_fault.CloseAll gate drain reports) config before middle after (fault.Config text) printed known k = k
-fault_end (gateway_fault.CloseAll gate drain reports) config before middle after (fault.Bind text) printed known k = k
-fault_end (gateway_fault.CloseAll gate drain reports) config before middle after fault.LogFull printed (clients, can, of_table, of_limit, why) (is, given) =
-    let d = subst (λ (cause : CloseAllCause). IsDrainFault (config.workers + 1) cause (map (λ pair. pair.0) reports.items) (map (λ pair. reported_numbers pair.1.items) reports.items) drain.applier) is why in
-    unfinished (λ reports. reports.items) (λ count. count ≡ config.limits.limit) config before after drain.applier.records reports.items clients d.0 (d.1 ∙ of_limit)
-    (page_after config before middle after drain.applier printed of_table given)
-fault_end (gateway_fault.CloseAll gate drain reports) config before middle after fault.OutOfMemory printed known (inl k) = inr (inr (inl (alone config before middle after printed k)))
-fault_end (gateway_fault.CloseAll gate drain reports) config before middle after fault.OutOfMemory printed known (inr (inl k)) = inr (inl (fails_after config before middle after printed k))
-fault_end (gateway_fault.CloseAll gate drain reports) config before middle after fault.OutOfMemory printed (clients, can, of_table, of_limit, why) (inr (inr (is, given))) =
-    let d = subst (λ (cause : CloseAllCause). IsDrainFault (config.workers + 1) cause (map (λ pair. pair.0) reports.items) (map (λ pair. reported_numbers pair.1.items) reports.items) drain.applier) is why in
-    inr (inr (inr (unfinished (λ reports. reports.items) (λ count. count < config.limits.limit) config before after drain.applier.records reports.items clients d.0
-    (subst (λ (n : ℕ). length drain.applier.records < n) of_limit d.1) (page_after config before middle after drain.applier printed of_table given))))
-fault_end (gateway_fault.CloseAll gate drain reports) config before middle after fault.Spawn printed (clients, can, of_table, of_limit, why) given =
-    inr (drain.applier.records, subst (λ (n : ℕ). length drain.applier.records ≤ n) of_limit given.few, page_after config before middle after drain.applier printed of_table given)
-fault_end (gateway_fault.CloseAll gate drain reports) config before middle after fault.WriteFault printed known k = fails_after config before middle after printed k
+    → IsGatewayFault config.workers config.limits.capacity config.limits.limit config.table why → IsRunEnd (Err why) middle after found → RunsOn config before after (queued_after (Err why)) (Some found)
+fault_end (gateway_fault.Queue cause) config before middle after found printed known k = logless_end config before middle after [] found printed k
+fault_end (gateway_fault.Applier cause) config before middle after found printed known k = logless_end config before middle after [] found printed k
+fault_end gateway_fault.OutOfMemory config before middle after found printed known k = logless_end config before middle after [] found printed k
+fault_end gateway_fault.Spawn config before middle after found printed known k = logless_end config before middle after [] found printed k
+fault_end (gateway_fault.CloseAll gate drain reports) config before middle after found printed known k =
+    undrained_end drain.cause drain.applier config before middle after (queued_by_each reports.items) found printed known.of_table known.of_limit known.fault k
 
 -- how it ends, after its addresses were printed
-pub ends_on : (ran : Result Finished GatewayFault) (result : Result (Unit {0}) ServeFault) (config : Config) (before middle after : SinkState) → FollowsAddresses config before middle []
-    → IfOk ran (λ finished. AreOfClients config.workers finished.closed.applier.records (map (λ pair. (pair.0, pair.1.items)) finished.reports.items))
+pub ends_on : (ran : Result Finished GatewayFault) (found : Option ServeFault) (config : Config) (before middle after : SinkState) → FollowsAddresses config before middle []
+    → IfOk ran (λ finished. HoldsAll config.workers (queued_by_each finished.reports.items) (items_of_records finished.closed.applier.records))
     → IfOk ran (λ finished. finished.closed.applier.table ≡ config.table) → IfOk ran (λ finished. finished.closed.applier.limit ≡ config.limits.limit)
     → IfErr ran (IsGatewayFault config.workers config.limits.capacity config.limits.limit config.table)
-    → OnOk result (IsOk ran) → IfOk ran (λ finished. OnOk result (Delivers middle after (page_of finished.closed.applier.table finished.closed.applier.records)))
-    → IfOk ran (λ finished. length finished.closed.applier.records ≤ finished.closed.applier.limit) → IfErr result (IsRunEnd ran middle after) → RunsOn config before after (fault_in result)
-ends_on (Ok finished) (Ok done) config before middle after printed clients of_table of_limit known is_finished page few ended = record {
+    → (found ≡ None → IsOk ran) → IfOk ran (λ finished. found ≡ None → Delivers middle after (page_of finished.closed.applier.table finished.closed.applier.records))
+    → IfOk ran (λ finished. length finished.closed.applier.records ≤ finished.closed.applier.limit) → IfSome found (IsRunEnd ran middle after) → RunsOn config before after (queued_after ran) found
+ends_on (Ok finished) None config before middle after printed holds of_table of_limit known is_finished page few ended = record {
   records = finished.closed.applier.records;
-  reports = map (λ pair. (pair.0, pair.1.items)) finished.reports.items;
-  of_clients = clients;
+  holds = holds;
   few = subst (λ (n : ℕ). length finished.closed.applier.records ≤ n) of_limit few;
-  printed = page_after config before middle after finished.closed.applier printed of_table (record { few = few; printed = page });
+  printed = page_after config before middle after finished.closed.applier printed of_table (record { few = few; printed = page refl });
 }
-ends_on (Err why) (Ok done) config before middle after printed clients of_table of_limit known is_finished page few ended = absurd (cc)
-ends_on (Ok finished) (Err found) config before middle after printed clients of_table of_limit known is_finished page few ended = page_end config before middle after found printed ended
-ends_on (Err why) (Err found) config before middle after printed clients of_table of_limit known is_finished page few ended = fault_end why config before middle after found printed known ended
+ends_on (Err why) None config before middle after printed holds of_table of_limit known is_finished page few ended = let k = is_finished refl in absurd (cc)
+ends_on (Ok finished) (Some found) config before middle after printed holds of_table of_limit known is_finished page few ended =
+    page_end config before middle after (queued_by_each finished.reports.items) found printed ended
+ends_on (Err why) (Some found) config before middle after printed holds of_table of_limit known is_finished page few ended = fault_end why config before middle after found printed known ended

@@ -1,9 +1,11 @@
-ghost use Rattle.std.specs.Prelude.{◌≡◌, ◌≤◌, length, Err, IfErr, IfOk, IsErr, IsOk, OnOk};
+ghost use Rattle.std.specs.Prelude.{◌≡◌, ◌≤◌, length, IfErr, IfOk, IfSome, IsOk, None, OnOk};
 ghost use Rattle.gate_reader.specs.Sink.{SinkState, sink_state, Delivers};
+ghost use Rattle.gate_daemon.specs.Answered.{queued_by_each};
 ghost use Rattle.gate_setup.specs.Setup.{IsWriteEnd};
 ghost use Rattle.gate_serve.specs.Serve.{page_of};
-ghost use Rattle.gate_serve.specs.inner.Serving.{IsCloseEnd, IsRunEnd, fault_for};
+ghost use Rattle.gate_serve.specs.inner.Serving.{HasStopped, IsCloseEnd, IsFaultOf, IsLoglessEnd, IsRunEnd, IsStopCause, queued_after};
 
+use crate::served::{Served, without_reports};
 use gate_applier::Applier;
 use gate_daemon::{Finished, GatewayFault};
 use gate_pages::log_page;
@@ -25,33 +27,36 @@ fn print_log<W: Sink>(alloc: Global, applier: &Applier, output: &mut W) -> Resul
     print(output, &page)
 }
 
-// The fault of a daemon whose gateway did not apply all. No client is ever missing.
+// The fault of a daemon whose gateway did not apply all.
 fn fault_of(cause: CloseAllCause) -> ServeFault
-    ensures { result ≡ fault_for cause }
+    requires { IsStopCause cause }
+    ensures { IsFaultOf cause result }
 {
     match cause {
         CloseAllCause::LogFull => ServeFault::LogFull,
         CloseAllCause::OutOfMemory => ServeFault::OutOfMemory,
-        CloseAllCause::Missing(_) | CloseAllCause::NotClosing => ServeFault::Spawn,
+        CloseAllCause::Missing(_) | CloseAllCause::NotClosing => unreachable!(),
     }
 }
 
 // Prints the log page of a gateway that did not apply all.
-fn end_early<W: Sink>(alloc: Global, fault: CloseAllFault, output: &mut W) -> Result<(), ServeFault>
-    ensures failed { IsErr result }
-    ensures err { let state = sink_state W.contents W.pending W.failures in
-        IfErr result (IsCloseEnd fault.cause fault.applier (state output.old) (state output.new)) }
+fn end_early<W: Sink>(alloc: Global, fault: CloseAllFault, output: &mut W) -> ServeFault
+    requires { IsStopCause fault.cause }
+    ensures { let state = sink_state W.contents W.pending W.failures in
+        IsCloseEnd fault.cause fault.applier (state output.old) (state output.new) result }
 {
     let printed = print_log(alloc, &fault.applier, output);
     let cause = fault.cause;
     drop(fault);
-    printed?;
-    Err(fault_of(cause))
+    match printed {
+        Ok(()) => fault_of(cause),
+        Err(fault) => fault,
+    }
 }
 
 // The fault of a gateway that has no log.
 fn fault_without_log(fault: GatewayFault) -> ServeFault
-    ensures { (state : SinkState) → IsRunEnd (Err fault) state state result }
+    ensures { (state : SinkState) → IsLoglessEnd state state result }
 {
     let found = match &fault {
         GatewayFault::Spawn => ServeFault::Spawn,
@@ -67,22 +72,23 @@ pub(crate) fn end<W: Sink>(
     alloc: Global,
     ran: Result<Finished, GatewayFault>,
     output: &mut W,
-) -> Result<(), ServeFault>
-    ensures finished { OnOk result (IsOk ran) }
+) -> Served
+    requires { IfErr ran HasStopped }
+    ensures finished { result.fault ≡ None → IsOk ran }
+    ensures reports { queued_by_each result.reports.items ≡ queued_after ran }
     ensures printed { let state = sink_state W.contents W.pending W.failures in
-        IfOk ran (λ finished. let applier = finished.closed.applier in
-        OnOk result (Delivers (state output.old) (state output.new)
-        (page_of applier.table applier.records))) }
+        IfOk ran (λ finished. let applier = finished.closed.applier in result.fault ≡ None →
+        Delivers (state output.old) (state output.new) (page_of applier.table applier.records)) }
     ensures few { IfOk ran (λ finished. let applier = finished.closed.applier in
         length applier.records ≤ applier.limit) }
     ensures err { let state = sink_state W.contents W.pending W.failures in
-        IfErr result (IsRunEnd ran (state output.old) (state output.new)) }
+        IfSome result.fault (IsRunEnd ran (state output.old) (state output.new)) }
 {
     match ran {
-        Ok(finished) => {
-            let printed = print_log(alloc, &finished.closed.applier, output);
-            drop(finished);
-            printed
+        Ok(Finished { closed, reports }) => {
+            let fault = print_log(alloc, &closed.applier, output).err();
+            drop(closed);
+            Served { reports, fault }
         }
         Err(
             GatewayFault::CloseAll {
@@ -92,9 +98,9 @@ pub(crate) fn end<W: Sink>(
             },
         ) => {
             drop(gate);
-            drop(reports);
-            end_early(alloc, fault, output)
+            let fault = Some(end_early(alloc, fault, output));
+            Served { reports, fault }
         }
-        Err(fault) => Err(fault_without_log(fault)),
+        Err(fault) => without_reports(alloc, fault_without_log(fault)),
     }
 }

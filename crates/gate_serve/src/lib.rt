@@ -4,6 +4,8 @@
 #![tactic(auto)]
 
 mod ending;
+mod served;
 mod serving;
 
+pub use served::Served;
 pub use serving::{run_serve, serve};

@@ -1,17 +1,19 @@
-ghost use Rattle.std.specs.Prelude.{◌≡◌, map, IfErr, IfOk, vec_len};
+ghost use Rattle.std.specs.Prelude.{◌≡◌, ℕ, List, IfErr, IfOk, vec_len};
+ghost use Rattle.gate_queue.specs.DrainedClose.{items_of_records};
 ghost use Rattle.gate_reader.specs.Sink.{sink_state};
+ghost use Rattle.gate_daemon.specs.Answered.{queued_by_each, HoldsAll};
 ghost use Rattle.gate_daemon.specs.Faults.{IsGatewayFault};
-ghost use Rattle.gate_setup.specs.Fault.{fault_in};
-ghost use Rattle.gate_setup.specs.Setup.{AreBoundAs};
-ghost use Rattle.gate_serve.specs.Serve.{ServeEnds, AreOfClients, IsServeRun};
+ghost use Rattle.gate_setup.specs.Setup.{AreBoundAs, Configures};
+ghost use Rattle.gate_serve.specs.Serve.{ServeEnds, IsServeRun};
 ghost use Rattle.gate_serve.specs.inner.Serving.{RunsOn};
 
 use crate::ending::end;
+use crate::served::{Served, without_reports};
 use gate_config::{Config, Limits};
-use gate_daemon::{Finished, GatewayFault, Post, run_gateway};
+use gate_daemon::{Finished, GatewayFault, Post, Posts, run_gateway};
 use gate_model::ObjectTable;
 use gate_reader::{SessionLimits, Sink};
-use gate_setup::{Listeners, ServeFault, announce, configuration, listen};
+use gate_setup::{Listeners, announce, configuration, listen};
 use gate_worker::{Accepted, Ending, NoHold, SystemWatch, WorkerLimits};
 use std::alloc::{AllocError, Global};
 use std::fs::Files;
@@ -78,9 +80,9 @@ fn run<R: Net<Listener = TcpListener, Stream = TcpStream> + Threads + Wait + Clo
     listeners: Listeners,
 ) -> Result<Finished, GatewayFault>
     requires workers { vec_len listeners.agents.listeners ≡ config.workers }
-    ensures clients { IfOk result (λ finished.
-        AreOfClients config.workers finished.closed.applier.records
-        (map (λ pair. (pair.0, pair.1.items)) finished.reports.items)) }
+    ensures holds { IfOk result (λ finished. HoldsAll config.workers
+        (queued_by_each finished.reports.items)
+        (items_of_records finished.closed.applier.records)) }
     ensures table { IfOk result (λ finished. finished.closed.applier.table ≡ config.table) }
     ensures limit { IfOk result (λ finished. finished.closed.applier.limit ≡ config.limits.limit) }
     ensures fault { IfErr result
@@ -92,18 +94,14 @@ fn run<R: Net<Listener = TcpListener, Stream = TcpStream> + Threads + Wait + Clo
         operators,
         pages,
     } = listeners;
-    let posts = posts_of(rt, alloc, agents.listeners, &ending)?;
-    run_gateway(
-        rt,
-        alloc,
-        gateway_config(config.workers, config.limits, config.table),
-        posts,
-        post(Accepted::of_operators(rt, operators.listener, &ending)),
-        Accepted::of_readers(rt, pages.listener, &ending),
-        &SystemWatch { rt },
-        NoHold,
-        &ending,
-    )
+    let posts = Posts {
+        packets: posts_of(rt, alloc, agents.listeners, &ending)?,
+        operator: post(Accepted::of_operators(rt, operators.listener, &ending)),
+        pages: Accepted::of_readers(rt, pages.listener, &ending),
+        applier: NoHold,
+    };
+    let config = gateway_config(config.workers, config.limits, config.table);
+    run_gateway(rt, alloc, config, posts, &SystemWatch { rt }, &ending)
 }
 
 // Prints the addresses of these listeners, runs a gateway on them and prints its log page.
@@ -116,12 +114,13 @@ fn serve_on<
     config: Config,
     listeners: Listeners,
     output: &mut W,
-) -> Result<(), ServeFault>
+) -> Served
     requires bound { AreBoundAs config
         listeners.agents.address listeners.operators.address listeners.pages.address }
     requires workers { vec_len listeners.agents.listeners ≡ config.workers }
     ensures { let state = sink_state W.contents W.pending W.failures in
-        RunsOn config (state output.old) (state output.new) (fault_in result) }
+        RunsOn config (state output.old) (state output.new)
+        (queued_by_each result.reports.items) result.fault }
 {
     match announce(
         alloc,
@@ -137,7 +136,26 @@ fn serve_on<
         Err(fault) => {
             drop(listeners);
             drop(config);
-            Err(fault)
+            without_reports(alloc, fault)
+        }
+    }
+}
+
+// Serves as a configuration says.
+fn serve_config<
+    R: Net<Listener = TcpListener, Stream = TcpStream> + Threads + Wait + Clock + Sync,
+    W: Sink,
+>(rt: &R, alloc: Global, config: Config, output: &mut W) -> Served
+    ensures { let state = sink_state W.contents W.pending W.failures in
+        (text : List ℕ) → Configures text config
+        → ServeEnds (state output.old) (state output.new)
+        (queued_by_each result.reports.items) result.fault }
+{
+    match listen(rt, alloc, &config) {
+        Ok(listeners) => serve_on(rt, alloc, config, listeners, output),
+        Err(fault) => {
+            drop(config);
+            without_reports(alloc, fault)
         }
     }
 }
@@ -151,23 +169,20 @@ fn serve_on<
 /// Unreadable, Config and Bind come before anything is printed: the file can't be read, it
 /// configures nothing, or an address can't be bound. LogFull is an item that finds the log full: the
 /// log page has as many records as the limit, and nothing is lost, since with the items that are left
-/// they hold what was answered with Queued. Spawn is a thread that can't be started. WriteFault is a
+/// they hold what was answered with Queued. What the clients were answered is returned. Spawn is a thread that can't be started. WriteFault is a
 /// failed call of `output`, after which no other is made. OutOfMemory may come instead of any other
 /// answer; the log page is then printed only where it could be made. Own rules.
 pub fn serve<
     R: Files + Net<Listener = TcpListener, Stream = TcpStream> + Threads + Wait + Clock + Sync,
     W: Sink,
->(rt: &R, alloc: Global, path: &str, output: &mut W) -> Result<(), ServeFault>
+>(rt: &R, alloc: Global, path: &str, output: &mut W) -> Served
     ensures { let state = sink_state W.contents W.pending W.failures in
-        ServeEnds (state output.old) (state output.new) (fault_in result) }
+        ServeEnds (state output.old) (state output.new)
+        (queued_by_each result.reports.items) result.fault }
 {
-    let config = configuration(rt, alloc, path)?;
-    match listen(rt, alloc, &config) {
-        Ok(listeners) => serve_on(rt, alloc, config, listeners, output),
-        Err(fault) => {
-            drop(config);
-            Err(fault)
-        }
+    match configuration(rt, alloc, path) {
+        Ok(config) => serve_config(rt, alloc, config, output),
+        Err(fault) => without_reports(alloc, fault),
     }
 }
 
@@ -190,11 +205,11 @@ pub fn run_serve<
         IsServeRun (of_output output.old) (of_output output.new)
         (of_errors errors.old) (of_errors errors.new) result }
 {
-    match serve(rt, alloc, path, output) {
-        Ok(()) => 0,
-        Err(fault) => {
-            let _ = fault.report(errors);
-            fault.status()
-        }
-    }
+    let Served { reports, fault } = serve(rt, alloc, path, output);
+    drop(reports);
+    let Some(fault) = fault else {
+        return 0;
+    };
+    let _ = fault.report(errors);
+    fault.status()
 }

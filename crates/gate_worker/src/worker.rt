@@ -1,6 +1,6 @@
-ghost use Rattle.std.specs.Prelude.{◌≡◌, ◌<◌, [], length, IfSome, IfErr, IsSome, OnOk, vec_len, vec_capacity};
-ghost use Rattle.gate_worker.specs.declared.worker.Cause.TheVariants.{Closing, TooManySessions};
+ghost use Rattle.std.specs.Prelude.{◌≡◌, ◌<◌, ◌≤◌, [], length, IfSome, IfErr, OnOk, vec_len, vec_capacity};
 ghost use Rattle.gate_worker.specs.Numbers.{item_numbers, numbers_after, reported_numbers};
+ghost use Rattle.gate_worker.specs.Stops.{StopsAt};
 ghost use Rattle.gate_worker.specs.inner.Serving.{Extends};
 
 use crate::connections::{Connections, Hold, Point, SharedClock, Watch};
@@ -137,16 +137,16 @@ fn next_connection<C: Connections>(
     connections: &mut C,
     limits: WorkerLimits,
 ) -> Result<(C::In, C::Out), Cause>
-    requires { client.old.gate ≡ gate.now }
+    requires gate { client.old.gate ≡ gate.now }
+    requires few { vec_len reports.old ≤ limits.sessions }
     ensures gate { client.new.gate ≡ client.old.gate }
     ensures number { client.new.number ≡ client.old.number }
     ensures queued { client.new.queued ≡ client.old.queued }
     ensures reports { reports.new.items ≡ reports.old.items }
     ensures room { OnOk result (vec_len reports.new < vec_capacity reports.new) }
-    ensures closing { IfErr result (λ cause.
-        cause ≡ Closing → IsSome client.new.known_close) }
-    ensures too_many { IfErr result (λ cause.
-        cause ≡ TooManySessions → vec_len reports.new ≡ limits.sessions) }
+    ensures few { OnOk result (vec_len reports.new < limits.sessions) }
+    ensures stops { IfErr result (λ cause.
+        StopsAt limits.sessions cause (vec_len reports.new) client.new.known_close) }
 {
     if client.look(gate).is_some() {
         return Err(Cause::Closing);
@@ -204,10 +204,8 @@ pub fn run_worker<R: Wait + Clock, C: Connections + Drop, K: Watch, H: Hold + Dr
     requires fresh { client.queued ≡ [] }
     ensures gate { result.ended.gate ≡ gate.now }
     ensures number { result.ended.number ≡ client.number }
-
-    ensures closing { result.cause ≡ Closing → IsSome result.ended.known_close }
-    ensures too_many { result.cause ≡ TooManySessions
-        → vec_len result.reports ≡ limits.sessions }
+    ensures stops { StopsAt
+        limits.sessions result.cause (vec_len result.reports) result.ended.known_close }
 {
     let mut client = client;
     let mut closer = closer;

@@ -9,8 +9,8 @@ abbrev pub numbers_of : List ClientState → List ℕ
 numbers_of clients = map (λ client. client.number) clients
 
 -- each client's number, and the numbers of the items that were queued for it
-abbrev pub queued_by_each : List ClientState → List (ℕ × List ℕ)
-queued_by_each clients = map (λ client. (client.number, item_numbers client.queued)) clients
+abbrev pub queued_for_each : List ClientState → List (ℕ × List ℕ)
+queued_for_each clients = map (λ client. (client.number, item_numbers client.queued)) clients
 
 -- all are clients of this gate
 abbrev pub AreOf : GateId → List ClientState → Type 0

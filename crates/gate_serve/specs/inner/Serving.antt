@@ -1,9 +1,10 @@
 -- Only proofs and private functions use this: how the steps of a daemon fail.
-use Rattle.std.specs.Prelude.{◌≡◌, ◌⊎◌, ◌≤◌, length, Option, Some, None, Result, Ok, Err}
+use Rattle.std.specs.Prelude.{◌≡◌, ◌⊎◌, ◌≤◌, ℕ, List, [], length, Option, Some, None, Result, Ok, Err}
 use Rattle.gate_reader.specs.Sink.{SinkState, Delivers, FailsOnce}
 use Rattle.gate_applier.specs.Applier.{ApplierView}
 use Rattle.gate_queue.specs.declared.drained_close.CloseAllCause.{CloseAllCause}
 use Rattle.gate_queue.specs.declared.drained_close.CloseAllCause.TheVariants as cause
+use Rattle.gate_daemon.specs.Answered.{queued_by_each}
 use Rattle.gate_daemon.specs.declared.gateway.Finished.{Finished}
 use Rattle.gate_daemon.specs.declared.gateway.GatewayFault.{GatewayFault}
 use Rattle.gate_daemon.specs.declared.gateway.GatewayFault.TheVariants as gateway_fault
@@ -11,14 +12,30 @@ use Rattle.gate_config.specs.declared.config.Config.{Config}
 use Rattle.gate_setup.specs.declared.fault.ServeFault.{ServeFault}
 use Rattle.gate_setup.specs.declared.fault.ServeFault.TheVariants.{LogFull, OutOfMemory, Spawn, WriteFault}
 use Rattle.gate_setup.specs.Setup.{IsWriteEnd}
-use Rattle.gate_serve.specs.Serve.{page_of, IsRun, IsFull, IsStarved, IsStopped}
+use Rattle.gate_serve.specs.Serve.{page_of, FollowsAddresses, IsRun, IsFull, IsStarved}
+
+-- why a gateway may not have applied all
+abbrev pub IsStopCause : CloseAllCause → Type 0
+IsStopCause cause.LogFull = Unit {0}
+IsStopCause cause.OutOfMemory = Unit {0}
+IsStopCause _ = ⊥
 
 -- the daemon's fault where its gateway did not apply all for this cause
-abbrev pub fault_for : CloseAllCause → ServeFault
-fault_for cause.LogFull = LogFull
-fault_for cause.OutOfMemory = OutOfMemory
-fault_for cause.NotClosing = Spawn
-fault_for (cause.Missing client) = Spawn
+abbrev pub IsFaultOf : CloseAllCause → ServeFault → Type 0
+IsFaultOf cause.LogFull found = found ≡ LogFull
+IsFaultOf cause.OutOfMemory found = found ≡ OutOfMemory
+IsFaultOf _ found = ⊥
+
+-- where a gateway did not apply all, it was for one of these causes
+abbrev pub HasStopped : GatewayFault → Type 0
+HasStopped (gateway_fault.CloseAll gate drain reports) = IsStopCause drain.cause
+HasStopped _ = Unit {0}
+
+-- what the clients of a gateway that has ended were answered is queued, as far as it is known
+abbrev pub queued_after : Result Finished GatewayFault → List (ℕ × List ℕ)
+queued_after (Ok finished) = queued_by_each finished.reports.items
+queued_after (Err (gateway_fault.CloseAll gate drain reports)) = queued_by_each reports.items
+queued_after (Err _) = []
 
 -- the log page of this applier was printed
 pub record IsPageGiven (applier : ApplierView) (before after : SinkState) : Type 0 where
@@ -30,7 +47,6 @@ abbrev pub IsCloseEnd : CloseAllCause → ApplierView → SinkState → SinkStat
 IsCloseEnd why applier before after LogFull = (why ≡ cause.LogFull) × IsPageGiven applier before after
 IsCloseEnd why applier before after OutOfMemory =
     (after ≡ before) ⊎ FailsOnce before after ⊎ ((why ≡ cause.OutOfMemory) × IsPageGiven applier before after)
-IsCloseEnd why applier before after Spawn = IsPageGiven applier before after
 IsCloseEnd why applier before after WriteFault = FailsOnce before after
 IsCloseEnd why applier before after _ = ⊥
 
@@ -47,12 +63,13 @@ IsRunEnd (Err (gateway_fault.CloseAll gate drain reports)) before after found =
     IsCloseEnd drain.cause drain.applier before after found
 IsRunEnd (Err _) before after found = IsLoglessEnd before after found
 
--- a daemon of this configuration ended without a fault or with this one
-abbrev pub RunsOn : Config → SinkState → SinkState → Option ServeFault → Type 0
-RunsOn config before after None = IsRun config before after
-RunsOn config before after (Some LogFull) = IsFull config before after
-RunsOn config before after (Some OutOfMemory) =
-    (after ≡ before) ⊎ FailsOnce before after ⊎ IsStarved config before after
-RunsOn config before after (Some Spawn) = IsStopped config before after
-RunsOn config before after (Some WriteFault) = FailsOnce before after
-RunsOn config before after (Some _) = ⊥
+-- a daemon of this configuration, whose clients were answered that these numbers are queued, ended without a fault or with
+-- this one
+abbrev pub RunsOn : Config → SinkState → SinkState → List (ℕ × List ℕ) → Option ServeFault → Type 0
+RunsOn config before after queued None = IsRun config queued before after
+RunsOn config before after queued (Some LogFull) = IsFull config queued before after
+RunsOn config before after queued (Some OutOfMemory) =
+    (after ≡ before) ⊎ FailsOnce before after ⊎ IsStarved config queued before after
+RunsOn config before after queued (Some Spawn) = FollowsAddresses config before after []
+RunsOn config before after queued (Some WriteFault) = FailsOnce before after
+RunsOn config before after queued (Some _) = ⊥

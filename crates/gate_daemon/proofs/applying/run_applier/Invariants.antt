@@ -1,4 +1,4 @@
-use Rattle.std.proofs.Common.{◌≡◌}
+use Rattle.std.proofs.Common.{◌≡◌, ◌≤◌}
 use Rattle.gate_queue.specs.DrainedClose.{items_of_records}
 use Rattle.gate_daemon.specs.Applying.{IsSameLog}
 use Rattle.gate_daemon.proofs.applying.run_applier.Given as goal
@@ -8,3 +8,4 @@ invariant-loop g l =
     (goal.iterator-loop g).can_next l.iterator' × (goal.iterator-loop g).is_finite l.iterator'
     × (l.taker.gate ≡ l.gate) × (items_of_records l.applier.records ≡ l.taker.taken) × (l.taker.ended ≡ l.initial.taker.ended)
     × IsSameLog l.initial.applier l.applier
+    × (l.last.pauses_left ≤ 25) × (l.applier.moment.0 ≤ l.last.moment.0)

@@ -6,7 +6,7 @@ pub scoped-requires : goal.scoped-requires
 scoped-requires g c =
     record {
       at = λ a. (
-        (c.requires.taker, c.requires.closer, c.requires.clients, c.requires.posts, c.requires.operator, c.requires.none, c.requires.room),
+        (c.requires.applied, c.requires.closer, c.requires.new, c.requires.last, c.requires.room),
         (
           record { owned = c.type_bounds.send-C.owned; leaving = λ k. search (Quiet-if) },
           record { owned = c.type_bounds.send-H.owned; leaving = λ k. search (Quiet-if) },

@@ -8,4 +8,4 @@ loop-preserved g c =
     let t = reported_next c.loop.client.queued c.next_connection.new.client.queued c.serve_either-served.result.0.queued
     c.loop.reports.items c.next_connection.new.reports.items c.push_reserved.new.self.items c.serve_either-served.result.2
     i.5 i.6 c.next_connection.ensures.queued c.serve_either-served.ensures.queued c.next_connection.ensures.reports c.push_reserved.ensures.items in
-    (tt, tt, search rules, search rules, search rules, t.0, t.1)
+    (tt, tt, search rules, search rules, search rules, t.0, t.1, search rules)

@@ -1,4 +1,4 @@
-use Rattle.std.proofs.Common.{◌≡◌, length}
+use Rattle.std.proofs.Common.{◌≡◌, ◌≤◌, length, vec_len}
 use Rattle.std.specs.Prelude.{IfSome}
 use Rattle.gate_worker.specs.Numbers.{item_numbers, numbers_after, reported_numbers}
 use Rattle.gate_worker.proofs.worker.run_worker.Given as goal
@@ -9,3 +9,4 @@ invariant-loop g l =
     × (l.client.gate ≡ l.gate) × (l.client.number ≡ l.initial.client.number)
     × IfSome l.closer (λ c. c.cell ≡ l.gate.cell)
     × (item_numbers l.client.queued ≡ reported_numbers l.reports.items) × (reported_numbers l.reports.items ≡ numbers_after 0 (length l.client.queued))
+    × (vec_len l.reports ≤ l.initial.limits.sessions)

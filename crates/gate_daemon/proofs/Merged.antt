@@ -1,6 +1,6 @@
--- Once all clients were joined, the log holds for each of them what its reports answer with Queued.
+-- Once all clients were joined, the log holds for each of them what it was answered is queued.
 use Rattle.std.proofs.Common.{◌≡◌, ℕ, zero, suc, ◌+◌, ◌≤◌, ◌<◌, Bool, eq-eqb, if◌then◌else◌, List, [], ◌∷◌, map, Some, refl, sym, ap, ◌∙◌, subst, arith}
-use Rattle.std.specs.Prelude.{unwrap_or}
+use Rattle.std.specs.Prelude.{All, length, unwrap_or}
 use Rattle.std.proofs.lemmas.Bool.{ne_eqb}
 use Rattle.gate_model.specs.declared.submission.Numbered.{Numbered}
 use Rattle.gate_core.specs.Merge.{IsClient, of_client, IsMerge}
@@ -9,7 +9,8 @@ use Rattle.gate_queue.specs.Client.{ClientState}
 use Rattle.gate_queue.specs.Taker.{ended_list, queued_of}
 use Rattle.gate_queue.specs.DrainedClose.{lists_with, queued_by}
 use Rattle.gate_worker.specs.Numbers.{item_numbers, numbers_after}
-use Rattle.gate_daemon.specs.inner.Collecting.{numbers_of}
+use Rattle.gate_daemon.specs.Answered.{HoldsAll}
+use Rattle.gate_daemon.specs.inner.Collecting.{numbers_of, queued_for_each}
 
 -- ---- distinct numbers
 
@@ -73,25 +74,32 @@ each_merged n items (e ∷ es) old h d w =
 pub all_merged : (workers : ℕ) (items : List Numbered) (es : List ClientState) → numbers_of es ≡ suc workers ∷ numbers_after 0 workers → IsMerge (suc workers) (queued_by es []) items → map (λ e. item_numbers (of_client e.number items)) es ≡ map (λ e. item_numbers e.queued) es
 all_merged workers items es all m = each_merged (suc workers) items es [] m.each (subst AreDistinct (sym all) (distinct_all workers)) (subst (AreClients (suc workers)) (sym all) (clients_all workers))
 
--- ---- the reports beside the clients
+-- ---- what they were answered
 
 pub map_twice : {A B C : Type 0} (f : B → C) (g : A → B) (xs : List A) → map f (map g xs) ≡ map (λ x. f (g x)) xs
 map_twice f g [] = refl
 map_twice f g (x ∷ xs) = ap (λ l. f (g x) ∷ l) (map_twice f g xs)
 
--- where clients and reports give the same pairs, what the log holds for the clients is what it holds for the reports
-pub reports_agree : {X Y : Type 0} (es : List X) (rs : List Y) (n : X → ℕ) (s : X → List Numbered) (c : Y → ℕ) (q : Y → List ℕ) (items : List Numbered) → map {B = ℕ × List ℕ} (λ e. (n e, item_numbers (s e))) es ≡ map {B = ℕ × List ℕ} (λ p. (c p, q p)) rs
-    → map (λ e. item_numbers (of_client (n e) items)) es ≡ map (λ e. item_numbers (s e)) es → map (λ p. item_numbers (of_client (c p) items)) rs ≡ map q rs
-reports_agree {X} {Y} es rs n s c q items e m =
-    let F : ℕ × List ℕ → List ℕ = λ z. item_numbers (of_client z.0 items) in
-    let G : ℕ × List ℕ → List ℕ = λ z. z.1 in
-    let one : X → ℕ × List ℕ = λ x. (n x, item_numbers (s x)) in
-    let two : Y → ℕ × List ℕ = λ y. (c y, q y) in
-    sym (map_twice F two rs) ∙ ap (map F) (sym e) ∙ map_twice F one es ∙ m ∙ sym (map_twice G one es) ∙ ap (map G) e ∙ map_twice G two rs
+holds_for : (workers : ℕ) (es : List ClientState) (log : List Numbered) → numbers_of es ≡ suc workers ∷ numbers_after 0 workers
+    → All (λ (pair : ℕ × List ℕ). pair.1 ≡ numbers_after 0 (length pair.1)) (queued_for_each es)
+    → IsMerge (suc workers) (queued_by es []) log → HoldsAll workers (queued_for_each es) log
+holds_for workers es log all counted merge =
+    let one : ClientState → ℕ × List ℕ = λ e. (e.number, item_numbers e.queued) in
+    let e : suc workers ≡ workers + 1 = omega arith in
+    record {
+      clients = map_twice (λ (pair : ℕ × List ℕ). pair.0) one es ∙ all ∙ ap (λ k. k ∷ numbers_after 0 workers) e;
+      counted = counted;
+      answered = map_twice (λ (pair : ℕ × List ℕ). item_numbers (of_client pair.0 log)) one es ∙ all_merged workers log es all merge
+          ∙ sym (map_twice (λ (pair : ℕ × List ℕ). pair.1) one es);
+      items = subst (λ (n : ℕ). All (λ (item : Numbered). IsClient n item.client) log) e merge.clients;
+    }
 
-pub same_numbers : {X Y : Type 0} (es : List X) (rs : List Y) (n : X → ℕ) (s : X → List Numbered) (c : Y → ℕ) (q : Y → List ℕ) → map {B = ℕ × List ℕ} (λ e. (n e, item_numbers (s e))) es ≡ map {B = ℕ × List ℕ} (λ p. (c p, q p)) rs → map c rs ≡ map n es
-same_numbers {X} {Y} es rs n s c q e =
-    let F : ℕ × List ℕ → ℕ = λ z. z.0 in
-    let one : X → ℕ × List ℕ = λ x. (n x, item_numbers (s x)) in
-    let two : Y → ℕ × List ℕ = λ y. (c y, q y) in
-    sym (map_twice F two rs) ∙ ap (map F) (sym e) ∙ map_twice F one es
+-- all clients were joined, these are the numbers that were queued for them, and the log is a merge of their items
+pub holds_all : (workers n : ℕ) (es : List ClientState) (queued : List (ℕ × List ℕ)) (log : List Numbered) → n ≡ workers + 1
+    → numbers_of es ≡ (workers + 1) ∷ numbers_after 0 workers → queued_for_each es ≡ queued
+    → All (λ (pair : ℕ × List ℕ). pair.1 ≡ numbers_after 0 (length pair.1)) (queued_for_each es)
+    → IsMerge n (queued_by es []) log → HoldsAll workers queued log
+holds_all workers n es queued log same all reported counted merge =
+    let e : workers + 1 ≡ suc workers = omega arith in
+    subst (λ (q : List (ℕ × List ℕ)). HoldsAll workers q log) reported
+    (holds_for workers es log (all ∙ ap (λ k. k ∷ numbers_after 0 workers) e) counted (subst (λ (k : ℕ). IsMerge k (queued_by es []) log) (same ∙ e) merge))

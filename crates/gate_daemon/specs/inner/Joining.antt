@@ -1,0 +1,48 @@
+-- Only proofs and private functions use this: workers before they start, and what all threads returned.
+use Rattle.std.specs.Prelude.{◌≡◌, ℕ, ◌+◌, ◌≤◌, Bool, IsTrue, IsSome, List, [], ◌∷◌, length}
+use Rattle.gate_queue.specs.Gate.{GateId}
+use Rattle.gate_queue.specs.Client.{ClientState}
+use Rattle.gate_queue.specs.Taker.{TakerState}
+use Rattle.gate_queue.specs.Opening.{new_clients}
+use Rattle.gate_queue.specs.DrainedClose.{items_of_records}
+use Rattle.gate_applier.specs.Applier.{ApplierView}
+use Rattle.gate_worker.specs.Numbers.{numbers_after}
+use Rattle.gate_daemon.specs.Applying.{IsSameLog}
+use Rattle.gate_daemon.specs.declared.collected.Collected.{Collected}
+use Rattle.gate_daemon.specs.declared.joined.Joined.{Joined}
+use Rattle.gate_daemon.specs.inner.Collecting.{numbers_of, AreOf}
+
+-- there is room for what so many workers return, and nothing there yet
+pub record HasRoom (count : ℕ) (collected : Collected) : Type 0 where
+  pub none : collected.ended.items ≡ []
+  pub ended : count ≤ collected.ended.cap
+  pub reports : count ≤ collected.reports.cap
+
+-- clients of this gate: 1 to as many as there are posts, and the operator's, for none of which anything is queued
+pub record AreNew (gate : GateId) (clients : List ClientState) (posts : ℕ) (operator : ClientState) : Type 0 where
+  pub all : clients ≡ new_clients gate (length clients)
+  pub count : posts ≡ length clients
+  pub operators : operator.gate ≡ gate
+  pub fresh : operator.queued ≡ []
+
+-- the ends of at most so many workers of packets and of the operator's are collected; where all were started, of all
+pub record AreCollected (gate : GateId) (count operator : ℕ) (before after : Collected) (all_started : Bool) : Type 0 where
+  pub all : IsTrue all_started → numbers_of after.ended.items ≡ operator ∷ numbers_after 0 count
+  pub few : length after.ended.items ≤ count + 1
+  pub gates : AreOf gate after.ended.items
+  pub ended_room : after.ended.cap ≡ before.ended.cap
+  pub reports_room : after.reports.cap ≡ before.reports.cap
+
+-- the taker of this gate took what was applied, and no client in
+pub record IsApplied (gate : GateId) (taker : TakerState) (applier : ApplierView) : Type 0 where
+  pub of_gate : taker.gate ≡ gate
+  pub none_in : taker.ended ≡ []
+  pub applied : items_of_records applier.records ≡ taker.taken
+
+-- the threads of a gate with so many workers of packets are joined, and its taker knows of the close
+pub record AreJoined (gate : GateId) (workers : ℕ) (before : ApplierView) (joined : Joined) : Type 0 where
+  pub applied : IsApplied gate joined.taker joined.applier
+  pub known_close : IsSome joined.taker.known_close
+  pub same : IsSameLog before joined.applier
+  pub all : numbers_of joined.collected.ended.items ≡ (workers + 1) ∷ numbers_after 0 workers
+  pub gates : AreOf gate joined.collected.ended.items

@@ -1,0 +1,154 @@
+ghost use Rattle.std.specs.Prelude.{◌≡◌, ◌+◌, ◌≤◌, ◌⊎◌, length, IfOk, IfErr, IsTrue, true, false};
+ghost use Rattle.gate_model.specs.Record.{later};
+ghost use Rattle.gate_daemon.specs.Applying.{IsSameLog};
+ghost use Rattle.gate_daemon.specs.Boards.{is_due, pauses_after, shows_all};
+ghost use Rattle.gate_daemon.specs.declared.boards.Found.TheVariants.{Item, Nothing};
+ghost use Rattle.gate_daemon.specs.inner.Publishing.{IsTried};
+
+use gate_applier::Applier;
+use gate_model::Moment;
+use gate_pages::{Board, publish};
+use gate_worker::pause;
+use gate_worker::times::{BOARD_PAUSES, QUIET_PAUSES};
+use std::alloc::{AllocError, Global};
+use std::sync::{Mutex, Wait};
+use std::time::Clock;
+
+/// What the applier found in the queue.
+#[derive(Clone, Copy, Debug, PartialEq, Eq)]
+pub(crate) enum Found {
+    Item,
+    Nothing,
+}
+
+/// The last board that was tried.
+#[derive(Clone, Copy, Debug, PartialEq, Eq)]
+pub(crate) struct LastBoard {
+    // How many records it shows.
+    pub(crate) records: usize,
+    // Its moment.
+    pub(crate) moment: Moment,
+    // There was memory for it.
+    pub(crate) is_published: bool,
+    // How many pauses without an item stand before the next one, which copies all that a page shows.
+    pub(crate) pauses_left: u32,
+}
+
+/// Whether a board is tried now, and how many pauses then stand before the next one.
+#[derive(Clone, Copy, Debug, PartialEq, Eq)]
+pub(crate) struct NextBoard {
+    pub(crate) is_due: bool,
+    pub(crate) pauses_left: u32,
+}
+
+/// Decides in each turn of the applier whether a board is tried: one of so many records, at this
+/// moment. Where there was no memory for it, one is still due. Own rule.
+pub(crate) fn next_board(last: LastBoard, found: Found, records: usize, now: Moment) -> NextBoard
+    requires { last.pauses_left ≤ 25 }
+    ensures due { result.is_due ≡ is_due found last records now }
+    ensures pauses { result.pauses_left ≡ pauses_after found result.is_due last.pauses_left }
+    // Within 25 pauses without an item, which are 50 ms, a board shows all or is tried.
+    ensures within { result.pauses_left ≤ 25 }
+    ensures sooner { found ≡ Nothing → result.is_due ≡ false
+        → (shows_all last records now ≡ true) ⊎ (result.pauses_left + 1 ≡ last.pauses_left) }
+    // While items come, no second passes without one.
+    ensures second { found ≡ Item → result.is_due ≡ false → now.0 ≤ last.moment.0 }
+{
+    let shows_all = last.is_published && last.records == records && now.0 <= last.moment.0;
+    let is_due = match found {
+        Found::Item => last.moment.0 < now.0,
+        Found::Nothing => last.pauses_left == 0 && !shows_all,
+    };
+    let pauses_left = match found {
+        _ if is_due => BOARD_PAUSES,
+        Found::Item => last.pauses_left.max(QUIET_PAUSES),
+        Found::Nothing => last.pauses_left.saturating_sub(1),
+    };
+    NextBoard {
+        is_due,
+        pauses_left,
+    }
+}
+
+// Replaces the board, if the next one could be made: whether it was.
+fn replace(board: &mut Board, next: Result<Board, AllocError>) -> bool
+    ensures published { IfOk next (λ made. IsTrue result × (board.new ≡ made)) }
+    ensures kept { IfErr next (λ _. (result ≡ false) × (board.new ≡ board.old)) }
+{
+    match next {
+        Ok(next) => {
+            publish(board, next);
+            true
+        }
+        Err(_) => false,
+    }
+}
+
+// Publishes a board of what the applier shows, if there is memory for it. It is made before the lock
+// is taken, so that no page waits for it.
+fn try_show<R: Wait>(rt: &R, alloc: Global, applier: &Applier, board: &Mutex<Board>) -> bool {
+    let next = Board::of(alloc, applier);
+    replace(&mut board.lock(rt), next)
+}
+
+/// Goes on to the clock's moment and publishes a board, where one is due.
+pub(crate) fn show<R: Wait>(
+    rt: &R,
+    alloc: Global,
+    applier: &mut Applier,
+    found: Found,
+    now: Moment,
+    last: LastBoard,
+    board: &Mutex<Board>,
+) -> LastBoard
+    requires pauses { last.pauses_left ≤ 25 }
+    requires shown { found ≡ Nothing → applier.old.moment.0 ≤ last.moment.0 }
+    ensures due { let moment = later applier.old.moment now in
+        is_due found last (length applier.old.records) moment ≡ true
+        → (applier.new.moment ≡ moment) × IsTried applier.new result }
+    ensures waits { let moment = later applier.old.moment now in
+        is_due found last (length applier.old.records) moment ≡ false
+        → (applier.new ≡ applier.old)
+        × (result ≡ record last { pauses_left = pauses_after found false last.pauses_left }) }
+    ensures pauses { result.pauses_left ≤ 25 }
+    // No board of an earlier second stands there.
+    ensures shown { applier.new.moment.0 ≤ result.moment.0 }
+    ensures records { applier.new.records ≡ applier.old.records }
+    ensures same { IsSameLog applier.old applier.new }
+{
+    let moment = applier.moment().later(now);
+    let records = applier.records().len();
+    let NextBoard {
+        is_due,
+        pauses_left,
+    } = next_board(last, found, records, moment);
+    if !is_due {
+        return LastBoard {
+            pauses_left,
+            ..last
+        };
+    }
+    applier.advance(now);
+    LastBoard {
+        records,
+        moment,
+        is_published: try_show(rt, alloc, applier, board),
+        pauses_left,
+    }
+}
+
+/// Publishes a board of what the applier shows, once there is memory for it.
+pub(crate) fn show_last<R: Wait + Clock>(
+    rt: &R,
+    alloc: Global,
+    applier: &Applier,
+    board: &Mutex<Board>,
+) {
+    for _ in rt.forever() {
+        if try_show(rt, alloc, applier, board) {
+            return;
+        }
+        pause(rt);
+    }
+    unreachable!()
+}

@@ -1,0 +1,11 @@
+use crate::collected::Collected;
+use gate_applier::Applier;
+use gate_queue::Taker;
+
+// What the threads of a gateway returned.
+#[derive(Drop)]
+pub(crate) struct Joined {
+    pub(crate) taker: Taker,
+    pub(crate) applier: Applier,
+    pub(crate) collected: Collected,
+}

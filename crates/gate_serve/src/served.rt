@@ -1,0 +1,27 @@
+ghost use Rattle.std.specs.Prelude.{◌≡◌, [], Some};
+
+use gate_reader::Report;
+use gate_setup::ServeFault;
+use std::alloc::Global;
+
+/// How a daemon ended.
+#[derive(Drop)]
+pub struct Served {
+    /// What its clients were answered: each client's number with the reports of its connections, the
+    /// operator's first, and then those of the workers of packets, from 1. None where the daemon
+    /// ended with a fault other than LogFull, or than OutOfMemory of the last records.
+    pub reports: Vec<(u32, Vec<Report>)>,
+    /// What stopped it early.
+    pub fault: Option<ServeFault>,
+}
+
+// A daemon that ended without reports.
+pub(crate) fn without_reports(alloc: Global, fault: ServeFault) -> Served
+    ensures reports { result.reports.items ≡ [] }
+    ensures fault { result.fault ≡ Some fault }
+{
+    Served {
+        reports: Vec::new(alloc),
+        fault: Some(fault),
+    }
+}
