@@ -3,7 +3,7 @@ ghost use Rattle.gate_reader.specs.Sink.{SinkState, sink_state, Delivers};
 ghost use Rattle.gate_daemon.specs.Answered.{queued_by_each};
 ghost use Rattle.gate_setup.specs.Setup.{IsWriteEnd};
 ghost use Rattle.gate_serve.specs.Serve.{page_of};
-ghost use Rattle.gate_serve.specs.inner.Serving.{HasStopped, IsCloseEnd, IsFaultOf, IsLoglessEnd, IsRunEnd, IsStopCause, queued_after};
+ghost use Rattle.gate_serve.specs.inner.Serving.{HasStopped, IsCloseEnd, IsFaultOf, IsRunEnd, IsStopCause, queued_after};
 
 use crate::served::{Served, without_reports};
 use gate_applier::Applier;
@@ -54,19 +54,6 @@ fn end_early<W: Sink>(alloc: Global, fault: CloseAllFault, output: &mut W) -> Se
     }
 }
 
-// The fault of a gateway that has no log.
-fn fault_without_log(fault: GatewayFault) -> ServeFault
-    ensures { (state : SinkState) → IsLoglessEnd state state result }
-{
-    let found = match &fault {
-        GatewayFault::Spawn => ServeFault::Spawn,
-        // The queue and the applier take all limits that a configuration may have.
-        _ => ServeFault::OutOfMemory,
-    };
-    drop(fault);
-    found
-}
-
 /// Prints the log page of a gateway that has ended, if it has one.
 pub(crate) fn end<W: Sink>(
     alloc: Global,
@@ -101,6 +88,11 @@ pub(crate) fn end<W: Sink>(
             let fault = Some(end_early(alloc, fault, output));
             Served { reports, fault }
         }
-        Err(fault) => without_reports(alloc, fault_without_log(fault)),
+        // The queue and the applier take all limits that a configuration may have, so that only
+        // memory can be their fault.
+        Err(GatewayFault::Queue(_) | GatewayFault::Applier(_) | GatewayFault::OutOfMemory) => {
+            without_reports(alloc, ServeFault::OutOfMemory)
+        }
+        Err(GatewayFault::Spawn) => without_reports(alloc, ServeFault::Spawn),
     }
 }

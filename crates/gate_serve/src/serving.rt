@@ -108,13 +108,7 @@ fn run<R: Net<Listener = TcpListener, Stream = TcpStream> + Threads + Wait + Clo
 fn serve_on<
     R: Net<Listener = TcpListener, Stream = TcpStream> + Threads + Wait + Clock + Sync,
     W: Sink,
->(
-    rt: &R,
-    alloc: Global,
-    config: Config,
-    listeners: Listeners,
-    output: &mut W,
-) -> Served
+>(rt: &R, alloc: Global, config: Config, listeners: Listeners, output: &mut W) -> Served
     requires bound { AreBoundAs config
         listeners.agents.address listeners.operators.address listeners.pages.address }
     requires workers { vec_len listeners.agents.listeners ≡ config.workers }

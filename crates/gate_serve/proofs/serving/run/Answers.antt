@@ -1,4 +1,4 @@
-use Rattle.std.proofs.Common.{ℕ, List, subst}
+use Rattle.std.proofs.Common.{ℕ, subst}
 use Rattle.std.proofs.lemmas.Result.{IfOk-weaker}
 use Rattle.gate_queue.specs.DrainedClose.{items_of_records}
 use Rattle.gate_daemon.specs.Answered.{queued_by_each, HoldsAll}
