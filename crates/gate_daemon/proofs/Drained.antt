@@ -12,7 +12,7 @@ use Rattle.gate_queue.specs.declared.drained_close.CloseAllCause.{CloseAllCause}
 use Rattle.gate_queue.specs.declared.drained_close.CloseAllCause.TheVariants as cause
 use Rattle.gate_queue.specs.Client.{ClientState}
 use Rattle.gate_queue.specs.Gate.{GateId}
-use Rattle.gate_queue.specs.DrainedClose.{is_present, queued_by, items_of_records, CloseParts, CanClose, IsCloseAllFault, IsLeastMissing, IsStopped, LeavesSome}
+use Rattle.gate_queue.specs.DrainedClose.{is_present, queued_by, items_of_records, CloseParts, AppliesMore, CanClose, IsCloseAllFault, IsLeastMissing, IsStopped, LeavesSome}
 use Rattle.gate_worker.specs.Numbers.{numbers_after}
 use Rattle.gate_daemon.specs.Answered.{HoldsAll}
 use Rattle.gate_daemon.specs.Faults.{LosesNothing, IsUndrained}
@@ -103,7 +103,7 @@ stopped : (workers n : ℕ) (now : Moment) (queued : List (ℕ × List ℕ)) (ol
     × ((log : List Numbered) → LeavesSome n (queued_by new.clients new.taker.ended) log → LosesNothing workers queued log)
 stopped workers n now queued old new can is =
     let given : queued_by new.clients new.taker.ended ≡ queued_by old.clients old.taker.ended =
-        ap (λ (es : List ClientState). queued_by es new.taker.ended) is.clients ∙ ap (queued_by []) is.taken_in in (
+    ap (λ (es : List ClientState). queued_by es new.taker.ended) is.clients ∙ ap (queued_by []) is.taken_in in (
       drained_left workers n queued old _ can is.left,
       λ log merge. drained_all workers n queued old log can (subst (λ (sent : ℕ → List Numbered). IsMerge n sent log) given merge),
       λ log some. drained_left workers n queued old log can (subst (λ (sent : ℕ → List Numbered). LeavesSome n sent log) given some),
@@ -136,3 +136,11 @@ undrained workers limit table gate now cause.OutOfMemory queued old new can agai
       again = t.1;
       later = t.2;
     }
+
+-- what was applied before a drain stopped
+pub applied_until : (workers n : ℕ) (now : Moment) (why : CloseAllCause) (queued : List (ℕ × List ℕ)) (old new : CloseParts) → CanDrain workers n queued old
+    → IsCloseAllFault why n now old new → AppliesMore now old.applier new.applier
+applied_until workers n now (cause.Missing c) queued old new can fault = absurd (none_missing workers n c queued old can fault.0)
+applied_until workers n now cause.NotClosing queued old new can fault = absurd (is_known old.taker.known_close can.known_close fault.1.taker)
+applied_until workers n now cause.LogFull queued old new can fault = fault.1.applied
+applied_until workers n now cause.OutOfMemory queued old new can fault = fault.1.applied

@@ -1,3 +1,4 @@
 pub mod Clients
 pub mod Merged
 pub mod Drained
+pub mod Clocked

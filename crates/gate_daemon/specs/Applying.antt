@@ -1,9 +1,46 @@
--- What applying leaves as it is. Own rule.
-use Rattle.std.specs.Prelude.{◌≡◌}
+-- What applying leaves as it is, and the moments at which records stand. Own rules.
+use Rattle.std.specs.Prelude.{◌≡◌, ℕ, List, [], ◌∷◌, ◌++◌, map, Option, Some, None}
+use Rattle.gate_model.specs.declared.record.Moment.{Moment}
+use Rattle.gate_model.specs.declared.record.Record.{Record}
+use Rattle.gate_model.specs.declared.submission.Numbered.{Numbered}
+use Rattle.gate_model.specs.Record.{later}
 use Rattle.gate_applier.specs.Applier.{ApplierView}
+use Rattle.gate_reader.specs.Clock.{Takes}
 
 -- it is a log of the same table and limit, opened at the same moment
 pub record IsSameLog (old new : ApplierView) : Type 0 where
   pub table : new.table ≡ old.table
   pub opening : new.opening ≡ old.opening
   pub limit : new.limit ≡ old.limit
+
+-- what an applier's clock read, and the item that was applied then, if any
+pub record Reading : Type 0 where
+  pub moment : Moment
+  pub item : Option Numbered
+
+-- the moments that were read, in order
+abbrev pub moments_of : List Reading → List Moment
+moments_of readings = map (λ reading. reading.moment) readings
+
+-- the latest of this moment and of the readings
+abbrev pub latest_of : Moment → List Reading → Moment
+latest_of moment [] = moment
+latest_of moment (reading ∷ readings) = latest_of (later moment reading.moment) readings
+
+-- the item's record of this moment, if there is an item
+abbrev pub record_at : Moment → Option Numbered → List Record
+record_at moment None = []
+record_at moment (Some item) = (record { moment = moment; item = item }) ∷ []
+
+-- the records of the items, in order: each stands at the later of its reading and the applier's moment then
+abbrev pub records_by : Moment → List Reading → List Record
+records_by moment [] = []
+records_by moment (reading ∷ readings) =
+    record_at (later moment reading.moment) reading.item ++ records_by (later moment reading.moment) readings
+
+-- the clock was read, the old records are followed by those of these readings, and the applier's moment is the latest
+pub record GoesByClock (before after : Option (ℕ → Moment)) (old new : ApplierView) : Type 0 where
+  pub readings : List Reading
+  pub taken : Takes before after (moments_of readings)
+  pub records : new.records ≡ old.records ++ records_by old.moment readings
+  pub moment : new.moment ≡ latest_of old.moment readings

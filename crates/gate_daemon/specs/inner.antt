@@ -1,4 +1,5 @@
 pub mod Collecting
+pub mod Draining
 pub mod Joining
 pub mod Opening
 pub mod Publishing

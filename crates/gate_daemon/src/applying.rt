@@ -1,7 +1,10 @@
 ghost use Rattle.std.specs.Prelude.{◌≡◌, ◌≢◌, ◌≤◌, [], ◌∷◌, ◌++◌, IsSome, length};
+ghost use Rattle.gate_model.specs.declared.record.Moment.{Moment};
+ghost use Rattle.gate_model.specs.Record.{later};
+ghost use Rattle.gate_reader.specs.Clock.{Reads};
 ghost use Rattle.gate_queue.specs.DrainedClose.{items_of_records};
 ghost use Rattle.gate_daemon.specs.declared.applying.ApplierStop.TheVariants.{Closing, LogFull};
-ghost use Rattle.gate_daemon.specs.Applying.{IsSameLog};
+ghost use Rattle.gate_daemon.specs.Applying.{GoesByClock, IsSameLog};
 ghost use Rattle.gate_daemon.specs.declared.applying.Step.TheVariants as step;
 ghost use Rattle.gate_daemon.specs.declared.boards.Found.TheVariants.{Item, Nothing};
 
@@ -10,10 +13,11 @@ use gate_applier::{Applier, PrepareCause, PrepareFault, Ready};
 use gate_model::{Moment, Numbered};
 use gate_pages::Board;
 use gate_queue::{Gate, Taker};
-use gate_worker::{Hold, Point, Watch, pause};
+use gate_reader::Clock;
+use gate_worker::{Hold, Point, pause};
 use std::alloc::Global;
 use std::sync::{Mutex, Wait};
-use std::time::Clock;
+use std::time;
 
 /// Why the applier stopped. Own rules.
 #[derive(Clone, Copy, Debug, PartialEq, Eq)]
@@ -46,6 +50,9 @@ fn step_of(cause: PrepareCause) -> Step
 fn apply_item(ready: Ready, item: Numbered, now: Moment) -> Applier
     ensures items { items_of_records result.records
         ≡ items_of_records ready.records ++ item ∷ [] }
+    ensures records { let moment = later ready.moment now in
+        result.records ≡ ready.records ++ (record { moment = moment; item = item }) ∷ [] }
+    ensures moment { result.moment ≡ later ready.moment now }
     ensures same { IsSameLog ready result }
 {
     let (applier, _) = ready.apply(item, now);
@@ -53,12 +60,12 @@ fn apply_item(ready: Ready, item: Numbered, now: Moment) -> Applier
 }
 
 // Takes an item and applies it.
-fn apply_next<R: Wait, K: Watch, H: Hold>(
+fn apply_next<R: Wait, K: Clock, H: Hold>(
     rt: &R,
     gate: &Gate,
     taker: &mut Taker,
     ready: Ready,
-    clock: &K,
+    clock: &mut K,
     hold: &mut H,
 ) -> (Applier, Step)
     requires gate { taker.old.gate ≡ gate.now }
@@ -67,14 +74,14 @@ fn apply_next<R: Wait, K: Watch, H: Hold>(
     ensures ended { taker.new.ended ≡ taker.old.ended }
     ensures applied { items_of_records result.0.records ≡ taker.new.taken }
     ensures same { IsSameLog ready result.0 }
+    ensures clock { GoesByClock (K.readings clock.old) (K.readings clock.new) ready result.0 }
     ensures not_full { result.1 ≢ step.LogFull }
-    ensures moment { result.1 ≢ step.Took Item → result.0.moment ≡ ready.moment }
 {
     match taker.take(rt, gate) {
         Some(item) => {
             hold.pass(Point::BeforeApply);
             (
-                apply_item(ready, item, clock.read()),
+                apply_item(ready, item, clock.now()),
                 Step::Took(Found::Item),
             )
         }
@@ -83,12 +90,12 @@ fn apply_next<R: Wait, K: Watch, H: Hold>(
 }
 
 // Takes an item and applies it, where there is room for it.
-fn turn<R: Wait, K: Watch, H: Hold>(
+fn turn<R: Wait, K: Clock, H: Hold>(
     rt: &R,
     gate: &Gate,
     taker: &mut Taker,
     applier: Applier,
-    clock: &K,
+    clock: &mut K,
     hold: &mut H,
 ) -> (Applier, Step)
     requires gate { taker.old.gate ≡ gate.now }
@@ -97,7 +104,7 @@ fn turn<R: Wait, K: Watch, H: Hold>(
     ensures ended { taker.new.ended ≡ taker.old.ended }
     ensures applied { items_of_records result.0.records ≡ taker.new.taken }
     ensures same { IsSameLog applier result.0 }
-    ensures moment { result.1 ≢ step.Took Item → result.0.moment ≡ applier.moment }
+    ensures clock { GoesByClock (K.readings clock.old) (K.readings clock.new) applier result.0 }
     ensures log_full { result.1 ≡ step.LogFull
         → length result.0.records ≡ result.0.limit }
 {
@@ -107,31 +114,46 @@ fn turn<R: Wait, K: Watch, H: Hold>(
     }
 }
 
-// Publishes a board, where one is due, and rests where no item was found. While none is, the applier
-// goes on with the clock.
-fn show_turn<R: Wait + Clock, K: Watch>(
+// Goes on to the clock's moment, where it is later.
+fn go_on<K: Clock>(applier: &mut Applier, clock: &mut K)
+    ensures idle { (now : Moment) × Reads (K.readings clock.old) (K.readings clock.new) now
+        × (applier.new.moment ≡ later applier.old.moment now) }
+    ensures records { applier.new.records ≡ applier.old.records }
+    ensures same { IsSameLog applier.old applier.new }
+{
+    let now = clock.now();
+    // What is due by time is looked for once a second, and not in each turn.
+    if applier.moment().0 < now.0 {
+        applier.advance(now);
+    }
+}
+
+// Publishes a board, where one is due. Where no item was found, the applier goes on with the clock
+// before it, and rests after it.
+fn show_turn<R: Wait + time::Clock, K: Clock>(
     rt: &R,
     alloc: Global,
     applier: &mut Applier,
     found: Found,
-    clock: &K,
+    clock: &mut K,
     last: LastBoard,
     board: &Mutex<Board>,
 ) -> LastBoard
     requires pauses { last.pauses_left ≤ 25 }
-    requires shown { found ≡ Nothing → applier.old.moment.0 ≤ last.moment.0 }
     ensures pauses { result.pauses_left ≤ 25 }
-    ensures shown { applier.new.moment.0 ≤ result.moment.0 }
+    ensures clock { GoesByClock (K.readings clock.old) (K.readings clock.new)
+        applier.old applier.new }
+    ensures idle { found ≡ Nothing
+        → (now : Moment) × Reads (K.readings clock.old) (K.readings clock.new) now
+        × (applier.new.moment ≡ later applier.old.moment now) }
     ensures records { applier.new.records ≡ applier.old.records }
     ensures same { IsSameLog applier.old applier.new }
 {
     match found {
-        Found::Item => {
-            let now = applier.moment();
-            show(rt, alloc, applier, found, now, last, board)
-        }
+        Found::Item => show(rt, alloc, applier, found, last, board),
         Found::Nothing => {
-            let shown = show(rt, alloc, applier, found, clock.read(), last, board);
+            go_on(applier, clock);
+            let shown = show(rt, alloc, applier, found, last, board);
             // No call waits for the queue to have an item, so the applier looks every 2 ms.
             pause(rt);
             shown
@@ -148,13 +170,13 @@ fn show_turn<R: Wait + Clock, K: Watch>(
 /// board shows all of it: the queue fills up then, and nobody waits for room in it. Where memory is
 /// missing, it tries again. It waits for items, and for other threads at the queue and at the board.
 /// Own rule.
-pub fn run_applier<R: Wait + Clock, K: Watch, H: Hold + Drop>(
+pub fn run_applier<R: Wait + time::Clock, K: Clock, H: Hold + Drop>(
     rt: &R,
     alloc: Global,
     gate: &Gate,
     taker: Taker,
     applier: Applier,
-    clock: &K,
+    clock: &mut K,
     mut hold: H,
     board: &Mutex<Board>,
 ) -> (Taker, Applier, ApplierStop)
@@ -166,6 +188,8 @@ pub fn run_applier<R: Wait + Clock, K: Watch, H: Hold + Drop>(
     ensures gate { result.0.gate ≡ gate.now }
     ensures ended { result.0.ended ≡ taker.ended }
     ensures same { IsSameLog applier result.1 }
+    // Each record stands at the later of a reading of its own and the applier's moment then.
+    ensures clock { GoesByClock (K.readings clock.old) (K.readings clock.new) applier result.1 }
 
     ensures closing { result.2 ≡ Closing → IsSome result.0.known_close }
     ensures log_full { result.2 ≡ LogFull → length result.1.records ≡ result.1.limit }

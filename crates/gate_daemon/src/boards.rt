@@ -1,6 +1,4 @@
 ghost use Rattle.std.specs.Prelude.{◌≡◌, ◌+◌, ◌≤◌, ◌⊎◌, length, IfOk, IfErr, IsTrue, true, false};
-ghost use Rattle.gate_model.specs.Record.{later};
-ghost use Rattle.gate_daemon.specs.Applying.{IsSameLog};
 ghost use Rattle.gate_daemon.specs.Boards.{is_due, pauses_after, shows_all};
 ghost use Rattle.gate_daemon.specs.declared.boards.Found.TheVariants.{Item, Nothing};
 ghost use Rattle.gate_daemon.specs.inner.Publishing.{IsTried};
@@ -91,32 +89,26 @@ fn try_show<R: Wait>(rt: &R, alloc: Global, applier: &Applier, board: &Mutex<Boa
     replace(&mut board.lock(rt), next)
 }
 
-/// Goes on to the clock's moment and publishes a board, where one is due.
+/// Publishes a board of what the applier shows, where one is due.
 pub(crate) fn show<R: Wait>(
     rt: &R,
     alloc: Global,
-    applier: &mut Applier,
+    applier: &Applier,
     found: Found,
-    now: Moment,
     last: LastBoard,
     board: &Mutex<Board>,
 ) -> LastBoard
     requires pauses { last.pauses_left ≤ 25 }
-    requires shown { found ≡ Nothing → applier.old.moment.0 ≤ last.moment.0 }
-    ensures due { let moment = later applier.old.moment now in
-        is_due found last (length applier.old.records) moment ≡ true
-        → (applier.new.moment ≡ moment) × IsTried applier.new result }
-    ensures waits { let moment = later applier.old.moment now in
-        is_due found last (length applier.old.records) moment ≡ false
-        → (applier.new ≡ applier.old)
-        × (result ≡ record last { pauses_left = pauses_after found false last.pauses_left }) }
+    ensures due { is_due found last (length applier.now.records) applier.now.moment ≡ true
+        → IsTried applier.now result }
+    ensures waits { is_due found last (length applier.now.records) applier.now.moment ≡ false
+        → result ≡ record last { pauses_left = pauses_after found false last.pauses_left } }
     ensures pauses { result.pauses_left ≤ 25 }
-    // No board of an earlier second stands there.
-    ensures shown { applier.new.moment.0 ≤ result.moment.0 }
-    ensures records { applier.new.records ≡ applier.old.records }
-    ensures same { IsSameLog applier.old applier.new }
+    // No board of an earlier second stands there after an item, nor once the pauses are over.
+    ensures shown { (applier.now.moment.0 ≤ result.moment.0)
+        ⊎ ((found ≡ Nothing) × (result.pauses_left + 1 ≡ last.pauses_left)) }
 {
-    let moment = applier.moment().later(now);
+    let moment = applier.moment();
     let records = applier.records().len();
     let NextBoard {
         is_due,
@@ -128,7 +120,6 @@ pub(crate) fn show<R: Wait>(
             ..last
         };
     }
-    applier.advance(now);
     LastBoard {
         records,
         moment,

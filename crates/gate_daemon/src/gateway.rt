@@ -5,6 +5,7 @@ ghost use Rattle.gate_daemon.specs.Answered.{queued_by_each, HoldsAll};
 ghost use Rattle.gate_daemon.specs.Applying.{IsSameLog};
 ghost use Rattle.gate_daemon.specs.Faults.{IsGatewayFault};
 ghost use Rattle.gate_daemon.specs.declared.gateway.GatewayFault.TheVariants.{OutOfMemory};
+ghost use Rattle.gate_daemon.specs.inner.Draining.{DrainsByClock, DrainsUntilFault};
 ghost use Rattle.gate_daemon.specs.inner.Joining.{AreJoined};
 ghost use Rattle.gate_daemon.specs.inner.Opening.{AreParts, IsUnopened};
 
@@ -19,10 +20,9 @@ use crate::starting::Unstarted;
 use crate::threads::{Start, run_scoped};
 use gate_applier::OpenCause;
 use gate_core::OpenFault;
-use gate_model::Moment;
 use gate_queue::{CloseAllFault, Closed, Gate, close_all};
 use gate_reader::Report;
-use gate_worker::{Connections, Hold, Wake, Watch, WorkerLimits};
+use gate_worker::{Connections, Hold, SharedClock, Wake, Watch, WorkerLimits};
 use std::alloc::{AllocError, Global};
 use std::fmt;
 use std::sync::Wait;
@@ -101,12 +101,12 @@ fn fault_of(unopened: Unopened) -> GatewayFault
 }
 
 // Drains the gate of so many workers of packets, once all threads are joined.
-fn finish<R: Wait>(
+fn finish<R: Wait, K: gate_reader::Clock>(
     rt: &R,
     workers: u32,
     gate: Gate,
     joined: Joined,
-    now: Moment,
+    clock: &mut K,
 ) -> Result<Finished, GatewayFault>
     requires workers { workers ≤ 63 }
     requires gate { gate.limits.clients ≡ workers + 1 }
@@ -118,6 +118,11 @@ fn finish<R: Wait>(
         IsSameLog joined.applier finished.closed.applier) }
     ensures fault { IfErr result (λ fault. (capacity : ℕ)
         → IsGatewayFault workers capacity joined.applier.limit joined.applier.table fault) }
+    // What is applied now stands at the clock's moment or the applier's, whichever is later.
+    ensures clock { IfOk result (λ finished. DrainsByClock (K.readings clock.old)
+        (K.readings clock.new) joined.applier finished.closed.applier) }
+    ensures clock_until_fault { IfErr result (λ fault. DrainsUntilFault (K.readings clock.old)
+        (K.readings clock.new) joined.applier fault) }
 {
     let Joined {
         taker,
@@ -125,7 +130,7 @@ fn finish<R: Wait>(
         collected,
     } = joined;
     let Collected { ended, reports } = collected;
-    match close_all(rt, &gate, taker, ended, applier, now) {
+    match close_all(rt, &gate, taker, ended, applier, clock.now()) {
         Ok(closed) => Ok(Finished { closed, reports }),
         Err(fault) => Err(GatewayFault::CloseAll {
             gate,
@@ -198,7 +203,7 @@ fn run_opened<
         limits,
     };
     match run_scoped(&shared, start, &board) {
-        Ok(joined) => finish(rt, workers, gate, joined, clock.read()),
+        Ok(joined) => finish(rt, workers, gate, joined, &mut SharedClock(clock)),
         Err(Unstarted) => Err(GatewayFault::Spawn),
     }
 }

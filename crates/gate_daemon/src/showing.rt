@@ -1,10 +1,10 @@
-ghost use Rattle.std.specs.Prelude.{◌≡◌};
+ghost use Rattle.std.specs.Prelude.{◌≡◌, IsSome};
 
 use gate_applier::Applier;
 use gate_model::Moment;
 use gate_pages::{Board, publish, status_page};
 use gate_reader::Sink;
-use gate_worker::{Connections, pause};
+use gate_worker::{Connections, Wake, pause};
 use std::alloc::{AllocError, Global};
 use std::sync::{Mutex, Wait};
 use std::time::Clock;
@@ -38,6 +38,19 @@ fn write_page<O: Sink>(output: &mut O, page: &[u8]) {
     }
 }
 
+// A board that is marked closing was published. Only `publish_last` makes one.
+#[derive(Clone, Copy)]
+pub(crate) struct LastPublished(());
+
+// Publishes a board that is marked closing.
+fn publish_last(board: &mut Board, next: Board) -> LastPublished
+    requires { IsSome next.closing }
+    ensures { board.new ≡ next }
+{
+    publish(board, next);
+    LastPublished(())
+}
+
 // Publishes a board that is marked closing, so that the pages end with it.
 pub(crate) fn show_close<R: Wait + Clock>(
     rt: &R,
@@ -45,15 +58,20 @@ pub(crate) fn show_close<R: Wait + Clock>(
     applier: &Applier,
     board: &Mutex<Board>,
     moment: Moment,
-) {
+) -> LastPublished {
     for _ in rt.forever() {
         if let Ok(next) = Board::of(alloc, applier) {
-            publish(&mut board.lock(rt), next.closing(moment));
-            return;
+            return publish_last(&mut board.lock(rt), next.closing(moment));
         }
         pause(rt);
     }
     unreachable!()
+}
+
+// Wakes the thread that serves pages. Woken before the last board is published, it would end with
+// an earlier one.
+pub(crate) fn wake_pages<W: Wake>(wake: &W, _last: LastPublished) {
+    wake.pages();
 }
 
 /// Writes the status page to each connection. It ends after the first connection that is served

@@ -8,7 +8,7 @@ use crate::shared::Shared;
 use gate_applier::Applier;
 use gate_pages::Board;
 use gate_queue::{Client, Closer, Gate, Taker};
-use gate_worker::{Connections, Hold, Watch, WorkerEnd, run_worker};
+use gate_worker::{Connections, Hold, SharedClock, Watch, WorkerEnd, run_worker};
 use std::snapshot::Snapshot;
 use std::sync::{Mutex, Wait};
 use std::thread::{Promise, PromisedHandle, Scope, Threads};
@@ -135,7 +135,18 @@ pub(crate) fn start_applier<
     let run = move || -> (Taker, Applier, ApplierStop)
         requires { IsApplied gate.now taker applier }
         ensures { IsApplied gate.entry.now result.0 result.1 × IsSameLog applier result.1 }
-    { run_applier(rt, alloc, gate, taker, applier, clock, hold, board) };
+    {
+        run_applier(
+            rt,
+            alloc,
+            gate,
+            taker,
+            applier,
+            &mut SharedClock(clock),
+            hold,
+            board,
+        )
+    };
     match scope.spawn_with(KeepsLog { gate, before }, run) {
         Ok(handle) => Ok(handle),
         Err(_) => Err(Unstarted),

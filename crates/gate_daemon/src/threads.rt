@@ -5,7 +5,7 @@ use crate::closing::close_gate;
 use crate::crew::{Crew, run_workers};
 use crate::joined::Joined;
 use crate::shared::Shared;
-use crate::showing::{run_pages, show_close};
+use crate::showing::{run_pages, show_close, wake_pages};
 use crate::starting::{Unstarted, start_applier};
 use gate_applier::Applier;
 use gate_pages::Board;
@@ -73,8 +73,8 @@ pub(crate) fn run_threads<
     let notice = close_gate(shared, &mut closer);
     let (mut taker, applier, _) = applies.join(rt);
     taker.learn(&notice);
-    show_close(rt, alloc, &applier, board, notice.moment());
-    shared.wake.pages();
+    let last = show_close(rt, alloc, &applier, board, notice.moment());
+    wake_pages(shared.wake, last);
     shows.join(rt);
     let joined = Joined {
         taker,

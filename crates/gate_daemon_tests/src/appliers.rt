@@ -1,12 +1,13 @@
 ghost use Rattle.std.specs.Prelude.{◌≡◌, [], IfSome};
 ghost use Rattle.gate_queue.specs.DrainedClose.{items_of_records};
 
-use crate::fakes::{AlwaysAt, one_client};
+use crate::fakes::one_client;
 use gate_applier::Applier;
 use gate_daemon::{ApplierStop, run_applier};
 use gate_model::{Body, Moment, ObjectLine, ObjectTable, Text};
 use gate_pages::{Board, status_page};
 use gate_queue::{Client, Gate, Taker};
+use gate_reader::FixedClock;
 use gate_worker::NoHold;
 use std::alloc::Global;
 use std::sync::{Mutex, Wait};
@@ -92,7 +93,7 @@ fn shows_both<R: Wait + Clock>(rt: &R, alloc: Global, gate: &Gate, taker: Taker)
         gate,
         taker,
         applier,
-        &AlwaysAt(1000),
+        &mut FixedClock(Moment(1000)),
         NoHold,
         &board,
     );

@@ -1,6 +1,6 @@
 use Rattle.std.proofs.Common.{◌≡◌, ◌≤◌}
 use Rattle.gate_queue.specs.DrainedClose.{items_of_records}
-use Rattle.gate_daemon.specs.Applying.{IsSameLog}
+use Rattle.gate_daemon.specs.Applying.{GoesByClock, IsSameLog}
 use Rattle.gate_daemon.proofs.applying.run_applier.Given as goal
 
 abbrev pub invariant-loop : goal.invariant-loop
@@ -8,4 +8,5 @@ invariant-loop g l =
     (goal.iterator-loop g).can_next l.iterator' × (goal.iterator-loop g).is_finite l.iterator'
     × (l.taker.gate ≡ l.gate) × (items_of_records l.applier.records ≡ l.taker.taken) × (l.taker.ended ≡ l.initial.taker.ended)
     × IsSameLog l.initial.applier l.applier
-    × (l.last.pauses_left ≤ 25) × (l.applier.moment.0 ≤ l.last.moment.0)
+    × (l.last.pauses_left ≤ 25)
+    × GoesByClock (g.K.Clock.readings l.fn.clock) (g.K.Clock.readings l.clock) l.initial.applier l.applier

@@ -10,5 +10,5 @@ returns-in-Ok-clause-fault g c =
     let same = c.in-Ok.ensures.same in
     IfErr-weaker c.finish.result _ _
     (λ fault known capacity. subst (λ (t : List ObjectLine). IsGatewayFault c.args.workers capacity c.args.parts.applier.limit t fault) same.table
-        (subst (λ (n : ℕ). IsGatewayFault c.args.workers capacity n c.in-Ok.joined.applier.table fault) same.limit (known capacity)))
+    (subst (λ (n : ℕ). IsGatewayFault c.args.workers capacity n c.in-Ok.joined.applier.table fault) same.limit (known capacity)))
     c.finish.ensures.fault
