@@ -156,16 +156,16 @@ fn serve_config<
 
 /// Runs the daemon as the file of this path configures it, until an operator shuts it down: it
 /// binds the addresses of agents, operators and pages, in this order, and prints them as they are
-/// bound, each on a line. As many workers as are configured serve packets side by side, of clients 1,
-/// 2 and so on; the operator is the client after them. In the end it prints the log page, also where
-/// not all that was queued could be applied.
+/// bound, each on a line. As many workers as are configured serve packets side by side, of clients
+/// 1, 2 and so on; the operator is the client after them. In the end it prints the log page, also
+/// where not all that was queued could be applied. What the clients were answered is returned.
 ///
 /// Unreadable, Config and Bind come before anything is printed: the file can't be read, it
 /// configures nothing, or an address can't be bound. LogFull is an item that finds the log full: the
-/// log page has as many records as the limit, and nothing is lost, since with the items that are left
-/// they hold what was answered with Queued. What the clients were answered is returned. Spawn is a thread that can't be started. WriteFault is a
-/// failed call of `output`, after which no other is made. OutOfMemory may come instead of any other
-/// answer; the log page is then printed only where it could be made. Own rules.
+/// log page has as many records as the limit, and nothing is lost, since with the items that are
+/// left they hold what was answered with Queued. Spawn is a thread that can't be started. WriteFault
+/// is a failed call of `output`, after which no other is made. OutOfMemory may come instead of any
+/// other answer; the log page is then printed only where it could be made. Own rules.
 pub fn serve<
     R: Files + Net<Listener = TcpListener, Stream = TcpStream> + Threads + Wait + Clock + Sync,
     W: Sink,
