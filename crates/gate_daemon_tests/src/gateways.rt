@@ -102,14 +102,7 @@ fn run_both<'a, R: Threads + Wait + Clock + Sync>(
         pages: none(alloc),
         applier,
     };
-    left_by(run_gateway(
-        rt,
-        alloc,
-        config,
-        posts,
-        &AlwaysAt(1000),
-        &NoWake,
-    ))
+    left_by(run_gateway(rt, alloc, config, posts, &AlwaysAt(1000), &NoWake))
 }
 
 // No connections.

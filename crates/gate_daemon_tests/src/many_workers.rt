@@ -125,7 +125,7 @@ fn left_of(finished: Finished) -> (usize, [u64; 4]) {
     let records = finished.closed.applier.records();
     for record in records {
         if let Some(sum) = sums.get_mut((record.item.client as usize).wrapping_sub(1)) {
-            *sum = record.item.number.wrapping_add(*sum * 10);
+            *sum = sum.wrapping_mul(10).wrapping_add(record.item.number);
         }
     }
     let left = (records.len(), sums);
@@ -135,10 +135,7 @@ fn left_of(finished: Finished) -> (usize, [u64; 4]) {
 
 // Three workers, each kept at its session of two packets until all have come to theirs; the operator
 // shuts down once all have answered.
-fn meet<R: Threads + Wait + Clock + Sync>(
-    rt: &R,
-    alloc: Global,
-) -> Option<(usize, [u64; 4], u64)> {
+fn meet<R: Threads + Wait + Clock + Sync>(rt: &R, alloc: Global) -> Option<(usize, [u64; 4], u64)> {
     let one = packet(alloc)?;
     let mut both = one.to_vec(alloc).ok()?;
     both.extend_from_slice(&one).ok()?;
@@ -160,7 +157,10 @@ fn finish_without_connections<R: Threads + Wait + Clock + Sync>(
 ) -> Option<(usize, usize)> {
     let met = nobody_met();
     let finished = run_many(rt, alloc, 63, &[], &[], &met)?;
-    let left = (finished.closed.applier.records().len(), finished.reports.len());
+    let left = (
+        finished.closed.applier.records().len(),
+        finished.reports.len(),
+    );
     drop(finished);
     Some(left)
 }
