@@ -121,7 +121,7 @@ fn nobody_met() -> Met {
 
 // How many records a gateway left, and the sum of the numbers of each of the first four clients.
 fn left_of(finished: Finished) -> (usize, [u64; 4]) {
-    let mut sums = [0; 4];
+    let mut sums = [0_u64; 4];
     let records = finished.closed.applier.records();
     for record in records {
         if let Some(sum) = sums.get_mut((record.item.client as usize).wrapping_sub(1)) {
