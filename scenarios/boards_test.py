@@ -101,13 +101,8 @@ def play_few_descriptors(program, folder):
     check("few descriptors: it is logged", "after them -> Accepted" in end(daemon, "few descriptors"), True)
 
 
-def refuse(folder):
-    """The request for memory of the folder's number is refused: the daemon doesn't start, or its page goes on."""
-    mark = os.path.join(folder, "refused")
-    try:
-        daemon = Daemon(os.path.join(folder, "..", "..", "little_memory"), folder, CONFIGURATION)
-    except SystemExit:
-        return "not started"
+def page_goes_on(daemon, mark):
+    """Whether the page of a daemon goes on, one of whose requests for memory is refused: the file `mark` says that it was."""
     deadline = time.monotonic() + PATIENCE
     while not os.path.exists(mark) and daemon.process.poll() is None and time.monotonic() < deadline:
         time.sleep(0.02)
@@ -120,6 +115,18 @@ def refuse(folder):
     page = daemon.page()
     end(daemon, "little memory")
     return "goes on" if os.path.exists(mark) and asked - 1 <= moment_of(page) else f"{asked}: {page}"
+
+
+def refuse(folder):
+    """The request for memory of the folder's number is refused: the daemon doesn't start, or its page goes on."""
+    try:
+        daemon = Daemon(os.path.join(folder, "..", "..", "little_memory"), folder, CONFIGURATION)
+    except SystemExit:
+        return "not started"
+    try:
+        return page_goes_on(daemon, os.path.join(folder, "refused"))
+    finally:
+        daemon.process.kill()
 
 
 def play_little_memory(_, folder):
