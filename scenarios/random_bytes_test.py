@@ -64,6 +64,7 @@ def lines_of(rng):
 
 def play_lines(rng):
     """Each line is a command or a fault, and what was read is read again as it is written."""
+    check("good lines are printed as they are", run("show_lines", [], b"\n".join(LINES)), LINES)
     given = lines_of(rng)
     found = run("show_lines", [], b"\n".join(given) + b"\n")
     check("as many answers as lines", len(found), COUNT)
