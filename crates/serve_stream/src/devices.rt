@@ -65,18 +65,25 @@ impl Source for Pieces<'_> {
     }
 }
 
-/// A writer that keeps what is written. One call may fail, which keeps nothing; the next go on.
+/// A writer that keeps what is written, so many bytes a call. One call may fail, which keeps nothing;
+/// the next go on.
 #[derive(Drop)]
 pub struct Kept<'a> {
     bytes: &'a mut Vec<u8>,
+    taken: usize,
     calls: u32,
     failed: u32,
 }
 
 impl<'a> Kept<'a> {
     pub fn new(bytes: &'a mut Vec<u8>, settings: &Settings) -> Kept<'a> {
+        let taken = match settings.taken {
+            0 => usize::MAX,
+            count => count as usize,
+        };
         Kept {
             bytes,
+            taken,
             calls: 0,
             failed: settings.failed_write,
         }
@@ -94,8 +101,9 @@ impl<'a> Kept<'a> {
 impl Write for Kept<'_> {
     fn write(&mut self, buf: &[u8]) -> io::Result<usize> {
         self.call()?;
-        self.bytes.extend_from_slice(buf)?;
-        Ok(buf.len())
+        let count = buf.len().min(self.taken);
+        self.bytes.extend_from_slice(&buf[..count])?;
+        Ok(count)
     }
 
     fn flush(&mut self) -> io::Result<()> {

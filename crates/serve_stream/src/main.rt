@@ -1,4 +1,5 @@
-//! Serves the bytes on standard input as one connection, and prints what came of it in one line:
+//! Serves the bytes on standard input as one connection, or as one after another of a size, and
+//! prints what came of each in one line:
 //!
 //!     STOP | ANSWERS | WRITTEN | QUEUED
 //!
@@ -26,11 +27,13 @@ fn words(rt: &(impl Env + AllocGlobal)) -> io::Result<Vec<String>> {
     Ok(words.collect(rt.alloc())?)
 }
 
-fn read_all(alloc: Global, input: &mut impl Source) -> io::Result<Vec<u8>> {
+// Reads so many bytes, or all that is left where it is less.
+fn read_most(alloc: Global, input: &mut impl Source, most: usize) -> io::Result<Vec<u8>> {
     let mut piece = [0; 4096];
     let mut stream = Vec::new(alloc);
     for _ in 0..u64::MAX {
-        let count = input.take_some(&mut piece)?;
+        let asked = most.saturating_sub(stream.len()).min(piece.len());
+        let count = input.take_some(&mut piece[..asked])?;
         if count == 0 {
             break;
         }
@@ -39,18 +42,48 @@ fn read_all(alloc: Global, input: &mut impl Source) -> io::Result<Vec<u8>> {
     Ok(stream)
 }
 
-// Serves the input, and prints the line.
+// Serves a stream, and prints the line.
 fn run(
+    alloc: Global,
+    settings: &Settings,
+    stream: &[u8],
+    output: &mut impl Sink,
+) -> io::Result<()> {
+    let outcome = serve(alloc, settings, stream)?;
+    let mut line = Vec::new(alloc);
+    print_outcome(alloc, outcome, &mut line)?;
+    output.put(&line)
+}
+
+// Serves each stream of the input, the last of which may be shorter.
+fn run_each(
     alloc: Global,
     settings: &Settings,
     input: &mut impl Source,
     output: &mut impl Sink,
 ) -> io::Result<()> {
-    let stream = read_all(alloc, input)?;
-    let outcome = serve(alloc, settings, &stream)?;
-    let mut line = Vec::new(alloc);
-    print_outcome(alloc, outcome, &mut line)?;
-    output.put(&line)?;
+    for _ in 0..u64::MAX {
+        let stream = read_most(alloc, input, settings.each as usize)?;
+        if stream.is_empty() {
+            break;
+        }
+        run(alloc, settings, &stream, output)?;
+    }
+    Ok(())
+}
+
+fn run_all(
+    alloc: Global,
+    settings: &Settings,
+    input: &mut impl Source,
+    output: &mut impl Sink,
+) -> io::Result<()> {
+    if settings.each > 0 {
+        run_each(alloc, settings, input, output)?;
+    } else {
+        let stream = read_most(alloc, input, usize::MAX)?;
+        run(alloc, settings, &stream, output)?;
+    }
     output.deliver()
 }
 
@@ -63,6 +96,6 @@ fn main(rt: HostRuntime) -> io::Result<ExitCode> {
     };
     let mut input = BufReader::new(rt.alloc(), rt.stdin().lock())?;
     let mut output = BufWriter::new(rt.alloc(), rt.stdout().lock())?;
-    run(rt.alloc(), &settings, &mut input, &mut output)?;
+    run_all(rt.alloc(), &settings, &mut input, &mut output)?;
     Ok(ExitCode::SUCCESS)
 }

@@ -1,4 +1,4 @@
-/// How a stream is served. In words each number but `kind` is a setting of its field's name.
+/// How a stream is served. In words each number is a setting of its field's name.
 #[derive(Clone, Copy)]
 pub struct Settings {
     /// Packets, or else lines.
@@ -20,6 +20,10 @@ pub struct Settings {
     /// How many bytes a read gives at most, and the offset at which no read goes on.
     pub piece: u32,
     pub cut: u32,
+    /// How many bytes a write takes at most, if it takes any; 0 is all.
+    pub taken: u32,
+    /// How many bytes of the input are a stream by themselves; 0 is all.
+    pub each: u32,
     /// Which read fails, which is interrupted, and which call of the writer fails; 0 is none.
     pub failed_read: u32,
     pub interrupted_read: u32,
@@ -39,6 +43,8 @@ const DEFAULTS: Settings = Settings {
     closed: 0,
     piece: u32::MAX,
     cut: 0,
+    taken: 0,
+    each: 0,
     failed_read: 0,
     interrupted_read: 0,
     failed_write: 0,
@@ -58,6 +64,8 @@ impl Settings {
             "closed" => Some(&mut self.closed),
             "piece" => Some(&mut self.piece),
             "cut" => Some(&mut self.cut),
+            "taken" => Some(&mut self.taken),
+            "each" => Some(&mut self.each),
             "failed_read" => Some(&mut self.failed_read),
             "interrupted_read" => Some(&mut self.interrupted_read),
             "failed_write" => Some(&mut self.failed_write),

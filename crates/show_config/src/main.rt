@@ -1,13 +1,14 @@
 //! Reads a configuration on standard input, and prints what it configures in one line: the three
 //! addresses, the six limits, how many workers, and the lines of the object table, each
-//! `HOST;SERVICE;THRESHOLD`; or why it configures nothing.
+//! `HOST;SERVICE;THRESHOLD`; or why it configures nothing. With the byte RS, 1e, between them the
+//! input holds several configurations, and a line is printed for each.
 #![tactic(auto)]
 
-use gate_config::{Address, CONFIG_BYTES, Config, ConfigFault, read_config};
+use gate_config::{Address, Config, ConfigFault, read_config};
 use gate_model::ObjectLine;
 use std::alloc::Global;
 use std::io;
-use std::io::{BufWriter, Read, Write};
+use std::io::{BufRead, BufReader, BufWriter, Write};
 
 fn show_address(address: &Address, output: &mut impl Write) -> io::Result<()> {
     output.write_all(address.text.bytes())?;
@@ -59,18 +60,35 @@ fn show(read: &Result<Config, ConfigFault>, output: &mut impl Write) -> io::Resu
     }
 }
 
-fn read_input(alloc: Global, input: &mut impl Read) -> io::Result<Vec<u8>> {
+// ASCII's RS. No TOML holds it.
+const RECORD_SEPARATOR: u8 = 0x1e;
+
+// Reads a configuration: whether another one follows.
+fn read_next(input: &mut impl BufRead, text: &mut Vec<u8>) -> io::Result<bool> {
+    text.clear();
+    input.read_until(RECORD_SEPARATOR, text)?;
+    let is_followed = text.last() == Some(&RECORD_SEPARATOR);
+    if is_followed {
+        text.truncate(text.len() - 1);
+    }
+    Ok(is_followed)
+}
+
+fn show_all(alloc: Global, input: &mut impl BufRead, output: &mut impl Write) -> io::Result<()> {
     let mut text = Vec::new(alloc);
-    input
-        .by_ref()
-        .take(CONFIG_BYTES as u64 + 1)
-        .read_to_end(&mut text)?;
-    Ok(text)
+    for _ in 0..u64::MAX {
+        let is_followed = read_next(input, &mut text)?;
+        show(&read_config(alloc, &text), output)?;
+        if !is_followed {
+            break;
+        }
+    }
+    Ok(())
 }
 
 fn main(rt: HostRuntime) -> io::Result<()> {
-    let text = read_input(rt.alloc(), &mut rt.stdin().lock())?;
+    let mut input = BufReader::new(rt.alloc(), rt.stdin().lock())?;
     let mut output = BufWriter::new(rt.alloc(), rt.stdout().lock())?;
-    show(&read_config(rt.alloc(), &text), &mut output)?;
+    show_all(rt.alloc(), &mut input, &mut output)?;
     output.flush()
 }

@@ -69,7 +69,10 @@ fn show_packets(alloc: Global, input: &mut impl Read, output: &mut impl Write) -
         if piece.is_empty() {
             break;
         }
-        cutter.feed(&piece)?;
+        if cutter.feed(&piece).is_err() {
+            writeln!(output, "out of memory")?;
+            cutter.feed(&piece)?;
+        }
         show_whole(alloc, &mut cutter, output)?;
     }
     if cutter.rest() > 0 {
