@@ -61,19 +61,47 @@ fn ids(alloc: Global, book: &CommentBook) -> Option<Vec<u32>> {
         .ok()
 }
 
-fn ids_without_those_on(alloc: Global, object: ObjectId) -> Option<Vec<u32>> {
-    let mut book = on_both(alloc)?;
+// Whether these are the comments.
+fn has_just(alloc: Global, book: &CommentBook, want: &[u32]) -> bool {
+    match ids(alloc, book) {
+        Some(ids) => ids.as_slice() == want,
+        None => false,
+    }
+}
+
+fn are_left_without(alloc: Global, object: ObjectId, want: &[u32]) -> bool {
+    let Some(mut book) = on_both(alloc) else {
+        return false;
+    };
     book.delete_all(object);
-    let left = ids(alloc, &book);
+    let left = has_just(alloc, &book, want);
     drop(book);
     left
 }
 
-fn are_left_without(alloc: Global, object: ObjectId, want: &[u32]) -> bool {
-    match ids_without_those_on(alloc, object) {
-        Some(ids) => ids.as_slice() == want,
-        None => false,
-    }
+// Comments on HTTP: 1 of an acknowledgement, 2 of one that is persistent, 3 and 4 of the downtime
+// entries 7 and 8.
+fn of_each_source(alloc: Global) -> Option<CommentBook> {
+    let mut book = CommentBook::open(alloc, 1);
+    book.reserve(4).ok()?;
+    book.add(HTTP, Source::Ack, false, 0).ok()?;
+    book.add(HTTP, Source::Ack, true, 1).ok()?;
+    book.add(HTTP, Source::Downtime(7), false, 2).ok()?;
+    book.add(HTTP, Source::Downtime(8), false, 3).ok()?;
+    Some(book)
+}
+
+// Whether these are left once the acknowledgement of HTTP is cleared and entry 7 is over.
+fn are_left_by_ends(alloc: Global, cleared: &[u32], over: &[u32]) -> bool {
+    let Some(mut book) = of_each_source(alloc) else {
+        return false;
+    };
+    book.clear_ack(HTTP);
+    let first = has_just(alloc, &book, cleared);
+    book.drop_downtime(7);
+    let second = has_just(alloc, &book, over);
+    drop(book);
+    first && second
 }
 
 // Comments 1 to 1000.
@@ -136,6 +164,11 @@ fn a_comment_is_deleted_once_and_by_its_own_kind(rt: HostRuntime) {
 fn all_comments_of_one_object_leave_those_of_others(rt: HostRuntime) {
     assert!(rt; are_left_without(rt.alloc(), HTTP, &[2]));
     assert!(rt; are_left_without(rt.alloc(), WEB1, &[1]));
+}
+
+#[test]
+fn a_clearing_takes_what_is_not_persistent_and_an_end_its_own(rt: HostRuntime) {
+    assert!(rt; are_left_by_ends(rt.alloc(), &[2, 3, 4], &[2, 4]));
 }
 
 #[test]

@@ -458,7 +458,9 @@ fn ends_400_at_once(alloc: Global) -> bool {
     let Some(mut book) = thousand(alloc) else {
         return false;
     };
-    let kept = is_as_deep_at(&mut book, 2500, 600) && returns_the_gone_in_order(&mut book);
+    let kept = is_as_deep_at(&mut book, 1100, 0)
+        && is_as_deep_at(&mut book, 2500, 600)
+        && returns_the_gone_in_order(&mut book);
     drop(book);
     kept
 }

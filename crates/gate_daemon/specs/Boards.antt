@@ -1,6 +1,6 @@
 -- When the applier publishes a board: is_due. Own rules, by the times of the daemon: a pause is 2 ms, and moments are
 -- whole seconds.
-use Rattle.std.specs.Prelude.{ℕ, pred, max, Bool, true, false, not, ◌&&◌, ◌==◌, nat_lt, nat_le}
+use Rattle.std.specs.Prelude.{ℕ, pred, max, is_some, Bool, true, false, not, ◌&&◌, ◌==◌, nat_lt, nat_le}
 use Rattle.gate_model.specs.declared.record.Moment.{Moment}
 use Rattle.gate_daemon.specs.declared.boards.Found.{Found}
 use Rattle.gate_daemon.specs.declared.boards.Found.TheVariants.{Item, Nothing}
@@ -8,7 +8,7 @@ use Rattle.gate_daemon.specs.declared.boards.LastBoard.{LastBoard}
 
 -- the board was published, and shows so many records and this moment
 abbrev pub shows_all : LastBoard → ℕ → Moment → Bool
-shows_all board records now = board.is_published && ((board.records == records) && nat_le now.0 board.moment.0)
+shows_all board records now = is_some board.published && ((board.records == records) && nat_le now.0 board.moment.0)
 
 -- after an item, where the second of the last board is over; where none was found, once no pause is left and the last
 -- board doesn't show all

@@ -199,7 +199,7 @@ pub fn run_applier<R: Wait + time::Clock, K: Clock, H: Hold + Drop>(
     let mut last = LastBoard {
         records: 0,
         moment: applier.moment(),
-        is_published: false,
+        published: None,
         pauses_left: 0,
     };
     for _ in rt.forever() {

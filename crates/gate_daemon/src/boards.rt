@@ -1,4 +1,4 @@
-ghost use Rattle.std.specs.Prelude.{◌≡◌, ◌+◌, ◌≤◌, ◌⊎◌, length, IfOk, IfErr, IsTrue, true, false};
+ghost use Rattle.std.specs.Prelude.{◌≡◌, ◌+◌, ◌≤◌, ◌⊎◌, length, None, IfOk, IfErr, IsSome, true, false};
 ghost use Rattle.gate_daemon.specs.Boards.{is_due, pauses_after, shows_all};
 ghost use Rattle.gate_daemon.specs.declared.boards.Found.TheVariants.{Item, Nothing};
 ghost use Rattle.gate_daemon.specs.inner.Publishing.{IsTried};
@@ -19,6 +19,10 @@ pub(crate) enum Found {
     Nothing,
 }
 
+/// A board was published: only `replace` makes one of these.
+#[derive(Clone, Copy, Debug, PartialEq, Eq)]
+pub(crate) struct Published(());
+
 /// The last board that was tried.
 #[derive(Clone, Copy, Debug, PartialEq, Eq)]
 pub(crate) struct LastBoard {
@@ -26,8 +30,8 @@ pub(crate) struct LastBoard {
     pub(crate) records: usize,
     // Its moment.
     pub(crate) moment: Moment,
-    // There was memory for it.
-    pub(crate) is_published: bool,
+    // None: there was no memory for it.
+    pub(crate) published: Option<Published>,
     // How many pauses without an item stand before the next one, which copies all that a page shows.
     pub(crate) pauses_left: u32,
 }
@@ -52,7 +56,7 @@ pub(crate) fn next_board(last: LastBoard, found: Found, records: usize, now: Mom
     // While items come, no second passes without one.
     ensures second { found ≡ Item → result.is_due ≡ false → now.0 ≤ last.moment.0 }
 {
-    let shows_all = last.is_published && last.records == records && now.0 <= last.moment.0;
+    let shows_all = last.published.is_some() && last.records == records && now.0 <= last.moment.0;
     let is_due = match found {
         Found::Item => last.moment.0 < now.0,
         Found::Nothing => last.pauses_left == 0 && !shows_all,
@@ -68,23 +72,28 @@ pub(crate) fn next_board(last: LastBoard, found: Found, records: usize, now: Mom
     }
 }
 
-// Replaces the board, if the next one could be made: whether it was.
-fn replace(board: &mut Board, next: Result<Board, AllocError>) -> bool
-    ensures published { IfOk next (λ made. IsTrue result × (board.new ≡ made)) }
-    ensures kept { IfErr next (λ _. (result ≡ false) × (board.new ≡ board.old)) }
+// Replaces the board, if the next one could be made.
+fn replace(board: &mut Board, next: Result<Board, AllocError>) -> Option<Published>
+    ensures published { IfOk next (λ made. IsSome result × (board.new ≡ made)) }
+    ensures kept { IfErr next (λ _. (result ≡ None) × (board.new ≡ board.old)) }
 {
     match next {
         Ok(next) => {
             publish(board, next);
-            true
+            Some(Published(()))
         }
-        Err(_) => false,
+        Err(_) => None,
     }
 }
 
 // Publishes a board of what the applier shows, if there is memory for it. It is made before the lock
 // is taken, so that no page waits for it.
-fn try_show<R: Wait>(rt: &R, alloc: Global, applier: &Applier, board: &Mutex<Board>) -> bool {
+fn try_show<R: Wait>(
+    rt: &R,
+    alloc: Global,
+    applier: &Applier,
+    board: &Mutex<Board>,
+) -> Option<Published> {
     let next = Board::of(alloc, applier);
     replace(&mut board.lock(rt), next)
 }
@@ -123,7 +132,7 @@ pub(crate) fn show<R: Wait>(
     LastBoard {
         records,
         moment,
-        is_published: try_show(rt, alloc, applier, board),
+        published: try_show(rt, alloc, applier, board),
         pauses_left,
     }
 }
@@ -136,7 +145,7 @@ pub(crate) fn show_last<R: Wait + Clock>(
     board: &Mutex<Board>,
 ) {
     for _ in rt.forever() {
-        if try_show(rt, alloc, applier, board) {
+        if try_show(rt, alloc, applier, board).is_some() {
             return;
         }
         pause(rt);

@@ -10,19 +10,19 @@ ghost use Rattle.gate_daemon.specs.inner.Joining.{AreJoined};
 ghost use Rattle.gate_daemon.specs.inner.Opening.{AreParts, IsUnopened};
 
 use crate::collected::Collected;
-use crate::crew::Crew;
+use crate::endpoints::Endpoints;
 use crate::joined::Joined;
 use crate::opening::{Opening, Parts, Unopened, open_parts};
-use crate::posts::Posts;
 use crate::settings::Config;
 use crate::shared::Shared;
 use crate::starting::Unstarted;
 use crate::threads::{Start, run_scoped};
+use crate::workers::Workers;
 use gate_applier::OpenCause;
 use gate_core::OpenFault;
 use gate_queue::{CloseAllFault, Closed, Gate, close_all};
 use gate_reader::Report;
-use gate_worker::{Connections, Hold, SharedClock, Wake, Watch, WorkerLimits};
+use gate_worker::{Cause, Connections, Hold, SharedClock, Wake, Watch, WorkerLimits};
 use std::alloc::{AllocError, Global};
 use std::fmt;
 use std::sync::Wait;
@@ -37,6 +37,9 @@ pub struct Finished {
     /// Each client's number with the reports of its connections: the operator's first, and then
     /// those of the workers of packets, from 1.
     pub reports: Vec<(u32, Vec<Report>)>,
+    /// Why the operator's worker ended. At OutOfMemory no operator could close the gate any more, so
+    /// the gateway closed it.
+    pub operator: Cause,
 }
 
 /// Why a gateway did not finish. Own rules.
@@ -128,10 +131,15 @@ fn finish<R: Wait, K: gate_reader::Clock>(
         taker,
         applier,
         collected,
+        operator,
     } = joined;
     let Collected { ended, reports } = collected;
     match close_all(rt, &gate, taker, ended, applier, clock.now()) {
-        Ok(closed) => Ok(Finished { closed, reports }),
+        Ok(closed) => Ok(Finished {
+            closed,
+            reports,
+            operator,
+        }),
         Err(fault) => Err(GatewayFault::CloseAll {
             gate,
             fault,
@@ -151,14 +159,14 @@ fn run_opened<
     rt: &R,
     alloc: Global,
     parts: Parts,
-    posts: Posts<C, H>,
+    endpoints: Endpoints<C, H>,
     clock: &K,
     wake: &W,
     limits: WorkerLimits,
     workers: u32,
 ) -> Result<Finished, GatewayFault>
     requires workers { workers ≤ 63 }
-    requires posts { vec_len posts.packets ≡ workers }
+    requires endpoints { vec_len endpoints.agents ≡ workers }
     requires parts { AreParts workers parts }
     ensures holds { IfOk result (λ finished. HoldsAll workers
         (queued_by_each finished.reports.items)
@@ -184,15 +192,15 @@ fn run_opened<
         taker,
         applier,
         closer,
-        crew: Crew {
+        workers: Workers {
             clients,
-            posts: posts.packets,
+            endpoints: endpoints.agents,
             operator: last,
-            operator_post: posts.operator,
+            operator_endpoint: endpoints.operator,
             collected,
         },
-        pages: posts.pages,
-        hold: posts.applier,
+        pages: endpoints.pages,
+        hold: endpoints.applier,
     };
     let shared = Shared {
         rt,
@@ -210,13 +218,14 @@ fn run_opened<
 
 /// Runs a gateway until it is closed: a thread for each worker of packets, one for the operator's
 /// lines, one that applies and one that serves pages, around one queue. Of the workers of packets,
-/// which are clients 1, 2 and so on, `posts` has as many as the configuration; the operator is the
+/// which are clients 1, 2 and so on, `endpoints` has as many as the configuration; the operator is the
 /// last client.
 ///
 /// Once the operator's worker has ended, the workers of packets are woken where it closed the gate,
 /// and joined; the gate is closed where nobody has; the applier is joined, the pages end with a
 /// board that is marked closing, and what is left in the queue is applied. A close or a board for
-/// which memory is missing is tried again.
+/// which memory is missing is tried again. Where memory for one more report of the operator's worker
+/// is missing, nobody could close the gate any more: it is closed then, and all ends as above.
 ///
 /// It fails where the queue or the applier can't be opened, where memory is missing at the start,
 /// where a thread can't be started (all others are ended then as above), and where `close_all`
@@ -233,12 +242,12 @@ pub fn run_gateway<
     rt: &R,
     alloc: Global,
     config: Config,
-    posts: Posts<C, H>,
+    endpoints: Endpoints<C, H>,
     clock: &K,
     wake: &W,
 ) -> Result<Finished, GatewayFault>
     requires workers { config.workers ≤ 63 }
-    requires posts { vec_len posts.packets ≡ config.workers }
+    requires endpoints { vec_len endpoints.agents ≡ config.workers }
 
     // Every client was joined, and the log holds for each of them the items that its reports answer
     // with Queued, numbered from 1, in that order, and no others.
@@ -260,7 +269,7 @@ pub fn run_gateway<
         table,
     } = config;
     match open_parts(alloc, workers, capacity, limit, table, clock.read()) {
-        Ok(parts) => run_opened(rt, alloc, parts, posts, clock, wake, worker, workers),
+        Ok(parts) => run_opened(rt, alloc, parts, endpoints, clock, wake, worker, workers),
         Err(unopened) => Err(fault_of(unopened)),
     }
 }

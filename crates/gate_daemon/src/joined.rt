@@ -1,6 +1,7 @@
 use crate::collected::Collected;
 use gate_applier::Applier;
 use gate_queue::Taker;
+use gate_worker::Cause;
 
 // What the threads of a gateway returned.
 #[derive(Drop)]
@@ -8,4 +9,6 @@ pub(crate) struct Joined {
     pub(crate) taker: Taker,
     pub(crate) applier: Applier,
     pub(crate) collected: Collected,
+    // Why the operator's worker ended.
+    pub(crate) operator: Cause,
 }

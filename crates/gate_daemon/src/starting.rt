@@ -3,7 +3,7 @@ ghost use Rattle.gate_daemon.specs.Applying.{IsSameLog};
 ghost use Rattle.gate_daemon.specs.inner.Joining.{IsApplied};
 
 use crate::applying::{ApplierStop, run_applier};
-use crate::posts::Post;
+use crate::endpoints::Endpoint;
 use crate::shared::Shared;
 use gate_applier::Applier;
 use gate_pages::Board;
@@ -46,7 +46,7 @@ pub(crate) fn start_worker<
     scope: &Scope<'s, E>,
     client: Client,
     closer: Option<Closer>,
-    post: Post<C, H>,
+    endpoint: Endpoint<C, H>,
 ) -> Result<PromisedHandle<WorkerEnd, EndsClient<'s>>, Unstarted>
     requires gate { client.gate ≡ shared.now.gate.now }
     requires closer { IfSome closer (λ c. c.cell ≡ shared.now.gate.now.cell) }
@@ -63,7 +63,7 @@ pub(crate) fn start_worker<
         wake: _,
         limits,
     } = *shared;
-    let Post { connections, hold } = post;
+    let Endpoint { connections, hold } = endpoint;
     let run = move || -> WorkerEnd
         requires { (client.gate ≡ gate.now) × IfSome closer (λ c. c.cell ≡ gate.now.cell)
             × (client.queued ≡ []) }

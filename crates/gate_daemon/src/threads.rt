@@ -2,11 +2,11 @@ ghost use Rattle.std.specs.Prelude.{◌≡◌, ◌+◌, IfOk, length};
 ghost use Rattle.gate_daemon.specs.inner.Joining.{AreJoined, AreNew, HasRoom, IsApplied};
 
 use crate::closing::close_gate;
-use crate::crew::{Crew, run_workers};
 use crate::joined::Joined;
 use crate::shared::Shared;
 use crate::showing::{run_pages, show_close, wake_pages};
 use crate::starting::{Unstarted, start_applier};
+use crate::workers::{Workers, run_workers};
 use gate_applier::Applier;
 use gate_pages::Board;
 use gate_queue::{Closer, Taker};
@@ -22,7 +22,7 @@ pub(crate) struct Start<C, H> {
     pub(crate) taker: Taker,
     pub(crate) applier: Applier,
     pub(crate) closer: Closer,
-    pub(crate) crew: Crew<C, H>,
+    pub(crate) workers: Workers<C, H>,
     pub(crate) pages: C,
     pub(crate) hold: H,
 }
@@ -44,48 +44,49 @@ pub(crate) fn run_threads<
 ) -> Result<Joined, Unstarted>
     requires applied { IsApplied shared.now.gate.now start.taker start.applier }
     requires closer { start.closer.cell ≡ shared.now.gate.now.cell }
-    requires new { AreNew shared.now.gate.now start.crew.clients.items
-        (length start.crew.posts.items) start.crew.operator }
-    requires last { start.crew.operator.number ≡ length start.crew.clients.items + 1 }
-    requires room { HasRoom (length start.crew.clients.items + 1) start.crew.collected }
+    requires new { AreNew shared.now.gate.now start.workers.clients.items
+        (length start.workers.endpoints.items) start.workers.operator }
+    requires last { start.workers.operator.number ≡ length start.workers.clients.items + 1 }
+    requires room { HasRoom (length start.workers.clients.items + 1) start.workers.collected }
     ensures { IfOk result (λ joined. AreJoined shared.now.gate.now
-        (length start.crew.clients.items) start.applier joined) }
+        (length start.workers.clients.items) start.applier joined) }
 {
     let Start {
         taker,
         applier,
         mut closer,
-        crew,
+        workers,
         pages,
         hold,
     } = start;
     let Shared { rt, alloc, .. } = *shared;
     let Ok(applies) = start_applier(shared, scope, taker, applier, hold, board) else {
-        drop((crew, pages));
+        drop((workers, pages));
         return Err(Unstarted);
     };
     let Ok(shows) = scope.spawn(move || run_pages(rt, alloc, pages, board)) else {
         close_gate(shared, &mut closer);
-        drop((applies.join(rt), crew));
+        drop((applies.join(rt), workers));
         return Err(Unstarted);
     };
-    let (collected, all) = run_workers(shared, scope, crew, &mut closer);
+    let (collected, cause) = run_workers(shared, scope, workers, &mut closer);
     let notice = close_gate(shared, &mut closer);
     let (mut taker, applier, _) = applies.join(rt);
     taker.learn(&notice);
     let last = show_close(rt, alloc, &applier, board, notice.moment());
     wake_pages(shared.wake, last);
     shows.join(rt);
-    let joined = Joined {
-        taker,
-        applier,
-        collected,
-    };
-    if all {
-        Ok(joined)
-    } else {
-        drop(joined);
-        Err(Unstarted)
+    match cause {
+        Some(operator) => Ok(Joined {
+            taker,
+            applier,
+            collected,
+            operator,
+        }),
+        None => {
+            drop((taker, applier, collected));
+            Err(Unstarted)
+        }
     }
 }
 
@@ -103,12 +104,12 @@ pub(crate) fn run_scoped<
 ) -> Result<Joined, Unstarted>
     requires applied { IsApplied shared.now.gate.now start.taker start.applier }
     requires closer { start.closer.cell ≡ shared.now.gate.now.cell }
-    requires new { AreNew shared.now.gate.now start.crew.clients.items
-        (length start.crew.posts.items) start.crew.operator }
-    requires last { start.crew.operator.number ≡ length start.crew.clients.items + 1 }
-    requires room { HasRoom (length start.crew.clients.items + 1) start.crew.collected }
+    requires new { AreNew shared.now.gate.now start.workers.clients.items
+        (length start.workers.endpoints.items) start.workers.operator }
+    requires last { start.workers.operator.number ≡ length start.workers.clients.items + 1 }
+    requires room { HasRoom (length start.workers.clients.items + 1) start.workers.collected }
     ensures { IfOk result (λ joined. AreJoined shared.now.gate.now
-        (length start.crew.clients.items) start.applier joined) }
+        (length start.workers.clients.items) start.applier joined) }
 {
     thread::scope(
         thread::scope_env(),
@@ -116,12 +117,12 @@ pub(crate) fn run_scoped<
         move |scope| -> Result<Joined, Unstarted>
             requires { IsApplied shared.now.gate.now start.taker start.applier
                 × (start.closer.cell ≡ shared.now.gate.now.cell)
-                × AreNew shared.now.gate.now start.crew.clients.items
-                (length start.crew.posts.items) start.crew.operator
-                × (start.crew.operator.number ≡ length start.crew.clients.items + 1)
-                × HasRoom (length start.crew.clients.items + 1) start.crew.collected }
+                × AreNew shared.now.gate.now start.workers.clients.items
+                (length start.workers.endpoints.items) start.workers.operator
+                × (start.workers.operator.number ≡ length start.workers.clients.items + 1)
+                × HasRoom (length start.workers.clients.items + 1) start.workers.collected }
             ensures { IfOk result (λ joined. AreJoined shared.entry.now.gate.now
-                (length start.crew.clients.items) start.applier joined) }
+                (length start.workers.clients.items) start.applier joined) }
         { run_threads(shared, scope, start, board) },
     )
 }

@@ -9,7 +9,7 @@ ghost use Rattle.gate_reader.specs.inner.Progress.{AnswersOneBlock, IsLastBlock,
 use crate::clock::Clock;
 use crate::read_buffer::ReadBuffer;
 use crate::report::{Answer, Answers, Report, SessionLimits, Stop};
-use crate::sink::Sink;
+use crate::sink::{Sink, put_last};
 use crate::source::Source;
 use crate::submitting::{is_open, submit_body};
 use gate_core::Submit;
@@ -171,51 +171,7 @@ fn greet<W: Sink>(writer: &mut W, now: Moment) -> io::Result<()>
     ensures err { let sink = sink_state W.contents W.pending W.failures in
         OnErr result (FailsOnce (sink writer.old) (sink writer.new)) }
 {
-    writer.put(&greeting_of(now))?;
-    writer.deliver()
-}
-
-// Greets, and reads and serves the packets of the input.
-fn serve<R: Source, W: Sink, C: Clock, S: Submit>(
-    alloc: Global,
-    reader: &mut R,
-    writer: &mut W,
-    clock: &mut C,
-    client: &mut S,
-    limits: SessionLimits,
-    greatest_age: u32,
-) -> Report
-    ensures session { let view = client_view S.stands S.knows S.answers (S.named client.old) in
-        let source = source_state R.remaining R.tally in
-        let sink = sink_state W.contents W.pending W.failures in
-        IsPacketSession view limits greatest_age
-        (parties client.old (C.readings clock.old)) (parties client.new (C.readings clock.new))
-        (source reader.old) (source reader.new) (sink writer.old) (sink writer.new)
-        result.answers result.stop }
-    ensures named { S.named client.new ≡ S.named client.old }
-    ensures keeps { S.keeps client.old client.new }
-{
-    let mut answers = Vec::new(alloc);
-    let now = clock.now();
-    if greet(writer, now).is_err() {
-        return Report {
-            answers: Answers::new(answers),
-            stop: Stop::WriteFault,
-        };
-    }
-    let stop = read_packets(
-        alloc,
-        reader,
-        clock,
-        client,
-        limits,
-        greatest_age,
-        &mut answers,
-    );
-    Report {
-        answers: Answers::new(answers),
-        stop,
-    }
+    put_last(writer, &greeting_of(now))
 }
 
 /// Serves one connection of a sender: writes the greeting with the clock's moment, and then reads
@@ -261,5 +217,25 @@ pub fn serve_packets<R: Source, W: Sink, C: Clock, S: Submit>(
     ensures named { S.named client.new ≡ S.named client.old }
     ensures keeps { S.keeps client.old client.new }
 {
-    serve(alloc, reader, writer, clock, client, limits, greatest_age)
+    let mut answers = Vec::new(alloc);
+    let now = clock.now();
+    if greet(writer, now).is_err() {
+        return Report {
+            answers: Answers::new(answers),
+            stop: Stop::WriteFault,
+        };
+    }
+    let stop = read_packets(
+        alloc,
+        reader,
+        clock,
+        client,
+        limits,
+        greatest_age,
+        &mut answers,
+    );
+    Report {
+        answers: Answers::new(answers),
+        stop,
+    }
 }

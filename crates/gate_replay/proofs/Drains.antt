@@ -12,25 +12,25 @@ use Rattle.gate_reader.specs.Sink.{SinkState}
 use Rattle.gate_replay.specs.declared.player.Player.{Player}
 use Rattle.gate_replay.specs.declared.player.Stopped.{Stopped}
 use Rattle.gate_replay.specs.declared.player.Stopped.TheVariants as stopped
-use Rattle.gate_replay.specs.Gateway.{Gateway, records_item, drains, number_queued, Finishes, BeginsDrain}
-use Rattle.gate_replay.specs.inner.Playing.{DeskView, Extends, IsEnded, Setting, Shows, FindsFull, Takes, TakesItem, TakesNothing, Drains, DrainsFull, DrainsPart, Stays, Ends, StopsBy}
+use Rattle.gate_replay.specs.ReplayState.{ReplayState, records_item, drains, number_queued, Finishes, BeginsDrain}
+use Rattle.gate_replay.specs.inner.Playing.{SoloView, Extends, IsEnded, Setting, Shows, FindsFull, Takes, TakesItem, TakesNothing, Drains, DrainsFull, DrainsPart, Stays, Ends, StopsBy}
 
 -- whatever is so of a drain from g is so of one from start
-abbrev pub Leads : (List (Option Numbered) → Gateway → Type 0) → Gateway → Gateway → Type 0
+abbrev pub Leads : (List (Option Numbered) → ReplayState → Type 0) → ReplayState → ReplayState → Type 0
 Leads P start g = (takes : List (Option Numbered)) → P takes g
     → (more : List (Option Numbered)) × P more start × (drains more start ≡ drains takes g)
 
 -- a player has come this far in a drain
-pub record Reaches {D : Type 0} (view : DeskView D) (s : Setting) (player : Player D) (output : SinkState) (start : Gateway) : Type 0 where
-  pub g : Gateway
+pub record Reaches {D : Type 0} (view : SoloView D) (s : Setting) (player : Player D) (output : SinkState) (start : ReplayState) : Type 0 where
+  pub g : ReplayState
   pub shows : Shows view s player output g
   pub leads : Leads (Finishes s.setup.limit) start g
   pub begins : Leads (BeginsDrain s.setup.limit) start g
 
-abbrev pub DrainsOn : {D : Type 0} → DeskView D → Player D → Player D → Type 0
-DrainsOn view was now = (s : Setting) (output : SinkState) (g : Gateway) → Shows view s was output g → Reaches view s now output g
+abbrev pub DrainsOn : {D : Type 0} → SoloView D → Player D → Player D → Type 0
+DrainsOn view was now = (s : Setting) (output : SinkState) (g : ReplayState) → Shows view s was output g → Reaches view s now output g
 
-pub drains_self : {D : Type 0} (view : DeskView D) (player : Player D) → DrainsOn view player player
+pub drains_self : {D : Type 0} (view : SoloView D) (player : Player D) → DrainsOn view player player
 drains_self view player s output g h = record { g = g; shows = h; leads = λ takes f. (takes, f, refl); begins = λ takes f. (takes, f, refl) }
 
 not_left : (m n : ℕ) → n ≤ m → nat_lt m n ≡ false
@@ -40,16 +40,16 @@ is_left : (m n : ℕ) → m < n → nat_lt m n ≡ true
 is_left m n h = grind arith
 
 -- an item is left to be recorded
-left_in : {D : Type 0} (view : DeskView D) (s : Setting) (now : Player D) (output : SinkState) (g : Gateway) → Shows view s now output g → length now.applier.records < now.queued → length g.records < number_queued g.run
+left_in : {D : Type 0} (view : SoloView D) (s : Setting) (now : Player D) (output : SinkState) (g : ReplayState) → Shows view s now output g → length now.applier.records < now.queued → length g.records < number_queued g.run
 left_in view s now output g h some = omega (arith, h.queued, ap length h.applier.records)
 
-below_limit : {D : Type 0} (view : DeskView D) (s : Setting) (now : Player D) (output : SinkState) (g : Gateway) → Shows view s now output g → length now.applier.records ≤ now.applier.limit → length now.applier.records ≢ now.applier.limit → length g.records < s.setup.limit
+below_limit : {D : Type 0} (view : SoloView D) (s : Setting) (now : Player D) (output : SinkState) (g : ReplayState) → Shows view s now output g → length now.applier.records ≤ now.applier.limit → length now.applier.records ≢ now.applier.limit → length g.records < s.setup.limit
 below_limit view s now output g h few room =
     let there : length now.applier.records < now.applier.limit = omega (arith, few, room) in
     omega (arith, there, h.applier.limit, ap length h.applier.records)
 
 -- no item is left
-pub drains_none : {D : Type 0} (view : DeskView D) (was now : Player D) → now.queued ≤ length now.applier.records → DrainsOn view was now → (s : Setting) (output : SinkState) (g : Gateway) → Shows view s was output g → Drains view s now output g
+pub drains_none : {D : Type 0} (view : SoloView D) (was now : Player D) → now.queued ≤ length now.applier.records → DrainsOn view was now → (s : Setting) (output : SinkState) (g : ReplayState) → Shows view s was output g → Drains view s now output g
 drains_none {D} view was now none on s output g h =
     let r : Reaches view s now output g = on s output g h in
     let zero_left : number_queued r.g.run ≤ length r.g.records = omega (arith, none, r.shows.queued, ap length r.shows.applier.records) in
@@ -58,7 +58,7 @@ drains_none {D} view was now none on s output g h =
     record {
       takes = more.0;
       finishes = more.1;
-      shows = subst (λ (x : Gateway). Shows view s now output x) (sym (more.2 ∙ same)) (record {
+      shows = subst (λ (x : ReplayState). Shows view s now output x) (sym (more.2 ∙ same)) (record {
         holds = r.shows.holds;
         applier = record { table = r.shows.applier.table; opening = r.shows.applier.opening; limit = r.shows.applier.limit; records = r.shows.applier.records };
         moment = r.shows.moment;
@@ -71,8 +71,8 @@ drains_none {D} view was now none on s output g h =
     }
 
 -- the log is full, and an item is left
-pub drains_full : {D E : Type 0} (view : DeskView D) (ended : DeskView E) (was now : Player D) (kept : ApplierView) → length now.applier.records < now.queued → FindsFull view ended now kept → DrainsOn view was now
-    → (s : Setting) (output : SinkState) (g : Gateway) → Shows view s was output g → DrainsFull ended s kept output g
+pub drains_full : {D E : Type 0} (view : SoloView D) (ended : SoloView E) (was now : Player D) (kept : ApplierView) → length now.applier.records < now.queued → FindsFull view ended now kept → DrainsOn view was now
+    → (s : Setting) (output : SinkState) (g : ReplayState) → Shows view s was output g → DrainsFull ended s kept output g
 drains_full {D} view ended was now kept some found on s output g h =
     let r : Reaches view s now output g = on s output g h in
     let left : length r.g.records < number_queued r.g.run = left_in view s now output r.g r.shows some in
@@ -82,8 +82,8 @@ drains_full {D} view ended was now kept some found on s output g h =
     record {
       takes = more.0;
       finishes = more.1;
-      ends = subst (λ (x : Gateway). Ends ended s kept output x) (sym (more.2 ∙ same)) (record {
-        kept = record { desk = found.is_ended.rest; after = found.is_ended.after r.g.run r.shows.holds.after; limits_are = found.is_ended.limits_are ∙ r.shows.holds.limits };
+      ends = subst (λ (x : ReplayState). Ends ended s kept output x) (sym (more.2 ∙ same)) (record {
+        kept = record { queue = found.is_ended.rest; after = found.is_ended.after r.g.run r.shows.holds.after; limits_are = found.is_ended.limits_are ∙ r.shows.holds.limits };
         shown = record {
           table = ap (λ (a : ApplierView). a.table) found.applier ∙ r.shows.applier.table;
           opening = ap (λ (a : ApplierView). a.opening) found.applier ∙ r.shows.applier.opening;
@@ -96,8 +96,8 @@ drains_full {D} view ended was now kept some found on s output g h =
     }
 
 -- a take found nothing
-pub drains_missed : {D : Type 0} (view : DeskView D) (was now next : Player D) → length now.applier.records < now.queued → length now.applier.records ≤ now.applier.limit → Takes view now next false → DrainsOn view was now
-    → (s : Setting) (output : SinkState) (g : Gateway) → Shows view s was output g → Drains view s next output g
+pub drains_missed : {D : Type 0} (view : SoloView D) (was now next : Player D) → length now.applier.records < now.queued → length now.applier.records ≤ now.applier.limit → Takes view now next false → DrainsOn view was now
+    → (s : Setting) (output : SinkState) (g : ReplayState) → Shows view s was output g → Drains view s next output g
 drains_missed {D} view was now next some few t on s output g h =
     let r : Reaches view s now output g = on s output g h in
     let nothing : TakesNothing view now next = t.turn in
@@ -105,7 +105,7 @@ drains_missed {D} view was now next some few t on s output g h =
     record {
       takes = more.0;
       finishes = more.1;
-      shows = subst (λ (x : Gateway). Shows view s next output x) (sym more.2) (record {
+      shows = subst (λ (x : ReplayState). Shows view s next output x) (sym more.2) (record {
         holds = record {
           after = nothing.taken r.g.run r.shows.holds.after;
           limits = t.limits ∙ r.shows.holds.limits;
@@ -126,7 +126,7 @@ drains_missed {D} view was now next some few t on s output g h =
     }
 
 -- an item was taken and recorded
-pub drains_more : {D : Type 0} (view : DeskView D) (was now next : Player D) → length now.applier.records < now.queued → length now.applier.records ≤ now.applier.limit → Takes view now next true → DrainsOn view was now → DrainsOn view was next
+pub drains_more : {D : Type 0} (view : SoloView D) (was now next : Player D) → length now.applier.records < now.queued → length now.applier.records ≤ now.applier.limit → Takes view now next true → DrainsOn view was now → DrainsOn view was next
 drains_more {D} view was now next some few t on s output g h =
     let r : Reaches view s now output g = on s output g h in
     let item : Numbered = t.turn.0 in
@@ -161,8 +161,8 @@ drains_more {D} view was now next some few t on s output g h =
 
 -- ---- one turn
 
-pub takes_item : {D : Type 0} (view : DeskView D) (was now : Player D) (ready next : ApplierView) (found : Option Numbered) (item : Numbered) → found ≡ Some item → length was.applier.records ≢ was.applier.limit → ready ≡ record was.applier { room = ready.room }
-    → Extends view was.desk Take (take_reply found) now.desk → view.limits now.desk ≡ view.limits was.desk → next.records ≡ ready.records ++ record { moment = later ready.moment was.clock; item = item } ∷ [] → next.moment ≡ later ready.moment was.clock
+pub takes_item : {D : Type 0} (view : SoloView D) (was now : Player D) (ready next : ApplierView) (found : Option Numbered) (item : Numbered) → found ≡ Some item → length was.applier.records ≢ was.applier.limit → ready ≡ record was.applier { room = ready.room }
+    → Extends view was.queue Take (take_reply found) now.queue → view.limits now.queue ≡ view.limits was.queue → next.records ≡ ready.records ++ record { moment = later ready.moment was.clock; item = item } ∷ [] → next.moment ≡ later ready.moment was.clock
     → next.table ≡ ready.table → next.opening ≡ ready.opening → next.limit ≡ ready.limit → now.applier ≡ next → now.clock ≡ was.clock → now.age ≡ was.age → now.queued ≡ was.queued → Takes view was now true
 takes_item {D} view was now ready next found item found_is room is taken limits records moment table opening limit next_is clock age queued =
     let moment_is : ready.moment ≡ was.applier.moment = ap (λ (v : ApplierView). v.moment) is in
@@ -180,7 +180,7 @@ takes_item {D} view was now ready next found item found_is room is taken limits 
       turn = (
         item,
         record {
-          taken = subst (λ (o : Option Numbered). Extends view was.desk Take (take_reply o) now.desk) found_is taken;
+          taken = subst (λ (o : Option Numbered). Extends view was.queue Take (take_reply o) now.queue) found_is taken;
           records = ap (λ (v : ApplierView). v.records) next_is ∙ records ∙ ap (λ (l : List Record). l ++ record { moment = later ready.moment was.clock; item = item } ∷ []) records_are
               ∙ ap (λ (m : Moment). was.applier.records ++ record { moment = m; item = item } ∷ []) later_is;
           moment = ap (λ (v : ApplierView). v.moment) next_is ∙ moment ∙ later_is;
@@ -188,8 +188,8 @@ takes_item {D} view was now ready next found item found_is room is taken limits 
       );
     }
 
-pub takes_nothing : {D : Type 0} (view : DeskView D) (was now : Player D) (ready : ApplierView) (found : Option Numbered) → found ≡ None → length was.applier.records ≢ was.applier.limit → ready ≡ record was.applier { room = ready.room }
-    → Extends view was.desk Take (take_reply found) now.desk → view.limits now.desk ≡ view.limits was.desk → now.applier ≡ ready → now.clock ≡ was.clock → now.age ≡ was.age → now.queued ≡ was.queued → Takes view was now false
+pub takes_nothing : {D : Type 0} (view : SoloView D) (was now : Player D) (ready : ApplierView) (found : Option Numbered) → found ≡ None → length was.applier.records ≢ was.applier.limit → ready ≡ record was.applier { room = ready.room }
+    → Extends view was.queue Take (take_reply found) now.queue → view.limits now.queue ≡ view.limits was.queue → now.applier ≡ ready → now.clock ≡ was.clock → now.age ≡ was.age → now.queued ≡ was.queued → Takes view was now false
 takes_nothing {D} view was now ready found found_is room is taken limits ready_is clock age queued = record {
   room = room;
   limits = limits;
@@ -200,35 +200,35 @@ takes_nothing {D} view was now ready found found_is room is taken limits ready_i
   age = age;
   queued = queued;
   turn = record {
-    taken = subst (λ (o : Option Numbered). Extends view was.desk Take (take_reply o) now.desk) found_is taken;
+    taken = subst (λ (o : Option Numbered). Extends view was.queue Take (take_reply o) now.queue) found_is taken;
     records = ap (λ (v : ApplierView). v.records) ready_is ∙ ap (λ (v : ApplierView). v.records) is;
     moment = ap (λ (v : ApplierView). v.moment) ready_is ∙ ap (λ (v : ApplierView). v.moment) is;
   };
 }
 
 -- a turn that recorded an item left fewer
-pub fewer_left : {D : Type 0} (view : DeskView D) (was now : Player D) → length was.applier.records < was.queued → Takes view was now true → now.queued - length now.applier.records < was.queued - length was.applier.records
+pub fewer_left : {D : Type 0} (view : SoloView D) (was now : Player D) → length was.applier.records < was.queued → Takes view was now true → now.queued - length now.applier.records < was.queued - length was.applier.records
 fewer_left {D} view was now some t =
     let one : TakesItem view was now t.turn.0 = t.turn.1 in
     let longer : length now.applier.records ≡ length was.applier.records + 1 = ap length one.records ∙ length-append was.applier.records _ in
     omega (arith, some, longer, t.queued)
 
-pub takes_true : {D : Type 0} (view : DeskView D) (was now : Player D) (found : Bool) → found ≡ true → Takes view was now found → Takes view was now true
+pub takes_true : {D : Type 0} (view : SoloView D) (was now : Player D) (found : Bool) → found ≡ true → Takes view was now found → Takes view was now true
 takes_true {D} view was now found e t = subst (λ (b : Bool). Takes view was now b) e t
 
-pub takes_false : {D : Type 0} (view : DeskView D) (was now : Player D) (found : Bool) → found ≡ false → Takes view was now found → Takes view was now false
+pub takes_false : {D : Type 0} (view : SoloView D) (was now : Player D) (found : Bool) → found ≡ false → Takes view was now found → Takes view was now false
 takes_false {D} view was now found e t = subst (λ (b : Bool). Takes view was now b) e t
 
 -- memory ran out for a take
-drains_part : {D : Type 0} (view : DeskView D) (was now : Player D) (kept : ApplierView) → kept ≡ now.applier → DrainsOn view was now → (s : Setting) (output : SinkState) (g : Gateway) → Shows view s was output g → DrainsPart view s kept output g
+drains_part : {D : Type 0} (view : SoloView D) (was now : Player D) (kept : ApplierView) → kept ≡ now.applier → DrainsOn view was now → (s : Setting) (output : SinkState) (g : ReplayState) → Shows view s was output g → DrainsPart view s kept output g
 drains_part {D} view was now kept is on s output g h =
     let r : Reaches view s now output g = on s output g h in
     let more = r.begins [] tt in
     record {
       takes = more.0;
       begins = more.1;
-      stays = subst (λ (x : Gateway). Stays view s kept output x) (sym more.2) (record {
-        stood = record { desk = now.desk; after = r.shows.holds.after; limits_are = r.shows.holds.limits };
+      stays = subst (λ (x : ReplayState). Stays view s kept output x) (sym more.2) (record {
+        stood = record { queue = now.queue; after = r.shows.holds.after; limits_are = r.shows.holds.limits };
         shown = record {
           table = ap (λ (a : ApplierView). a.table) is ∙ r.shows.applier.table;
           opening = ap (λ (a : ApplierView). a.opening) is ∙ r.shows.applier.opening;
@@ -240,15 +240,15 @@ drains_part {D} view was now kept is on s output g h =
     }
 
 -- a take that found no room met a full log, or memory ran out
-pub take_stopped : {D E : Type 0} (view : DeskView D) (ended : DeskView E) (player : Player D) (stop : Stopped) → IsEnded view ended player.desk → StopsBy (λ kept. (kept ≡ player.applier) × (length player.applier.records ≡ player.applier.limit)) (λ kept. kept ≡ player.applier) (λ _. ⊥) stop
+pub take_stopped : {D E : Type 0} (view : SoloView D) (ended : SoloView E) (player : Player D) (stop : Stopped) → IsEnded view ended player.queue → StopsBy (λ kept. (kept ≡ player.applier) × (length player.applier.records ≡ player.applier.limit)) (λ kept. kept ≡ player.applier) (λ _. ⊥) stop
     → StopsBy (FindsFull view ended player) (λ kept. kept ≡ player.applier) (λ _. ⊥) stop
 take_stopped view ended player (stopped.Full kept) is_ended h = record { applier = h.0; full = h.1; is_ended = is_ended }
 take_stopped view ended player (stopped.OutOfMemory kept) is_ended h = h
 take_stopped view ended player (stopped.Unwritten fault) is_ended h = absurd h
 
 -- a drain that stops met a full log, or memory ran out
-pub drain_stopped : {D E : Type 0} (view : DeskView D) (ended : DeskView E) (was now : Player D) (stop : Stopped) → length now.applier.records < now.queued → DrainsOn view was now → StopsBy (FindsFull view ended now) (λ kept. kept ≡ now.applier) (λ _. ⊥) stop
-    → StopsBy (λ kept. (s : Setting) (output : SinkState) (g : Gateway) → Shows view s was output g → DrainsFull ended s kept output g) (λ kept. (s : Setting) (output : SinkState) (g : Gateway) → Shows view s was output g → DrainsPart view s kept output g) (λ _. ⊥) stop
+pub drain_stopped : {D E : Type 0} (view : SoloView D) (ended : SoloView E) (was now : Player D) (stop : Stopped) → length now.applier.records < now.queued → DrainsOn view was now → StopsBy (FindsFull view ended now) (λ kept. kept ≡ now.applier) (λ _. ⊥) stop
+    → StopsBy (λ kept. (s : Setting) (output : SinkState) (g : ReplayState) → Shows view s was output g → DrainsFull ended s kept output g) (λ kept. (s : Setting) (output : SinkState) (g : ReplayState) → Shows view s was output g → DrainsPart view s kept output g) (λ _. ⊥) stop
 drain_stopped view ended was now (stopped.Full kept) some on h = drains_full view ended was now kept some h on
 drain_stopped view ended was now (stopped.OutOfMemory kept) some on h = drains_part view was now kept h on
 drain_stopped view ended was now (stopped.Unwritten fault) some on h = absurd h

@@ -3,7 +3,7 @@ pub mod ScriptSteps
 pub mod Drains
 pub mod SentPackets
 pub mod SessionSteps
-pub mod DeskSteps
+pub mod SoloSteps
 pub mod PlaySteps
 pub mod ReplayTexts
 pub mod ReplayEnds

@@ -10,7 +10,7 @@ use Rattle.gate_grammar.specs.declared.faults.LineFault.{LineFault}
 use Rattle.gate_grammar.specs.Parsing.{text_before}
 use Rattle.gate_core.specs.Limits.{Limits}
 use Rattle.gate_core.specs.Legal.{Run}
-use Rattle.gate_desk.specs.Allowed.{IsAllowed}
+use Rattle.gate_solo.specs.Allowed.{IsAllowed}
 use Rattle.gate_applier.specs.Applier.{ApplierView}
 use Rattle.gate_pages.specs.StatusPage.{status_text_at}
 use Rattle.gate_reader.specs.declared.report.Answer.{Answer}
@@ -24,23 +24,23 @@ use Rattle.gate_replay.specs.declared.player.Stopped.TheVariants as stopped
 use Rattle.gate_replay.specs.declared.script.Step.{Step}
 use Rattle.gate_replay.specs.declared.script.Step.TheVariants as step
 use Rattle.gate_replay.specs.declared.script.Setup.{Setup}
-use Rattle.gate_replay.specs.Gateway.{Gateway, Heard, body_of_line, carries_out, is_session, serves, drains, plays, gateway_after, steps_of, records_item, Finishes, IsWhole, BeginsDrain, IsWholeSoFar}
+use Rattle.gate_replay.specs.ReplayState.{ReplayState, Heard, body_of_line, carries_out, is_session, serves, drains, plays, state_after, steps_of, records_item, Finishes, IsWhole, BeginsDrain, IsWholeSoFar}
 use Rattle.gate_replay.specs.inner.Sessions.{queued_in, Answers, AnswersStep}
-use Rattle.gate_replay.specs.inner.Playing.{DeskView, Setting, setting, Shows, IsNew, IsUnderWay, IsReady, Serves, Drains, DrainsFull, Ends, Stays, DrainsPart, Plays, PlaysFull, PlaysPart, PlayedTo, PlayedFull, PlayedPart, IsWriteEnd, StopsBy}
+use Rattle.gate_replay.specs.inner.Playing.{SoloView, Setting, setting, Shows, IsNew, IsUnderWay, IsReady, Serves, Drains, DrainsFull, Ends, Stays, DrainsPart, Plays, PlaysFull, PlaysPart, PlayedTo, PlayedFull, PlayedPart, IsWriteEnd, StopsBy}
 use Rattle.gate_reader.proofs.Outputs.{fails_then, writes_none, writes_on}
-use Rattle.gate_replay.proofs.DeskSteps.{queued_few, holds_same}
+use Rattle.gate_replay.proofs.SoloSteps.{queued_few, holds_same}
 
 abbrev nothing_heard : List (Option Numbered) → Heard
 nothing_heard takes = record { reply = Ok 0; closed = None; takes = takes }
 
 -- ---- one step without its drain
 
-pub serves_clock : {D : Type 0} (view : DeskView D) (was now : Player D) (clock : Moment) (output : SinkState) → now.desk ≡ was.desk → now.applier ≡ was.applier → now.clock ≡ clock → now.age ≡ was.age → now.queued ≡ was.queued
-    → (s : Setting) (g : Gateway) → Shows view s was output g → Serves view s now output (step.Clock clock) g
-serves_clock {D} view was now clock output desk applier clock_is age queued s g h = record {
+pub serves_clock : {D : Type 0} (view : SoloView D) (was now : Player D) (clock : Moment) (output : SinkState) → now.queue ≡ was.queue → now.applier ≡ was.applier → now.clock ≡ clock → now.age ≡ was.age → now.queued ≡ was.queued
+    → (s : Setting) (g : ReplayState) → Shows view s was output g → Serves view s now output (step.Clock clock) g
+serves_clock {D} view was now clock output queue applier clock_is age queued s g h = record {
   heard = nothing_heard [];
   shows = λ takes. record {
-    holds = holds_same view s.setup was.desk now.desk g.run desk h.holds;
+    holds = holds_same view s.setup was.queue now.queue g.run queue h.holds;
     applier = rw applier (record { table = h.applier.table; opening = h.applier.opening; limit = h.applier.limit; records = h.applier.records });
     moment = rw applier h.moment;
     clock = clock_is;
@@ -51,14 +51,14 @@ serves_clock {D} view was now clock output desk applier clock_is age queued s g 
   };
 }
 
-pub serves_session : {D : Type 0} (view : DeskView D) (was now : Player D) (before after : SinkState) (step : Step) (a : Answer) → AnswersStep view was.desk was.age was.clock now.desk step a → Writes before after (answer_line a)
+pub serves_session : {D : Type 0} (view : SoloView D) (was now : Player D) (before after : SinkState) (step : Step) (a : Answer) → AnswersStep view was.queue was.age was.clock now.queue step a → Writes before after (answer_line a)
     → now.applier ≡ was.applier → now.clock ≡ was.clock → now.age ≡ was.age → now.queued ≡ was.queued + queued_in a
-    → (s : Setting) (g : Gateway) → Shows view s was before g → Serves view s now after step g
+    → (s : Setting) (g : ReplayState) → Shows view s was before g → Serves view s now after step g
 serves_session {D} view was now before after step a answers printed applier clock age queued s g h =
-    let x : Answers view s.setup now.desk step a g = answers s.setup g h.holds h.clock h.age in
+    let x : Answers view s.setup now.queue step a g = answers s.setup g h.holds h.clock h.age in
     record {
       heard = x.heard;
-      shows = λ takes. subst (λ (v : Gateway). Shows view s now after v) (sym (x.does takes)) (record {
+      shows = λ takes. subst (λ (v : ReplayState). Shows view s now after v) (sym (x.does takes)) (record {
         holds = x.holds;
         applier = record {
           table = ap (λ (v : ApplierView). v.table) applier ∙ h.applier.table;
@@ -75,11 +75,11 @@ serves_session {D} view was now before after step a answers printed applier cloc
       });
     }
 
-pub serves_page : {D : Type 0} (view : DeskView D) (was now : Player D) (before after : SinkState) → now.desk ≡ was.desk → now.applier.table ≡ was.applier.table → now.applier.opening ≡ was.applier.opening → now.applier.limit ≡ was.applier.limit
+pub serves_page : {D : Type 0} (view : SoloView D) (was now : Player D) (before after : SinkState) → now.queue ≡ was.queue → now.applier.table ≡ was.applier.table → now.applier.opening ≡ was.applier.opening → now.applier.limit ≡ was.applier.limit
     → now.applier.records ≡ was.applier.records → now.applier.moment ≡ later was.applier.moment was.clock → now.clock ≡ was.clock → now.age ≡ was.age → now.queued ≡ was.queued
     → Writes before after (status_text_at now.applier.table now.applier.opening now.applier.records now.applier.moment)
-    → (s : Setting) (g : Gateway) → Shows view s was before g → Serves view s now after step.Page g
-serves_page {D} view was now before after desk table opening limit records moment clock age queued printed s g h =
+    → (s : Setting) (g : ReplayState) → Shows view s was before g → Serves view s now after step.Page g
+serves_page {D} view was now before after queue table opening limit records moment clock age queued printed s g h =
     let table_is : now.applier.table ≡ s.setup.table = table ∙ h.applier.table in
     let opening_is : now.applier.opening ≡ s.setup.moment = opening ∙ h.applier.opening in
     let records_are : now.applier.records ≡ g.records = records ∙ h.applier.records in
@@ -89,7 +89,7 @@ serves_page {D} view was now before after desk table opening limit records momen
     record {
       heard = nothing_heard [];
       shows = λ takes. record {
-        holds = holds_same view s.setup was.desk now.desk g.run desk h.holds;
+        holds = holds_same view s.setup was.queue now.queue g.run queue h.holds;
         applier = record { table = table_is; opening = opening_is; limit = limit ∙ h.applier.limit; records = records_are };
         moment = moment_is;
         clock = clock ∙ h.clock;
@@ -106,59 +106,59 @@ written_line text written before line same grown empty = same ∙ grown ∙ ap (
 
 -- ---- one step
 
-plays_if : (full session : Bool) (g v d : Gateway) → full ≡ false → cond full g (cond session d v) ≡ cond session d v
+plays_if : (full session : Bool) (g v d : ReplayState) → full ≡ false → cond full g (cond session d v) ≡ cond session d v
 plays_if full session g v d running = ap (λ b. cond b g (cond session d v)) running
 
-session_is : (setup : Setup) (step : Step) (heard : Heard) (g : Gateway) → g.full ≡ false → is_session step ≡ true → plays setup step heard g ≡ drains heard.takes (serves setup step heard g)
+session_is : (setup : Setup) (step : Step) (heard : Heard) (g : ReplayState) → g.full ≡ false → is_session step ≡ true → plays setup step heard g ≡ drains heard.takes (serves setup step heard g)
 session_is setup step heard g running session =
     plays_if g.full (is_session step) g (serves setup step heard g) (drains heard.takes (serves setup step heard g)) running
     ∙ ap (λ b. cond b (drains heard.takes (serves setup step heard g)) (serves setup step heard g)) session
 
-other_is : (setup : Setup) (step : Step) (heard : Heard) (g : Gateway) → g.full ≡ false → is_session step ≡ false → plays setup step heard g ≡ serves setup step heard g
+other_is : (setup : Setup) (step : Step) (heard : Heard) (g : ReplayState) → g.full ≡ false → is_session step ≡ false → plays setup step heard g ≡ serves setup step heard g
 other_is setup step heard g running session =
     plays_if g.full (is_session step) g (serves setup step heard g) (drains heard.takes (serves setup step heard g)) running
     ∙ ap (λ b. cond b (drains heard.takes (serves setup step heard g)) (serves setup step heard g)) session
 
 -- a step's service doesn't read its takes
-carries_with : (read : Result Body LineFault) (heard : Heard) (takes : List (Option Numbered)) (g : Gateway) → carries_out read (record heard { takes = takes }) g ≡ carries_out read heard g
+carries_with : (read : Result Body LineFault) (heard : Heard) (takes : List (Option Numbered)) (g : ReplayState) → carries_out read (record heard { takes = takes }) g ≡ carries_out read heard g
 carries_with (Ok body) heard takes g = refl
 carries_with (Err cause) heard takes g = refl
 
-serves_with : (setup : Setup) (step : Step) (heard : Heard) (takes : List (Option Numbered)) (g : Gateway) → serves setup step (record heard { takes = takes }) g ≡ serves setup step heard g
+serves_with : (setup : Setup) (step : Step) (heard : Heard) (takes : List (Option Numbered)) (g : ReplayState) → serves setup step (record heard { takes = takes }) g ≡ serves setup step heard g
 serves_with setup (step.Clock moment) heard takes g = refl
 serves_with setup (step.Packet sent) heard takes g = refl
 serves_with setup (step.Line text) heard takes g = carries_with (body_of_line (text_before 10 (text ++ 10 ∷ []))) heard takes g
 serves_with setup step.Page heard takes g = refl
 
-drains_plays : {D : Type 0} (view : DeskView D) (s : Setting) (now : Player D) (step : Step) (after : SinkState) (g : Gateway) (heard : Heard) → g.full ≡ false → is_session step ≡ true → Drains view s now after (serves s.setup step heard g) → Plays view s now after step g
+drains_plays : {D : Type 0} (view : SoloView D) (s : Setting) (now : Player D) (step : Step) (after : SinkState) (g : ReplayState) (heard : Heard) → g.full ≡ false → is_session step ≡ true → Drains view s now after (serves s.setup step heard g) → Plays view s now after step g
 drains_plays {D} view s now step after g heard running session d =
     let with_takes : Heard = record heard { takes = d.takes } in
     let same : serves s.setup step with_takes g ≡ serves s.setup step heard g = serves_with s.setup step heard d.takes g in
-    let is : plays s.setup step with_takes g ≡ drains d.takes (serves s.setup step heard g) = session_is s.setup step with_takes g running session ∙ ap (λ (v : Gateway). drains d.takes v) same in
+    let is : plays s.setup step with_takes g ≡ drains d.takes (serves s.setup step heard g) = session_is s.setup step with_takes g running session ∙ ap (λ (v : ReplayState). drains d.takes v) same in
     record {
       heard = with_takes;
       whole = λ _ _. rw same d.finishes;
-      shows = subst (λ (x : Gateway). Shows view s now after x) (sym is) d.shows;
+      shows = subst (λ (x : ReplayState). Shows view s now after x) (sym is) d.shows;
     }
 
-drains_plays_full : {E : Type 0} (ended : DeskView E) (s : Setting) (kept : ApplierView) (step : Step) (after : SinkState) (g : Gateway) (heard : Heard) → g.full ≡ false → is_session step ≡ true → DrainsFull ended s kept after (serves s.setup step heard g) → PlaysFull ended s kept after step g
+drains_plays_full : {E : Type 0} (ended : SoloView E) (s : Setting) (kept : ApplierView) (step : Step) (after : SinkState) (g : ReplayState) (heard : Heard) → g.full ≡ false → is_session step ≡ true → DrainsFull ended s kept after (serves s.setup step heard g) → PlaysFull ended s kept after step g
 drains_plays_full {E} ended s kept step after g heard running session d =
     let with_takes : Heard = record heard { takes = d.takes } in
     let same : serves s.setup step with_takes g ≡ serves s.setup step heard g = serves_with s.setup step heard d.takes g in
-    let is : plays s.setup step with_takes g ≡ drains d.takes (serves s.setup step heard g) = session_is s.setup step with_takes g running session ∙ ap (λ (v : Gateway). drains d.takes v) same in
+    let is : plays s.setup step with_takes g ≡ drains d.takes (serves s.setup step heard g) = session_is s.setup step with_takes g running session ∙ ap (λ (v : ReplayState). drains d.takes v) same in
     record {
       heard = with_takes;
       whole = λ _ _. rw same d.finishes;
-      ends = subst (λ (x : Gateway). Ends ended s kept after x) (sym is) d.ends;
+      ends = subst (λ (x : ReplayState). Ends ended s kept after x) (sym is) d.ends;
     }
 
 -- the step's service, whatever its takes
-pub served_shows : {D : Type 0} (view : DeskView D) (s : Setting) (mid : Player D) (after : SinkState) (step : Step) (g : Gateway) (v : Serves view s mid after step g) → Shows view s mid after (serves s.setup step v.heard g)
-served_shows {D} view s mid after step g v = subst (λ (x : Gateway). Shows view s mid after x) (serves_with s.setup step v.heard [] g) (v.shows [])
+pub served_shows : {D : Type 0} (view : SoloView D) (s : Setting) (mid : Player D) (after : SinkState) (step : Step) (g : ReplayState) (v : Serves view s mid after step g) → Shows view s mid after (serves s.setup step v.heard g)
+served_shows {D} view s mid after step g v = subst (λ (x : ReplayState). Shows view s mid after x) (serves_with s.setup step v.heard [] g) (v.shows [])
 
-pub plays_session : {D : Type 0} (view : DeskView D) (r : Result (Player D) Stopped) (was mid : Player D) (step : Step) (before after : SinkState) → ((s : Setting) (g : Gateway) → Shows view s was before g → Serves view s mid after step g) → is_session step ≡ true
-    → IfOk r (λ now. (s : Setting) (output : SinkState) (g : Gateway) → Shows view s mid output g → Drains view s now output g)
-    → IfOk r (λ now. (s : Setting) (g : Gateway) → Shows view s was before g → Plays view s now after step g)
+pub plays_session : {D : Type 0} (view : SoloView D) (r : Result (Player D) Stopped) (was mid : Player D) (step : Step) (before after : SinkState) → ((s : Setting) (g : ReplayState) → Shows view s was before g → Serves view s mid after step g) → is_session step ≡ true
+    → IfOk r (λ now. (s : Setting) (output : SinkState) (g : ReplayState) → Shows view s mid output g → Drains view s now output g)
+    → IfOk r (λ now. (s : Setting) (g : ReplayState) → Shows view s was before g → Plays view s now after step g)
 plays_session view (Ok now) was mid step before after served session drained = λ s g h.
     let v = served s g h in drains_plays view s now step after g v.heard h.running session (drained s after (serves s.setup step v.heard g) (served_shows view s mid after step g v))
 plays_session view (Err stop) was mid step before after served session drained = tt
@@ -177,10 +177,10 @@ write_end_on a b c replay_fault.ReadFault h k = k
 write_end_on a b c replay_fault.WriteFault h k = fails_then a.failures b.failures c.failures 1 h k
 
 -- what stays where memory runs out before a step is printed
-pub stays_as : {D : Type 0} (view : DeskView D) (was : Player D) (kept : ApplierView) (before after : SinkState) → kept.table ≡ was.applier.table → kept.opening ≡ was.applier.opening → kept.limit ≡ was.applier.limit → kept.records ≡ was.applier.records → after ≡ before
-    → (s : Setting) (g : Gateway) → Shows view s was before g → Stays view s kept after g
+pub stays_as : {D : Type 0} (view : SoloView D) (was : Player D) (kept : ApplierView) (before after : SinkState) → kept.table ≡ was.applier.table → kept.opening ≡ was.applier.opening → kept.limit ≡ was.applier.limit → kept.records ≡ was.applier.records → after ≡ before
+    → (s : Setting) (g : ReplayState) → Shows view s was before g → Stays view s kept after g
 stays_as {D} view was kept before after table opening limit records same s g h = record {
-  stood = record { desk = was.desk; after = h.holds.after; limits_are = h.holds.limits };
+  stood = record { queue = was.queue; after = h.holds.after; limits_are = h.holds.limits };
   shown = record {
     table = table ∙ h.applier.table;
     opening = opening ∙ h.applier.opening;
@@ -190,72 +190,72 @@ stays_as {D} view was kept before after table opening limit records same s g h =
   printed = subst (λ (v : SinkState). Writes s.base v g.printed) (sym same) h.printed;
 }
 
-pub stays_same : {D : Type 0} (view : DeskView D) (was : Player D) (before : SinkState) (s : Setting) (g : Gateway) → Shows view s was before g → Stays view s was.applier before g
+pub stays_same : {D : Type 0} (view : SoloView D) (was : Player D) (before : SinkState) (s : Setting) (g : ReplayState) → Shows view s was before g → Stays view s was.applier before g
 stays_same {D} view was before s g h = stays_as view was was.applier before before refl refl refl refl refl s g h
 
 -- a full log met at a step
-abbrev pub FullAt : {D E : Type 0} (view : DeskView D) (ended : DeskView E) (was : Player D) (step : Step) (before after : SinkState) (kept : ApplierView) → Type 0
-FullAt view ended was step before after kept = (s : Setting) (g : Gateway) → Shows view s was before g → PlaysFull ended s kept after step g
+abbrev pub FullAt : {D E : Type 0} (view : SoloView D) (ended : SoloView E) (was : Player D) (step : Step) (before after : SinkState) (kept : ApplierView) → Type 0
+FullAt view ended was step before after kept = (s : Setting) (g : ReplayState) → Shows view s was before g → PlaysFull ended s kept after step g
 
 -- memory ran out before the step or amid its drain
-abbrev pub PartAt : {D : Type 0} (view : DeskView D) (was : Player D) (step : Step) (before after : SinkState) (kept : ApplierView) → Type 0
-PartAt view was step before after kept = (s : Setting) (g : Gateway) → Shows view s was before g → Stays view s kept after g ⊎ PlaysPart view s kept after step g
+abbrev pub PartAt : {D : Type 0} (view : SoloView D) (was : Player D) (step : Step) (before after : SinkState) (kept : ApplierView) → Type 0
+PartAt view was step before after kept = (s : Setting) (g : ReplayState) → Shows view s was before g → Stays view s kept after g ⊎ PlaysPart view s kept after step g
 
 -- the service of a session stopped
-pub served_stops : {D E : Type 0} (view : DeskView D) (ended : DeskView E) (stop : Stopped) (was : Player D) (step : Step) (before after : SinkState)
-    → StopsBy (λ _. ⊥) (λ kept. (s : Setting) (g : Gateway) → Shows view s was before g → Stays view s kept after g) (IsWriteEnd before after) stop
+pub served_stops : {D E : Type 0} (view : SoloView D) (ended : SoloView E) (stop : Stopped) (was : Player D) (step : Step) (before after : SinkState)
+    → StopsBy (λ _. ⊥) (λ kept. (s : Setting) (g : ReplayState) → Shows view s was before g → Stays view s kept after g) (IsWriteEnd before after) stop
     → StopsBy (FullAt view ended was step before after) (PartAt view was step before after) (IsWriteEnd before after) stop
 served_stops {D} view ended stop was step before after h =
-    stops stop (λ _. ⊥) (FullAt view ended was step before after) (λ kept. (s : Setting) (g : Gateway) → Shows view s was before g → Stays view s kept after g) (PartAt view was step before after) (IsWriteEnd before after) (IsWriteEnd before after)
+    stops stop (λ _. ⊥) (FullAt view ended was step before after) (λ kept. (s : Setting) (g : ReplayState) → Shows view s was before g → Stays view s kept after g) (PartAt view was step before after) (IsWriteEnd before after) (IsWriteEnd before after)
     (λ kept no. absurd no) (λ kept m s g shows. inl (m s g shows)) (λ fault f. f) h
 
-drains_plays_part : {D : Type 0} (view : DeskView D) (s : Setting) (kept : ApplierView) (step : Step) (after : SinkState) (g : Gateway) (heard : Heard) → g.full ≡ false → is_session step ≡ true → DrainsPart view s kept after (serves s.setup step heard g) → PlaysPart view s kept after step g
+drains_plays_part : {D : Type 0} (view : SoloView D) (s : Setting) (kept : ApplierView) (step : Step) (after : SinkState) (g : ReplayState) (heard : Heard) → g.full ≡ false → is_session step ≡ true → DrainsPart view s kept after (serves s.setup step heard g) → PlaysPart view s kept after step g
 drains_plays_part {D} view s kept step after g heard running session d =
     let with_takes : Heard = record heard { takes = d.takes } in
     let same : serves s.setup step with_takes g ≡ serves s.setup step heard g = serves_with s.setup step heard d.takes g in
-    let is : plays s.setup step with_takes g ≡ drains d.takes (serves s.setup step heard g) = session_is s.setup step with_takes g running session ∙ ap (λ (v : Gateway). drains d.takes v) same in
+    let is : plays s.setup step with_takes g ≡ drains d.takes (serves s.setup step heard g) = session_is s.setup step with_takes g running session ∙ ap (λ (v : ReplayState). drains d.takes v) same in
     record {
       heard = with_takes;
       begins = λ _ _. rw same d.begins;
-      stays = subst (λ (x : Gateway). Stays view s kept after x) (sym is) d.stays;
+      stays = subst (λ (x : ReplayState). Stays view s kept after x) (sym is) d.stays;
     }
 
 -- the drain of a session stopped
-pub drain_stops : {D E : Type 0} (view : DeskView D) (ended : DeskView E) (r : Result (Player D) Stopped) (was mid : Player D) (step : Step) (before after : SinkState) → ((s : Setting) (g : Gateway) → Shows view s was before g → Serves view s mid after step g) → is_session step ≡ true
-    → IfErr r (StopsBy (λ kept. (s : Setting) (output : SinkState) (g : Gateway) → Shows view s mid output g → DrainsFull ended s kept output g) (λ kept. (s : Setting) (output : SinkState) (g : Gateway) → Shows view s mid output g → DrainsPart view s kept output g) (λ _. ⊥))
+pub drain_stops : {D E : Type 0} (view : SoloView D) (ended : SoloView E) (r : Result (Player D) Stopped) (was mid : Player D) (step : Step) (before after : SinkState) → ((s : Setting) (g : ReplayState) → Shows view s was before g → Serves view s mid after step g) → is_session step ≡ true
+    → IfErr r (StopsBy (λ kept. (s : Setting) (output : SinkState) (g : ReplayState) → Shows view s mid output g → DrainsFull ended s kept output g) (λ kept. (s : Setting) (output : SinkState) (g : ReplayState) → Shows view s mid output g → DrainsPart view s kept output g) (λ _. ⊥))
     → IfErr r (StopsBy (FullAt view ended was step before after) (PartAt view was step before after) (IsWriteEnd before after))
 drain_stops view ended (Ok now) was mid step before after served session h = tt
 drain_stops {D} view ended (Err stop) was mid step before after served session h =
-    stops stop (λ kept. (s : Setting) (output : SinkState) (g : Gateway) → Shows view s mid output g → DrainsFull ended s kept output g) (FullAt view ended was step before after)
-    (λ kept. (s : Setting) (output : SinkState) (g : Gateway) → Shows view s mid output g → DrainsPart view s kept output g) (PartAt view was step before after) (λ _. ⊥) (IsWriteEnd before after)
+    stops stop (λ kept. (s : Setting) (output : SinkState) (g : ReplayState) → Shows view s mid output g → DrainsFull ended s kept output g) (FullAt view ended was step before after)
+    (λ kept. (s : Setting) (output : SinkState) (g : ReplayState) → Shows view s mid output g → DrainsPart view s kept output g) (PartAt view was step before after) (λ _. ⊥) (IsWriteEnd before after)
     (λ kept full s g shows. let v = served s g shows in drains_plays_full ended s kept step after g v.heard shows.running session (full s after (serves s.setup step v.heard g) (served_shows view s mid after step g v)))
     (λ kept part s g shows. let v = served s g shows in inr (drains_plays_part view s kept step after g v.heard shows.running session (part s after (serves s.setup step v.heard g) (served_shows view s mid after step g v))))
     (λ fault no. absurd no) h
 
-pub plays_other : {D : Type 0} (view : DeskView D) (was now : Player D) (step : Step) (before after : SinkState) → ((s : Setting) (g : Gateway) → Shows view s was before g → Serves view s now after step g) → is_session step ≡ false
-    → (s : Setting) (g : Gateway) → Shows view s was before g → Plays view s now after step g
+pub plays_other : {D : Type 0} (view : SoloView D) (was now : Player D) (step : Step) (before after : SinkState) → ((s : Setting) (g : ReplayState) → Shows view s was before g → Serves view s now after step g) → is_session step ≡ false
+    → (s : Setting) (g : ReplayState) → Shows view s was before g → Plays view s now after step g
 plays_other {D} view was now step before after served other s g h =
     let v = served s g h in
     record {
       heard = v.heard;
       whole = λ _ session. let no : true ≡ false = sym session ∙ other in absurd (cc);
-      shows = subst (λ (x : Gateway). Shows view s now after x) (sym (other_is s.setup step v.heard g h.running other)) (served_shows view s now after step g v);
+      shows = subst (λ (x : ReplayState). Shows view s now after x) (sym (other_is s.setup step v.heard g h.running other)) (served_shows view s now after step g v);
     }
 
 -- ---- all steps
 
-pub under_way : {D : Type 0} (view : DeskView D) (s : Setting) (player : Player D) (output : SinkState) (g : Gateway) → Shows view s player output g → IsUnderWay view player output
-under_way view s player output g h = record { setting = s; gateway = g; shows = h }
+pub under_way : {D : Type 0} (view : SoloView D) (s : Setting) (player : Player D) (output : SinkState) (g : ReplayState) → Shows view s player output g → IsUnderWay view player output
+under_way view s player output g h = record { setting = s; replayed = g; shows = h }
 
-pub ready : {D : Type 0} (view : DeskView D) → ((desk : D) (run : Run) → view.after desk run → IsAllowed (view.limits desk) run) → (s : Setting) (player : Player D) (output : SinkState) (g : Gateway) → Shows view s player output g → IsReady view player output
+pub ready : {D : Type 0} (view : SoloView D) → ((queue : D) (run : Run) → view.after queue run → IsAllowed (view.limits queue) run) → (s : Setting) (player : Player D) (output : SinkState) (g : ReplayState) → Shows view s player output g → IsReady view player output
 ready view allowed s player output g h =
-    let quota_is : (view.limits player.desk).quota ≡ 4294967295 = ap (λ (l : Limits). l.quota) h.holds.limits in
+    let quota_is : (view.limits player.queue).quota ≡ 4294967295 = ap (λ (l : Limits). l.quota) h.holds.limits in
     record {
       under_way = under_way view s player output g h;
-      few = subst (λ n. n < 2 ^ 34) (sym h.queued) (queued_few (view.limits player.desk) g.run (allowed player.desk g.run h.holds.after) (omega (arith, quota_is)));
+      few = subst (λ n. n < 2 ^ 34) (sym h.queued) (queued_few (view.limits player.queue) g.run (allowed player.queue g.run h.holds.after) (omega (arith, quota_is)));
     }
 
-pub played_none : {D : Type 0} (view : DeskView D) (setup : Setup) (player : Player D) (output : SinkState) → IsNew view setup player → PlayedTo view (setting setup output) [] player output
+pub played_none : {D : Type 0} (view : SoloView D) (setup : Setup) (player : Player D) (output : SinkState) → IsNew view setup player → PlayedTo view (setting setup output) [] player output
 played_none view setup player output h = record {
   done = [];
   steps_are = refl;
@@ -284,10 +284,10 @@ next_step steps i item inside is = take_more steps i item inside ∙ ap (λ x. t
 more_steps : (steps : List Step) (step : Step) (before : List Step) → before ≡ reverse steps → step ∷ before ≡ reverse (steps ++ step ∷ [])
 more_steps steps step before e = ap (λ l. step ∷ l) e ∙ sym (reverse-append steps (step ∷ []))
 
-pub played_more : {D : Type 0} (view : DeskView D) (s : Setting) (steps next : List Step) (was now : Player D) (before after : SinkState) (step : Step) → next ≡ steps ++ step ∷ [] → PlayedTo view s steps was before
-    → ((t : Setting) (g : Gateway) → Shows view t was before g → Plays view t now after step g) → PlayedTo view s next now after
+pub played_more : {D : Type 0} (view : SoloView D) (s : Setting) (steps next : List Step) (was now : Player D) (before after : SinkState) (step : Step) → next ≡ steps ++ step ∷ [] → PlayedTo view s steps was before
+    → ((t : Setting) (g : ReplayState) → Shows view t was before g → Plays view t now after step g) → PlayedTo view s next now after
 played_more view s steps next was now before after step is h played =
-    let p = played s (gateway_after s.setup h.done) h.shows in
+    let p = played s (state_after s.setup h.done) h.shows in
     record {
       done = (step, p.heard) ∷ h.done;
       steps_are = more_steps steps step (steps_of h.done) h.steps_are ∙ ap reverse (sym is);
@@ -306,37 +306,37 @@ idle_steps (step ∷ more) done =
     idle_steps more ((step, nothing_heard []) ∷ done)
     ∙ sym (append_assoc (reverse more) (step ∷ []) (steps_of done)) ∙ ap (λ l. l ++ steps_of done) (sym (reverse-append (step ∷ []) more))
 
-stays_full : (setup : Setup) (step : Step) (heard : Heard) (g : Gateway) → g.full ≡ true → plays setup step heard g ≡ g
+stays_full : (setup : Setup) (step : Step) (heard : Heard) (g : ReplayState) → g.full ≡ true → plays setup step heard g ≡ g
 stays_full setup step heard g full = ap (λ b. cond b g (cond (is_session step) (drains heard.takes (serves setup step heard g)) (serves setup step heard g))) full
 
-idle_gateway : (setup : Setup) (more : List Step) (done : List (Step × Heard)) → (gateway_after setup done).full ≡ true → gateway_after setup (idle more done) ≡ gateway_after setup done
+idle_gateway : (setup : Setup) (more : List Step) (done : List (Step × Heard)) → (state_after setup done).full ≡ true → state_after setup (idle more done) ≡ state_after setup done
 idle_gateway setup [] done full = refl
 idle_gateway setup (step ∷ more) done full =
-    let same : gateway_after setup ((step, nothing_heard []) ∷ done) ≡ gateway_after setup done = stays_full setup step (nothing_heard []) (gateway_after setup done) full in
-    idle_gateway setup more ((step, nothing_heard []) ∷ done) (ap (λ (g : Gateway). g.full) same ∙ full) ∙ same
+    let same : state_after setup ((step, nothing_heard []) ∷ done) ≡ state_after setup done = stays_full setup step (nothing_heard []) (state_after setup done) full in
+    idle_gateway setup more ((step, nothing_heard []) ∷ done) (ap (λ (g : ReplayState). g.full) same ∙ full) ∙ same
 
-idle_whole : (setup : Setup) (more : List Step) (done : List (Step × Heard)) → (gateway_after setup done).full ≡ true → IsWhole setup done → IsWhole setup (idle more done)
+idle_whole : (setup : Setup) (more : List Step) (done : List (Step × Heard)) → (state_after setup done).full ≡ true → IsWhole setup done → IsWhole setup (idle more done)
 idle_whole setup [] done full whole = whole
 idle_whole setup (step ∷ more) done full whole =
-    let same : gateway_after setup ((step, nothing_heard []) ∷ done) ≡ gateway_after setup done = stays_full setup step (nothing_heard []) (gateway_after setup done) full in
-    idle_whole setup more ((step, nothing_heard []) ∷ done) (ap (λ (g : Gateway). g.full) same ∙ full) ((λ running _. let no : true ≡ false = sym full ∙ running in absurd (cc)), whole)
+    let same : state_after setup ((step, nothing_heard []) ∷ done) ≡ state_after setup done = stays_full setup step (nothing_heard []) (state_after setup done) full in
+    idle_whole setup more ((step, nothing_heard []) ∷ done) (ap (λ (g : ReplayState). g.full) same ∙ full) ((λ running _. let no : true ≡ false = sym full ∙ running in absurd (cc)), whole)
 
-full_after : {D E : Type 0} (view : DeskView D) (ended : DeskView E) (s : Setting) (steps first rest : List Step) (step : Step) (was : Player D) (kept : ApplierView) (before after : SinkState) → first ++ step ∷ [] ++ rest ≡ steps → PlayedTo view s first was before
-    → ((t : Setting) (g : Gateway) → Shows view t was before g → PlaysFull ended t kept after step g) → PlayedFull ended s steps kept after
+full_after : {D E : Type 0} (view : SoloView D) (ended : SoloView E) (s : Setting) (steps first rest : List Step) (step : Step) (was : Player D) (kept : ApplierView) (before after : SinkState) → first ++ step ∷ [] ++ rest ≡ steps → PlayedTo view s first was before
+    → ((t : Setting) (g : ReplayState) → Shows view t was before g → PlaysFull ended t kept after step g) → PlayedFull ended s steps kept after
 full_after {D} view ended s steps first rest step was kept before after parts h played =
-    let p = played s (gateway_after s.setup h.done) h.shows in
+    let p = played s (state_after s.setup h.done) h.shows in
     let done : List (Step × Heard) = (step, p.heard) ∷ h.done in
     let all : steps_of done ≡ reverse (first ++ step ∷ []) = more_steps first step (steps_of h.done) h.steps_are in
     record {
       done = idle rest done;
       steps_are = idle_steps rest done ∙ ap (λ l. reverse rest ++ l) all ∙ sym (reverse-append (first ++ step ∷ []) rest) ∙ ap reverse parts;
       whole = idle_whole s.setup rest done p.ends.full (p.whole, h.whole);
-      ends = subst (λ (x : Gateway). Ends ended s kept after x) (sym (idle_gateway s.setup rest done p.ends.full)) p.ends;
+      ends = subst (λ (x : ReplayState). Ends ended s kept after x) (sym (idle_gateway s.setup rest done p.ends.full)) p.ends;
     }
 
 -- ---- where memory ran out
 
-begins_whole : (limit : ℕ) (takes : List (Option Numbered)) (g : Gateway) → Finishes limit takes g → BeginsDrain limit takes g
+begins_whole : (limit : ℕ) (takes : List (Option Numbered)) (g : ReplayState) → Finishes limit takes g → BeginsDrain limit takes g
 begins_whole limit [] g h = tt
 begins_whole limit (Some item ∷ takes) g h = (h.0, h.1, begins_whole limit takes (records_item item g) h.2)
 begins_whole limit (None ∷ takes) g h = h
@@ -345,13 +345,13 @@ begins_whole limit (None ∷ takes) g h = h
 pub whole_so_far : (setup : Setup) (done : List (Step × Heard)) → IsWhole setup done → IsWholeSoFar setup done
 whole_so_far setup [] h = tt
 whole_so_far setup ((step, heard) ∷ before) h =
-    ((λ running session. begins_whole setup.limit heard.takes (serves setup step heard (gateway_after setup before)) (h.0 running session)), h.1)
+    ((λ running session. begins_whole setup.limit heard.takes (serves setup step heard (state_after setup before)) (h.0 running session)), h.1)
 
-part_after : {D : Type 0} (view : DeskView D) (s : Setting) (steps : List Step) (i : ℕ) (step : Step) (was : Player D) (kept : ApplierView) (before after : SinkState) → take (i + 1) steps ≡ take i steps ++ step ∷ [] → PlayedTo view s (take i steps) was before
+part_after : {D : Type 0} (view : SoloView D) (s : Setting) (steps : List Step) (i : ℕ) (step : Step) (was : Player D) (kept : ApplierView) (before after : SinkState) → take (i + 1) steps ≡ take i steps ++ step ∷ [] → PlayedTo view s (take i steps) was before
     → PartAt view was step before after kept → PlayedPart view s steps kept after
 part_after {D} view s steps i step was kept before after is h part =
     ⊎_elim
-    (λ (stays : Stays view s kept after (gateway_after s.setup h.done)). record {
+    (λ (stays : Stays view s kept after (state_after s.setup h.done)). record {
       front = take i steps;
       front_begins = (drop i steps, take-append-drop i steps);
       done = h.done;
@@ -359,7 +359,7 @@ part_after {D} view s steps i step was kept before after is h part =
       whole = whole_so_far s.setup h.done h.whole;
       stays = stays;
     })
-    (λ (p : PlaysPart view s kept after step (gateway_after s.setup h.done)). record {
+    (λ (p : PlaysPart view s kept after step (state_after s.setup h.done)). record {
       front = take (i + 1) steps;
       front_begins = (drop (i + 1) steps, take-append-drop (i + 1) steps);
       done = (step, p.heard) ∷ h.done;
@@ -367,10 +367,10 @@ part_after {D} view s steps i step was kept before after is h part =
       whole = (p.begins, h.whole);
       stays = p.stays;
     })
-    (part s (gateway_after s.setup h.done) h.shows)
+    (part s (state_after s.setup h.done) h.shows)
 
 -- the replay stopped at a step, after steps of which none failed a call
-pub played_stops : {D E : Type 0} (view : DeskView D) (ended : DeskView E) (stop : Stopped) (player : Player D) (base : SinkState) (steps : List Step) (i : ℕ) (step : Step) (was : Player D) (before after : SinkState) → take (i + 1) steps ≡ take i steps ++ step ∷ []
+pub played_stops : {D E : Type 0} (view : SoloView D) (ended : SoloView E) (stop : Stopped) (player : Player D) (base : SinkState) (steps : List Step) (i : ℕ) (step : Step) (was : Player D) (before after : SinkState) → take (i + 1) steps ≡ take i steps ++ step ∷ []
     → Fails base.failures before.failures 0 → ((setup : Setup) → IsNew view setup player → PlayedTo view (setting setup base) (take i steps) was before)
     → StopsBy (FullAt view ended was step before after) (PartAt view was step before after) (IsWriteEnd before after) stop
     → StopsBy (λ kept. (setup : Setup) → IsNew view setup player → PlayedFull ended (setting setup base) steps kept after) (λ kept. (setup : Setup) → IsNew view setup player → PlayedPart view (setting setup base) steps kept after) (IsWriteEnd base after) stop

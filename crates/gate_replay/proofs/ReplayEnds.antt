@@ -7,7 +7,7 @@ use Rattle.gate_model.specs.declared.record.Record.{Record}
 use Rattle.gate_model.specs.Meaning.{outcomes_of}
 use Rattle.gate_core.specs.Limits.{Limits}
 use Rattle.gate_core.specs.Legal.{Run}
-use Rattle.gate_desk.specs.Ending.{with_ends}
+use Rattle.gate_solo.specs.Ending.{with_ends}
 use Rattle.gate_applier.specs.Applier.{ApplierView}
 use Rattle.gate_pages.specs.LogPage.{log_text}
 use Rattle.gate_reader.specs.Sink.{SinkState, Fails, Writes, Delivers, FailsOnce}
@@ -15,9 +15,9 @@ use Rattle.gate_replay.specs.declared.fault.ReplayFault.{ReplayFault}
 use Rattle.gate_replay.specs.declared.fault.ReplayFault.TheVariants.{TooLong, Line, LogFull, OutOfMemory, ReadFault, WriteFault}
 use Rattle.gate_replay.specs.declared.player.Player.{Player}
 use Rattle.gate_replay.specs.declared.script.Script.{Script}
-use Rattle.gate_replay.specs.Gateway.{Gateway, gateway_after, IsPlayedSoFar}
-use Rattle.gate_replay.specs.Replay.{fault_in}
-use Rattle.gate_replay.specs.inner.Playing.{DeskView, setting, IsShown, IsShownSoFar, IsEnded, PlayedTo, PlayedFull, PlayedPart, IsWriteEnd, IsLogEnd, IsPrinted, IsPrintedSoFar, EndsPlaying}
+use Rattle.gate_replay.specs.ReplayState.{ReplayState, state_after, IsPlayedSoFar}
+use Rattle.gate_reader.specs.Fault.{fault_in}
+use Rattle.gate_replay.specs.inner.Playing.{SoloView, setting, IsShown, IsShownSoFar, IsEnded, PlayedTo, PlayedFull, PlayedPart, IsWriteEnd, IsLogEnd, IsPrinted, IsPrintedSoFar, EndsPlaying}
 use Rattle.gate_reader.proofs.Outputs.{fails_then, delivers_on}
 use Rattle.gate_replay.proofs.PlaySteps.{whole_so_far}
 
@@ -25,29 +25,29 @@ page_again : (table other : List ObjectLine) (records more : List Record) → re
 page_again table other records more e f = rw (e, f) refl
 
 -- the log page is delivered after the answers and the status pages
-finished : {D E : Type 0} (view : DeskView D) (ended : DeskView E) (script : Script) (player : Player D) (b m a : SinkState) → IsEnded view ended player.desk → PlayedTo view (setting script.setup b) script.steps.items player m → Delivers m a (log_text player.applier.records (outcomes_of player.applier.table player.applier.records)) → IsPrinted (IsShown ended) script b a false
+finished : {D E : Type 0} (view : SoloView D) (ended : SoloView E) (script : Script) (player : Player D) (b m a : SinkState) → IsEnded view ended player.queue → PlayedTo view (setting script.setup b) script.steps.items player m → Delivers m a (log_text player.applier.records (outcomes_of player.applier.table player.applier.records)) → IsPrinted (IsShown ended) script b a false
 finished {D} view ended script player b m a e h printed =
-    let g : Gateway = gateway_after script.setup h.done in
+    let g : ReplayState = state_after script.setup h.done in
     let page = page_again player.applier.table script.setup.table player.applier.records g.records h.shows.applier.records h.shows.applier.table in
     record {
-      gateway = g;
+      replayed = g;
       played = record {
         done = h.done;
         steps_are = h.steps_are;
         whole = h.whole;
         is = refl;
-        kept = record { desk = e.rest; after = e.after g.run h.shows.holds.after; limits_are = e.limits_are ∙ h.shows.holds.limits };
+        kept = record { queue = e.rest; after = e.after g.run h.shows.holds.after; limits_are = e.limits_are ∙ h.shows.holds.limits };
       };
       full_is = h.shows.running;
       printed = delivers_on b m a g.printed _ h.shows.printed (subst (λ (t : List ℕ). Delivers m a t) page printed);
     }
 
-finished_full : {E : Type 0} (ended : DeskView E) (script : Script) (kept : ApplierView) (b m a : SinkState) → PlayedFull ended (setting script.setup b) script.steps.items kept m → Delivers m a (log_text kept.records (outcomes_of kept.table kept.records)) → IsPrinted (IsShown ended) script b a true
+finished_full : {E : Type 0} (ended : SoloView E) (script : Script) (kept : ApplierView) (b m a : SinkState) → PlayedFull ended (setting script.setup b) script.steps.items kept m → Delivers m a (log_text kept.records (outcomes_of kept.table kept.records)) → IsPrinted (IsShown ended) script b a true
 finished_full {E} ended script kept b m a h printed =
-    let g : Gateway = gateway_after script.setup h.done in
+    let g : ReplayState = state_after script.setup h.done in
     let page = page_again kept.table script.setup.table kept.records g.records h.ends.shown.records h.ends.shown.table in
     record {
-      gateway = g;
+      replayed = g;
       played = record {
         done = h.done;
         steps_are = h.steps_are;
@@ -59,20 +59,20 @@ finished_full {E} ended script kept b m a h printed =
       printed = delivers_on b m a g.printed _ h.ends.printed (subst (λ (t : List ℕ). Delivers m a t) page printed);
     }
 
-finished_part : {D : Type 0} (view : DeskView D) (so_far : Limits → Run → Type 0) (script : Script) (kept : ApplierView) (b m a : SinkState) (h : PlayedPart view (setting script.setup b) script.steps.items kept m) → IsPlayedSoFar so_far script (gateway_after script.setup h.done)
+finished_part : {D : Type 0} (view : SoloView D) (so_far : Limits → Run → Type 0) (script : Script) (kept : ApplierView) (b m a : SinkState) (h : PlayedPart view (setting script.setup b) script.steps.items kept m) → IsPlayedSoFar so_far script (state_after script.setup h.done)
     → Delivers m a (log_text kept.records (outcomes_of kept.table kept.records)) → IsPrintedSoFar so_far script b a
 finished_part {D} view so_far script kept b m a h played printed =
-    let g : Gateway = gateway_after script.setup h.done in
+    let g : ReplayState = state_after script.setup h.done in
     let page = page_again kept.table script.setup.table kept.records g.records h.stays.shown.records h.stays.shown.table in
     record {
-      gateway = g;
+      replayed = g;
       played = played;
       printed = inr (delivers_on b m a g.printed _ h.stays.printed (subst (λ (t : List ℕ). Delivers m a t) page printed));
     }
 
 -- ---- what was played so far
 
-all_so_far : {D E : Type 0} (view : DeskView D) (ended : DeskView E) (script : Script) (player : Player D) (b m : SinkState) (h : PlayedTo view (setting script.setup b) script.steps.items player m) → IsPlayedSoFar (IsShownSoFar view ended) script (gateway_after script.setup h.done)
+all_so_far : {D E : Type 0} (view : SoloView D) (ended : SoloView E) (script : Script) (player : Player D) (b m : SinkState) (h : PlayedTo view (setting script.setup b) script.steps.items player m) → IsPlayedSoFar (IsShownSoFar view ended) script (state_after script.setup h.done)
 all_so_far view ended script player b m h = record {
   steps = script.steps.items;
   steps_begin = ([], append-nil script.steps.items);
@@ -80,10 +80,10 @@ all_so_far view ended script player b m h = record {
   steps_are = h.steps_are;
   whole = whole_so_far script.setup h.done h.whole;
   is = refl;
-  kept = inl (record { desk = player.desk; after = h.shows.holds.after; limits_are = h.shows.holds.limits });
+  kept = inl (record { queue = player.queue; after = h.shows.holds.after; limits_are = h.shows.holds.limits });
 }
 
-full_so_far : {D E : Type 0} (view : DeskView D) (ended : DeskView E) (script : Script) (kept : ApplierView) (b m : SinkState) (h : PlayedFull ended (setting script.setup b) script.steps.items kept m) → IsPlayedSoFar (IsShownSoFar view ended) script (gateway_after script.setup h.done)
+full_so_far : {D E : Type 0} (view : SoloView D) (ended : SoloView E) (script : Script) (kept : ApplierView) (b m : SinkState) (h : PlayedFull ended (setting script.setup b) script.steps.items kept m) → IsPlayedSoFar (IsShownSoFar view ended) script (state_after script.setup h.done)
 full_so_far view ended script kept b m h = record {
   steps = script.steps.items;
   steps_begin = ([], append-nil script.steps.items);
@@ -94,7 +94,7 @@ full_so_far view ended script kept b m h = record {
   kept = inr h.ends.kept;
 }
 
-part_so_far : {D E : Type 0} (view : DeskView D) (ended : DeskView E) (script : Script) (kept : ApplierView) (b m : SinkState) (h : PlayedPart view (setting script.setup b) script.steps.items kept m) → IsPlayedSoFar (IsShownSoFar view ended) script (gateway_after script.setup h.done)
+part_so_far : {D E : Type 0} (view : SoloView D) (ended : SoloView E) (script : Script) (kept : ApplierView) (b m : SinkState) (h : PlayedPart view (setting script.setup b) script.steps.items kept m) → IsPlayedSoFar (IsShownSoFar view ended) script (state_after script.setup h.done)
 part_so_far view ended script kept b m h = record {
   steps = h.front;
   steps_begin = h.front_begins;
@@ -126,14 +126,14 @@ ends_unwritten rules so_far script b a ReadFault k = k
 ends_unwritten rules so_far script b a WriteFault k = k
 
 -- the log page wasn't delivered
-unlogged : (rules so_far : Limits → Run → Type 0) (script : Script) (g : Gateway) (b m a : SinkState) (fault : ReplayFault) → IsPlayedSoFar so_far script g → Writes b m g.printed → IsLogEnd m a fault → EndsPlaying rules so_far script b a (Some fault)
+unlogged : (rules so_far : Limits → Run → Type 0) (script : Script) (g : ReplayState) (b m a : SinkState) (fault : ReplayFault) → IsPlayedSoFar so_far script g → Writes b m g.printed → IsLogEnd m a fault → EndsPlaying rules so_far script b a (Some fault)
 unlogged rules so_far script g b m a TooLong played w k = k
 unlogged rules so_far script g b m a (Line number) played w k = k
 unlogged rules so_far script g b m a LogFull played w k = absurd k
 unlogged rules so_far script g b m a OutOfMemory played w k =
     ⊎_elim
     (λ (f : FailsOnce m a). inr (inl (fails_then b.failures m.failures a.failures 1 w.none_failed f)))
-    (λ (d : Delivers m a []). inr (inr (record { gateway = g; played = played; printed = inl (subst (λ (t : List ℕ). Delivers b a t) (append-nil g.printed) (delivers_on b m a g.printed [] w d)) })))
+    (λ (d : Delivers m a []). inr (inr (record { replayed = g; played = played; printed = inl (subst (λ (t : List ℕ). Delivers b a t) (append-nil g.printed) (delivers_on b m a g.printed [] w d)) })))
     k
 unlogged rules so_far script g b m a ReadFault played w k = k
 unlogged rules so_far script g b m a WriteFault played w k = fails_then b.failures m.failures a.failures 1 w.none_failed k
@@ -141,28 +141,28 @@ unlogged rules so_far script g b m a WriteFault played w k = fails_then b.failur
 -- ---- the log page
 
 -- the log page ends the replay
-pub log_ends : {D E : Type 0} (view : DeskView D) (ended : DeskView E) (r : Result (Unit {0}) ReplayFault) (script : Script) (player : Player D) (applier : ApplierView) (b m a : SinkState) → applier ≡ player.applier → IsEnded view ended player.desk
+pub log_ends : {D E : Type 0} (view : SoloView D) (ended : SoloView E) (r : Result (Unit {0}) ReplayFault) (script : Script) (player : Player D) (applier : ApplierView) (b m a : SinkState) → applier ≡ player.applier → IsEnded view ended player.queue
     → PlayedTo view (setting script.setup b) script.steps.items player m
     → OnOk r (Delivers m a (log_text applier.records (outcomes_of applier.table applier.records))) → IfErr r (IsLogEnd m a) → EndsPlaying (IsShown ended) (IsShownSoFar view ended) script b a (fault_in r)
 log_ends view ended (Ok x) script player applier b m a is e h ok err =
     finished view ended script player b m a e h (subst (λ (v : ApplierView). Delivers m a (log_text v.records (outcomes_of v.table v.records))) is ok)
 log_ends view ended (Err fault) script player applier b m a is e h ok err =
-    unlogged (IsShown ended) (IsShownSoFar view ended) script (gateway_after script.setup h.done) b m a fault (all_so_far view ended script player b m h) h.shows.printed err
+    unlogged (IsShown ended) (IsShownSoFar view ended) script (state_after script.setup h.done) b m a fault (all_so_far view ended script player b m h) h.shows.printed err
 
 fault_is : (rules so_far : Limits → Run → Type 0) (result : Result (Unit {0}) ReplayFault) (fault : ReplayFault) (script : Script) (b a : SinkState) → result ≡ Err fault → EndsPlaying rules so_far script b a (Some fault) → EndsPlaying rules so_far script b a (fault_in result)
 fault_is rules so_far result fault script b a is ends = rw is ends
 
 -- the log page after a full log ends the replay
-pub full_ends : {D E : Type 0} (view : DeskView D) (ended : DeskView E) (printed result : Result (Unit {0}) ReplayFault) (script : Script) (kept : ApplierView) (b m a : SinkState) → PlayedFull ended (setting script.setup b) script.steps.items kept m
+pub full_ends : {D E : Type 0} (view : SoloView D) (ended : SoloView E) (printed result : Result (Unit {0}) ReplayFault) (script : Script) (kept : ApplierView) (b m a : SinkState) → PlayedFull ended (setting script.setup b) script.steps.items kept m
     → OnOk printed (Delivers m a (log_text kept.records (outcomes_of kept.table kept.records))) → IfErr printed (IsLogEnd m a)
     → OnOk printed (result ≡ Err LogFull) → IfErr printed (λ other. result ≡ Err other) → EndsPlaying (IsShown ended) (IsShownSoFar view ended) script b a (fault_in result)
 full_ends view ended (Ok done) result script kept b m a h ok err is other = fault_is (IsShown ended) (IsShownSoFar view ended) result LogFull script b a is (finished_full ended script kept b m a h ok)
 full_ends view ended (Err fault) result script kept b m a h ok err is other =
     fault_is (IsShown ended) (IsShownSoFar view ended) result fault script b a other
-    (unlogged (IsShown ended) (IsShownSoFar view ended) script (gateway_after script.setup h.done) b m a fault (full_so_far view ended script kept b m h) h.ends.printed err)
+    (unlogged (IsShown ended) (IsShownSoFar view ended) script (state_after script.setup h.done) b m a fault (full_so_far view ended script kept b m h) h.ends.printed err)
 
 -- the log page after memory ran out ends the replay
-pub memory_ends : {D E : Type 0} (view : DeskView D) (ended : DeskView E) (printed result : Result (Unit {0}) ReplayFault) (script : Script) (kept : ApplierView) (b m a : SinkState) → PlayedPart view (setting script.setup b) script.steps.items kept m
+pub memory_ends : {D E : Type 0} (view : SoloView D) (ended : SoloView E) (printed result : Result (Unit {0}) ReplayFault) (script : Script) (kept : ApplierView) (b m a : SinkState) → PlayedPart view (setting script.setup b) script.steps.items kept m
     → OnOk printed (Delivers m a (log_text kept.records (outcomes_of kept.table kept.records))) → IfErr printed (IsLogEnd m a)
     → OnOk printed (result ≡ Err OutOfMemory) → IfErr printed (λ other. result ≡ Err other) → EndsPlaying (IsShown ended) (IsShownSoFar view ended) script b a (fault_in result)
 memory_ends view ended (Ok done) result script kept b m a h ok err is other =
@@ -170,21 +170,21 @@ memory_ends view ended (Ok done) result script kept b m a h ok err is other =
     (inr (inr (finished_part view (IsShownSoFar view ended) script kept b m a h (part_so_far view ended script kept b m h) ok)))
 memory_ends view ended (Err fault) result script kept b m a h ok err is other =
     fault_is (IsShown ended) (IsShownSoFar view ended) result fault script b a other
-    (unlogged (IsShown ended) (IsShownSoFar view ended) script (gateway_after script.setup h.done) b m a fault (part_so_far view ended script kept b m h) h.stays.printed err)
+    (unlogged (IsShown ended) (IsShownSoFar view ended) script (state_after script.setup h.done) b m a fault (part_so_far view ended script kept b m h) h.stays.printed err)
 
 -- ---- the rules that the queue kept
 
 kept_too : (rules others : Limits → Run → Type 0) (script : Script) (b a : SinkState) (full : Bool) → ((limits : Limits) (run : Run) → rules limits run → others limits run) → IsPrinted rules script b a full → IsPrinted others script b a full
 kept_too rules others script b a full weaker h = record {
-  gateway = h.gateway;
-  played = record { done = h.played.done; steps_are = h.played.steps_are; whole = h.played.whole; is = h.played.is; kept = weaker _ (with_ends h.gateway.run) h.played.kept };
+  replayed = h.replayed;
+  played = record { done = h.played.done; steps_are = h.played.steps_are; whole = h.played.whole; is = h.played.is; kept = weaker _ (with_ends h.replayed.run) h.played.kept };
   full_is = h.full_is;
   printed = h.printed;
 }
 
 kept_so_far : (rules others : Limits → Run → Type 0) (script : Script) (b a : SinkState) → ((limits : Limits) (run : Run) → rules limits run → others limits run) → IsPrintedSoFar rules script b a → IsPrintedSoFar others script b a
 kept_so_far rules others script b a weaker h = record {
-  gateway = h.gateway;
+  replayed = h.replayed;
   played = record {
     steps = h.played.steps;
     steps_begin = h.played.steps_begin;
@@ -192,7 +192,7 @@ kept_so_far rules others script b a weaker h = record {
     steps_are = h.played.steps_are;
     whole = h.played.whole;
     is = h.played.is;
-    kept = weaker _ h.gateway.run h.played.kept;
+    kept = weaker _ h.replayed.run h.played.kept;
   };
   printed = h.printed;
 }

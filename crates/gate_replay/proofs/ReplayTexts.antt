@@ -25,15 +25,15 @@ whole_text (Some bytes) front items most e h few =
 
 -- an input that was read and is a script
 pub played_input : (rules : Limits → Run → Type 0) (input : Option (List ℕ)) (text : List ℕ) (played : Script) (fault : Option ReplayFault) (b a : SinkState) → IsWholeInput input text → length text ≤ 1048576 → IsScript (parsed_lines text) played → EndsPlaying rules rules played b a fault → EndsWith rules input b a fault
-played_input rules input text played None b a whole short parsed h = record { text = text; whole = whole; short = short; script = played; parsed = parsed; gateway = h.gateway; played = h.played; full_is = h.full_is; printed = h.printed }
+played_input rules input text played None b a whole short parsed h = record { text = text; whole = whole; short = short; script = played; parsed = parsed; replayed = h.replayed; played = h.played; full_is = h.full_is; printed = h.printed }
 played_input rules input text played (Some TooLong) b a whole short parsed h = absurd h
 played_input rules input text played (Some (Line number)) b a whole short parsed h = absurd h
-played_input rules input text played (Some LogFull) b a whole short parsed h = record { text = text; whole = whole; short = short; script = played; parsed = parsed; gateway = h.gateway; played = h.played; full_is = h.full_is; printed = h.printed }
+played_input rules input text played (Some LogFull) b a whole short parsed h = record { text = text; whole = whole; short = short; script = played; parsed = parsed; replayed = h.replayed; played = h.played; full_is = h.full_is; printed = h.printed }
 played_input rules input text played (Some OutOfMemory) b a whole short parsed h =
     ⊎_elim (λ (same : a ≡ b). inl same)
     (λ (rest : FailsOnce b a ⊎ IsPrintedSoFar rules played b a).
     ⊎_elim (λ (f : FailsOnce b a). inr (inl f))
-    (λ (p : IsPrintedSoFar rules played b a). inr (inr (record { text = text; whole = whole; short = short; script = played; parsed = parsed; gateway = p.gateway; played = p.played; printed = p.printed })))
+    (λ (p : IsPrintedSoFar rules played b a). inr (inr (record { text = text; whole = whole; short = short; script = played; parsed = parsed; replayed = p.replayed; played = p.played; printed = p.printed })))
     rest)
     h
 played_input rules input text played (Some ReadFault) b a whole short parsed h = absurd h

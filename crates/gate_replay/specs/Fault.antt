@@ -1,6 +1,6 @@
 -- What is reported of a replay that stops: a line on standard error, and an exit status.
 -- Own rules: both.
-use Rattle.std.specs.Prelude.{ℕ, List, ◌++◌, codes, Option, Some, None}
+use Rattle.std.specs.Prelude.{ℕ, List, ◌++◌, codes}
 use Rattle.std.specs.Fmt.{decimal}
 use Rattle.gate_replay.specs.declared.script.ScriptFault.{ScriptFault}
 use Rattle.gate_replay.specs.declared.script.ScriptFault.TheVariants as script
@@ -20,11 +20,6 @@ status_of LogFull = 3
 status_of OutOfMemory = 3
 status_of ReadFault = 3
 status_of WriteFault = 3
-
--- the exit status at the end of a replay, which a fault may have stopped
-abbrev pub status_at_end : Option ReplayFault → ℕ
-status_at_end None = 0
-status_at_end (Some fault) = status_of fault
 
 -- the line that reports the fault
 abbrev pub message_of : ReplayFault → List ℕ

@@ -3,6 +3,6 @@ pub mod ScriptLine
 pub mod SentPacket
 pub mod Script
 pub mod Fault
-pub mod Gateway
+pub mod ReplayState
 pub mod Replay
 pub mod inner

@@ -6,17 +6,18 @@ use Rattle.std.specs.Prelude.{◌≡◌, ℕ, ◌<◌, ◌≤◌, ◌⊎◌, Opt
 use Rattle.gate_model.specs.Meaning.{outcomes_of}
 use Rattle.gate_core.specs.Limits.{Limits}
 use Rattle.gate_core.specs.Legal.{Run}
-use Rattle.gate_reader.specs.Sink.{SinkState, Delivers, FailsOnce, IsReported}
+use Rattle.gate_reader.specs.Fault.{status_at_end, IsFaultReported}
+use Rattle.gate_reader.specs.Sink.{SinkState, Delivers, FailsOnce}
 use Rattle.gate_pages.specs.LogPage.{log_text}
 use Rattle.gate_replay.specs.declared.script.Script.{Script}
 use Rattle.gate_replay.specs.declared.fault.ReplayFault.{ReplayFault}
 use Rattle.gate_replay.specs.declared.fault.ReplayFault.TheVariants.{TooLong, Line, LogFull, OutOfMemory, ReadFault, WriteFault}
 use Rattle.gate_replay.specs.Script.{parsed_lines, IsScript, IsFirstFaultyLine}
-use Rattle.gate_replay.specs.Gateway.{Gateway, IsPlayed, IsPlayedSoFar}
-use Rattle.gate_replay.specs.Fault.{status_at_end, message_of}
+use Rattle.gate_replay.specs.ReplayState.{ReplayState, IsPlayed, IsPlayedSoFar}
+use Rattle.gate_replay.specs.Fault.{status_of, message_of}
 
 -- what a script prints that leads to this gateway: the answers and the status pages, and then the log page
-abbrev pub printed_by : Script → Gateway → List ℕ
+abbrev pub printed_by : Script → ReplayState → List ℕ
 printed_by script g = g.printed ++ log_text g.records (outcomes_of script.setup.table g.records)
 
 -- the text is all of the input, where that is known
@@ -31,13 +32,13 @@ pub record IsReplay (rules : Limits → Run → Type 0) (input : Option (List �
   pub short : length text ≤ 1048576
   pub script : Script
   pub parsed : IsScript (parsed_lines text) script
-  pub gateway : Gateway
-  pub played : IsPlayed rules script gateway
-  pub full_is : gateway.full ≡ full
-  pub printed : Delivers before after (printed_by script gateway)
+  pub replayed : ReplayState
+  pub played : IsPlayed rules script replayed
+  pub full_is : replayed.full ≡ full
+  pub printed : Delivers before after (printed_by script replayed)
 
 -- these first steps were printed and delivered, with the log page after them or without it
-abbrev pub PrintsSoFar : Script → Gateway → SinkState → SinkState → Type 0
+abbrev pub PrintsSoFar : Script → ReplayState → SinkState → SinkState → Type 0
 PrintsSoFar script g before after = Delivers before after g.printed ⊎ Delivers before after (printed_by script g)
 
 -- the input is a script, a gateway played the first of its steps, and the output grew by what these print
@@ -47,9 +48,9 @@ pub record IsCutShort (rules : Limits → Run → Type 0) (input : Option (List 
   pub short : length text ≤ 1048576
   pub script : Script
   pub parsed : IsScript (parsed_lines text) script
-  pub gateway : Gateway
-  pub played : IsPlayedSoFar rules script gateway
-  pub printed : PrintsSoFar script gateway before after
+  pub replayed : ReplayState
+  pub played : IsPlayedSoFar rules script replayed
+  pub printed : PrintsSoFar script replayed before after
 
 -- the input is no longer than a script may be, and its first faulty line has this number
 pub record HasFaultyLine (input : Option (List ℕ)) (number : ℕ) : Type 0 where
@@ -74,20 +75,10 @@ EndsWith rules input before after (Some OutOfMemory) =
 EndsWith rules input before after (Some ReadFault) = after ≡ before
 EndsWith rules input before after (Some WriteFault) = FailsOnce before after
 
--- the fault that a result has
-abbrev pub fault_in : Result (Unit {0}) ReplayFault → Option ReplayFault
-fault_in (Ok done) = None
-fault_in (Err fault) = Some fault
-
--- the fault is reported in one line, and without a fault nothing is
-abbrev pub IsFaultReported : Option ReplayFault → SinkState → SinkState → Type 0
-IsFaultReported None before after = after ≡ before
-IsFaultReported (Some fault) before after = IsReported (message_of fault) before after
-
 -- the replay of this input, with what is known of the output and of the errors before and after it, ends
 -- with this exit status
 pub record IsReplayRun (rules : Limits → Run → Type 0) (input : Option (List ℕ)) (output output_after errors errors_after : SinkState) (status : ℕ) : Type 0 where
   pub fault : Option ReplayFault
-  pub status_is : status ≡ status_at_end fault
+  pub status_is : status ≡ status_at_end status_of fault
   pub ended : EndsWith rules input output output_after fault
-  pub reported : IsFaultReported fault errors errors_after
+  pub reported : IsFaultReported message_of fault errors errors_after

@@ -1,10 +1,10 @@
 ghost use Rattle.std.specs.Prelude.{◌≡◌, ◌≢◌, OnOk, OnErr};
 ghost use Rattle.std.specs.IoError.{error_kind};
-ghost use Rattle.gate_replay.specs.Fault.{status_of, message_of};
+ghost use Rattle.gate_replay.specs.Fault.{message_of};
 ghost use Rattle.gate_reader.specs.Sink.{sink_state, Delivers, FailsOnce};
 
 use crate::script::ScriptFault;
-use gate_reader::{Sink, put_numbered};
+use gate_reader::{Fault, Sink, put_last, put_numbered};
 use std::alloc::AllocError;
 use std::io;
 use std::io::ErrorKind;
@@ -81,17 +81,6 @@ pub(crate) fn write_fault(error: &io::Error) -> ReplayFault
     }
 }
 
-/// Writes a line that is text alone, and flushes.
-pub(crate) fn report_line<E: Sink>(errors: &mut E, line: &[u8]) -> io::Result<()>
-    ensures ok { let state = sink_state E.contents E.pending E.failures in
-        OnOk result (Delivers (state errors.old) (state errors.new) line.now) }
-    ensures err { let state = sink_state E.contents E.pending E.failures in
-        OnErr result (FailsOnce (state errors.old) (state errors.new)) }
-{
-    errors.put(line)?;
-    errors.deliver()
-}
-
 fn report_numbered<E: Sink>(errors: &mut E, number: usize) -> io::Result<()>
     ensures ok { let state = sink_state E.contents E.pending E.failures in
         OnOk result (Delivers (state errors.old) (state errors.new)
@@ -103,36 +92,33 @@ fn report_numbered<E: Sink>(errors: &mut E, number: usize) -> io::Result<()>
     errors.deliver()
 }
 
-impl ReplayFault {
-    /// The exit status of a program that stops so: 2 where the input is no script, and otherwise 3.
-    ///
-    /// Own rule.
-    pub fn status(self) -> u8
-        ensures { result ≡ status_of self }
-    {
+impl Fault for ReplayFault {
+    ghost use Rattle.gate_replay.specs.Fault.{status_of, message_of};
+
+    ghost status_of = { status_of };
+
+    ghost message_of = { message_of };
+
+    /// 2 where the input is no script, and otherwise 3. Own rule.
+    fn status(&self) -> u8 {
         match self {
             ReplayFault::TooLong | ReplayFault::Line(_) => 2,
-            _ => 3,
+            ReplayFault::LogFull
+            | ReplayFault::OutOfMemory
+            | ReplayFault::ReadFault
+            | ReplayFault::WriteFault => 3,
         }
     }
 
-    /// Writes the one line that reports the fault, and flushes.
-    ///
-    /// An error is that of the call of `errors` that failed; no other call is made after it. Own
-    /// rule: the text of the line.
-    pub fn report<E: Sink>(self, errors: &mut E) -> io::Result<()>
-        ensures ok { let state = sink_state E.contents E.pending E.failures in
-            OnOk result (Delivers (state errors.old) (state errors.new) (message_of self)) }
-        ensures err { let state = sink_state E.contents E.pending E.failures in
-            OnErr result (FailsOnce (state errors.old) (state errors.new)) }
-    {
+    /// Own rule: the text of the line.
+    fn report<E: Sink>(&self, errors: &mut E) -> io::Result<()> {
         match self {
-            ReplayFault::TooLong => report_line(errors, b"nscagate: script too long\n"),
-            ReplayFault::Line(number) => report_numbered(errors, number),
-            ReplayFault::LogFull => report_line(errors, b"nscagate: LogFull\n"),
-            ReplayFault::OutOfMemory => report_line(errors, b"nscagate: OutOfMemory\n"),
-            ReplayFault::ReadFault => report_line(errors, b"nscagate: ReadFault\n"),
-            ReplayFault::WriteFault => report_line(errors, b"nscagate: WriteFault\n"),
+            ReplayFault::TooLong => put_last(errors, b"nscagate: script too long\n"),
+            ReplayFault::Line(number) => report_numbered(errors, *number),
+            ReplayFault::LogFull => put_last(errors, b"nscagate: LogFull\n"),
+            ReplayFault::OutOfMemory => put_last(errors, b"nscagate: OutOfMemory\n"),
+            ReplayFault::ReadFault => put_last(errors, b"nscagate: ReadFault\n"),
+            ReplayFault::WriteFault => put_last(errors, b"nscagate: WriteFault\n"),
         }
     }
 }

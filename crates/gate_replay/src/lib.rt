@@ -6,6 +6,7 @@
 //! write or flush.
 #![tactic(auto)]
 
+mod draining;
 mod fault;
 mod laws;
 mod lines;
@@ -15,7 +16,6 @@ mod replay;
 mod script;
 mod script_line;
 mod sent_packet;
-mod serving;
 mod sessions;
 
 pub use fault::ReplayFault;

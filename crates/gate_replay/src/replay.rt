@@ -2,11 +2,12 @@ ghost use Rattle.std.specs.Prelude.{◌≡◌, ◌≤◌, [], length, IfOk, IfEr
 ghost use Rattle.gate_model.specs.Meaning.{outcomes_of};
 ghost use Rattle.gate_core.specs.Limits.{limits_of, default_quota};
 ghost use Rattle.gate_core.specs.Legal.{IsLegal};
-ghost use Rattle.gate_desk.specs.Allowed.{IsAllowed};
+ghost use Rattle.gate_solo.specs.Allowed.{IsAllowed};
 ghost use Rattle.gate_pages.specs.LogPage.{log_text};
 ghost use Rattle.gate_reader.specs.Sink.{sink_state, Delivers};
-ghost use Rattle.gate_replay.specs.Replay.{IsWholeInput, fault_in, EndsWith, IsReplayRun};
-ghost use Rattle.gate_replay.specs.inner.Playing.{desk_view, IsShown, IsShownSoFar, IsLogEnd, EndsPlaying, IsInputFault};
+ghost use Rattle.gate_reader.specs.Fault.{fault_in};
+ghost use Rattle.gate_replay.specs.Replay.{IsWholeInput, EndsWith, IsReplayRun};
+ghost use Rattle.gate_replay.specs.inner.Playing.{solo_view, IsShown, IsShownSoFar, IsLogEnd, EndsPlaying, IsInputFault};
 
 use crate::fault::{ReplayFault, read_fault};
 use crate::player::{Player, Stopped};
@@ -14,10 +15,10 @@ use crate::printing::{deliver, print};
 use crate::script::{Script, read_script};
 use gate_applier::Applier;
 use gate_core::{LocalClient, World};
-use gate_desk::{Desk, GateDesk};
 use gate_pages::log_page;
 use gate_queue::open;
-use gate_reader::Sink;
+use gate_reader::{Sink, end_with};
+use gate_solo::{SoloGate, SoloQueue};
 use std::alloc::Global;
 use std::io::Read;
 use std::sync::Wait;
@@ -89,25 +90,25 @@ fn fault_after(printed: Result<(), ReplayFault>, fault: ReplayFault) -> Result<(
     Err(fault)
 }
 
-// Plays a script over a desk at which nothing happened yet, and prints the log of what was applied,
+// Plays a script over a queue at which nothing happened yet, and prints the log of what was applied,
 // unless a write failed.
-fn play_over<D: Desk + Drop, W: Sink>(
+fn play_over<D: SoloQueue + Drop, W: Sink>(
     alloc: Global,
-    desk: D,
+    queue: D,
     script: Script,
     output: &mut W,
 ) -> Result<(), ReplayFault>
 where
     D::Ended: Drop,
-    requires begun { D.after desk [] }
-    requires limits { D.limits desk ≡ limits_of 2 default_quota script.setup.capacity }
+    requires begun { D.after queue [] }
+    requires limits { D.limits queue ≡ limits_of 2 default_quota script.setup.capacity }
     ensures { let state = sink_state W.contents W.pending W.failures in
-        let ended = desk_view D.Ended.after D.Ended.limits in
-        EndsPlaying (IsShown ended) (IsShownSoFar (desk_view D.after D.limits) ended) script
+        let ended = solo_view D.Ended.after D.Ended.limits in
+        EndsPlaying (IsShown ended) (IsShownSoFar (solo_view D.after D.limits) ended) script
         (state output.old) (state output.new) (fault_in result) }
 {
     let Script { setup, steps } = script;
-    let Ok(player) = Player::open(alloc, desk, setup) else {
+    let Ok(player) = Player::open(alloc, queue, setup) else {
         return Err(ReplayFault::OutOfMemory);
     };
     match player.play(alloc, &steps, output) {
@@ -139,8 +140,8 @@ fn play_over_world<W: Sink>(
     let Ok(world) = World::open(alloc, 2, script.setup.capacity as usize) else {
         return Err(ReplayFault::OutOfMemory);
     };
-    let desk = LocalClient::new(world, 1).ok().unwrap();
-    play_over(alloc, desk, script, output)
+    let queue = LocalClient::new(world, 1).ok().unwrap();
+    play_over(alloc, queue, script, output)
 }
 
 // Plays a script over a gate, and prints the log.
@@ -160,8 +161,8 @@ fn play_over_gate<R: Wait, W: Sink>(
     };
     let two = clients.pop().unwrap();
     let one = clients.pop().unwrap();
-    let desk = GateDesk::new(rt, alloc, &gate, taker, closer, one, two);
-    play_over(alloc, desk, script, output)
+    let queue = SoloGate::new(rt, alloc, &gate, taker, closer, one, two);
+    play_over(alloc, queue, script, output)
 }
 
 /// Reads a script, checks it whole and plays it over a gate of two clients: it prints an answer for
@@ -228,11 +229,6 @@ pub fn run_replay<R: Wait, I: Read, W: Sink, E: Sink>(
         IsReplayRun IsAllowed (I.remaining input.old) (of_output output.old) (of_output output.new)
         (of_errors errors.old) (of_errors errors.new) result }
 {
-    match replay_script(rt, alloc, input, output) {
-        Ok(()) => 0,
-        Err(fault) => {
-            let _ = fault.report(errors);
-            fault.status()
-        }
-    }
+    let fault = replay_script(rt, alloc, input, output).err();
+    end_with(&fault, errors)
 }

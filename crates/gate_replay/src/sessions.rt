@@ -1,24 +1,34 @@
-//! Sessions of one packet or of one line, over any client.
+//! Sessions of one packet or of one line, over any client; and those of a queue in one thread, where
+//! packets are client 1's, and operators' lines client 2's.
 
-ghost use Rattle.std.specs.Prelude.{◌≡◌, ◌∷◌, ◌++◌, [], IfOk, IfSome};
+ghost use Rattle.std.specs.Prelude.{◌≡◌, ◌∷◌, ◌++◌, [], ℕ, IfOk, IfSome};
+ghost use Rattle.gate_core.specs.Legal.{Run};
 ghost use Rattle.gate_grammar.specs.Parsing.{text_before};
 ghost use Rattle.gate_reader.specs.declared.report.Answer.{Answer};
 ghost use Rattle.gate_reader.specs.Report.{answer_line};
 ghost use Rattle.gate_reader.specs.Session.{client_view};
 ghost use Rattle.gate_reader.specs.Lines.{operator_view};
-ghost use Rattle.gate_replay.specs.Gateway.{body_of_line};
+ghost use Rattle.gate_replay.specs.ReplayState.{body_of_line};
 ghost use Rattle.gate_packet.specs.Packet.{Content};
 ghost use Rattle.gate_replay.specs.SentPacket.{received};
-ghost use Rattle.gate_replay.specs.inner.Sessions.{HasOnly, BeginsWith, AnswersPacket, CarriesOut};
+ghost use Rattle.gate_replay.specs.declared.script.Step.TheVariants as step;
+ghost use Rattle.gate_replay.specs.inner.Playing.{solo_view};
+ghost use Rattle.gate_replay.specs.inner.Sessions.{HasOnly, BeginsWith, AnswersPacket, CarriesOut, AnswersStep};
 
 use crate::script_line::PacketForm;
 use crate::sent_packet::SentPacket;
 use gate_core::{Operator, Submit};
 use gate_grammar::round_trip;
-use gate_model::Moment;
+use gate_model::{Moment, Text};
 use gate_packet::{encode, encode_short, one_reading};
 use gate_reader::{Answer, FixedClock, Report, SessionLimits, Stop, serve_lines, serve_packets};
+use gate_solo::SoloQueue;
 use std::alloc::{AllocError, Global};
+
+/// The client of every packet.
+const PACKET_CLIENT: u32 = 1;
+/// The client of every operator's line.
+const LINE_CLIENT: u32 = 2;
 
 /// More packets, lines and reads than a session of one packet or one line needs.
 const LIMITS: SessionLimits = SessionLimits {
@@ -70,8 +80,8 @@ fn stream_session<S: Submit>(
     )
 }
 
-/// Serves a packet at this moment, as one session of a client to which it is sent in its form.
-pub(crate) fn packet_session<S: Submit>(
+// Serves a packet at this moment, as one session of a client to which it is sent in its form.
+fn packet_session<S: Submit>(
     alloc: Global,
     sent: &SentPacket,
     greatest_age: u32,
@@ -97,8 +107,8 @@ pub(crate) fn packet_session<S: Submit>(
     }
 }
 
-/// Serves an operator's line at this moment, as one session, which writes its answer's line.
-pub(crate) fn line_session<O: Operator>(
+// Serves an operator's line at this moment, as one session, which writes its answer's line.
+fn line_session<O: Operator>(
     alloc: Global,
     text: &[u8],
     now: Moment,
@@ -122,4 +132,42 @@ pub(crate) fn line_session<O: Operator>(
     let mut reader = input.as_slice();
     let mut clock = FixedClock(now);
     Ok(serve_lines(alloc, &mut reader, written, &mut clock, operator, LIMITS))
+}
+
+/// Serves a packet at this moment.
+pub(crate) fn serve_packet<D: SoloQueue>(
+    alloc: Global,
+    queue: D,
+    sent: &SentPacket,
+    greatest_age: u32,
+    now: Moment,
+) -> (D, Report)
+    requires { (run : Run) × D.after queue run }
+    ensures answered { (answer : Answer) → HasOnly result.1 answer
+        → AnswersStep (solo_view D.after D.limits) queue greatest_age now result.0
+        (step.Packet sent.now) answer }
+{
+    let mut client = queue.turn_to(PACKET_CLIENT);
+    let report = packet_session(alloc, sent, greatest_age, now, &mut client);
+    (client, report)
+}
+
+/// Serves an operator's line at this moment. The line of its answer is written.
+pub(crate) fn serve_line<D: SoloQueue + Drop>(
+    alloc: Global,
+    queue: D,
+    text: &Text,
+    now: Moment,
+    written: &mut Vec<u8>,
+) -> Result<(D, Report), AllocError>
+    requires { (run : Run) × D.after queue run }
+    ensures answered { IfOk result (λ served. (answer : Answer) → HasOnly served.1 answer
+        → (age : ℕ) → AnswersStep (solo_view D.after D.limits) queue age now served.0
+        (step.Line text.now) answer) }
+    ensures written { IfOk result (λ served. (answer : Answer) → HasOnly served.1 answer
+        → written.new.items ≡ written.old.items ++ answer_line answer) }
+{
+    let mut client = queue.turn_to(LINE_CLIENT);
+    let report = line_session(alloc, text.bytes(), now, &mut client, written)?;
+    Ok((client, report))
 }

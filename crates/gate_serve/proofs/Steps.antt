@@ -11,16 +11,18 @@ use Rattle.gate_queue.specs.DrainedClose.{items_of_records}
 use Rattle.gate_config.specs.declared.config.Config.{Config}
 use Rattle.gate_reader.specs.Sink.{SinkState, Delivers, FailsOnce}
 use Rattle.gate_reader.proofs.Outputs.{fails_then, delivers_on}
+use Rattle.gate_worker.specs.declared.worker.Cause.{Cause}
+use Rattle.gate_worker.specs.declared.worker.Cause.TheVariants as worker
 use Rattle.gate_daemon.specs.Answered.{queued_by_each, HoldsAll}
 use Rattle.gate_daemon.specs.Faults.{IsDrainFault, IsGatewayFault}
 use Rattle.gate_daemon.specs.declared.gateway.Finished.{Finished}
 use Rattle.gate_daemon.specs.declared.gateway.GatewayFault.{GatewayFault}
 use Rattle.gate_daemon.specs.declared.gateway.GatewayFault.TheVariants as gateway_fault
-use Rattle.gate_setup.specs.declared.fault.ServeFault.{ServeFault}
-use Rattle.gate_setup.specs.declared.fault.ServeFault.TheVariants as fault
-use Rattle.gate_setup.specs.Setup.{Configures, AreBoundAs, IsAddressIn, IsBindEnd, IsConfigEnd, IsWriteEnd, address_lines}
-use Rattle.gate_serve.specs.Serve.{ServeEnds, FollowsAddresses, page_of}
-use Rattle.gate_serve.specs.inner.Serving.{HasStopped, IsStopCause, IsFaultOf, IsPageGiven, IsCloseEnd, IsLoglessEnd, IsRunEnd, RunsOn, queued_after}
+use Rattle.gate_serve.specs.declared.fault.ServeFault.{ServeFault}
+use Rattle.gate_serve.specs.declared.fault.ServeFault.TheVariants as fault
+use Rattle.gate_serve.specs.Setup.{Configures, AreBoundAs, IsAddressIn, IsBindEnd, IsConfigEnd, IsWriteEnd, address_lines}
+use Rattle.gate_serve.specs.Serve.{ServeEnds, FollowsAddresses, IsRun, page_of}
+use Rattle.gate_serve.specs.inner.Serving.{HasStopped, IsStopCause, IsFaultOf, IsPageGiven, IsCloseEnd, IsLoglessEnd, IsWholeEnd, IsRunEnd, RunsOn, fault_after, queued_after}
 
 -- a failed write ends the end of a gateway that did not apply all
 pub write_ends_close : (why : CloseAllCause) (applier : ApplierView) (before after : SinkState) (found : ServeFault) → IsWriteEnd before after found → IsCloseEnd why applier before after found
@@ -174,6 +176,36 @@ page_end config before middle after queued fault.OutOfMemory printed (inr k) = i
 page_end config before middle after queued fault.Spawn printed k = absurd k
 page_end config before middle after queued fault.WriteFault printed k = fails_after config before middle after printed k
 
+-- what it prints where it applied all
+whole_run : (finished : Finished) (config : Config) (before middle after : SinkState) → FollowsAddresses config before middle []
+    → HoldsAll config.workers (queued_by_each finished.reports.items) (items_of_records finished.closed.applier.records)
+    → finished.closed.applier.table ≡ config.table → finished.closed.applier.limit ≡ config.limits.limit
+    → IsPageGiven finished.closed.applier middle after → IsRun config (queued_by_each finished.reports.items) before after
+whole_run finished config before middle after printed holds of_table of_limit given = record {
+  records = finished.closed.applier.records;
+  holds = holds;
+  few = subst (λ (n : ℕ). length finished.closed.applier.records ≤ n) of_limit given.few;
+  printed = page_after config before middle after finished.closed.applier printed of_table given;
+}
+
+-- its operator's worker had no memory
+operators_fault : (operator : Cause) (found : ServeFault) → fault_after operator ≡ Some found → found ≡ fault.OutOfMemory
+operators_fault worker.OutOfMemory found e = cc
+operators_fault worker.Closing found e = absurd (cc)
+operators_fault worker.TooManySessions found e = absurd (cc)
+operators_fault worker.NoMoreConnections found e = absurd (cc)
+
+-- it applied all, and ended with a fault
+whole_end : (finished : Finished) (config : Config) (before middle after : SinkState) (found : ServeFault) → FollowsAddresses config before middle []
+    → HoldsAll config.workers (queued_by_each finished.reports.items) (items_of_records finished.closed.applier.records)
+    → finished.closed.applier.table ≡ config.table → finished.closed.applier.limit ≡ config.limits.limit
+    → IsWholeEnd finished.operator finished.closed.applier middle after found → RunsOn config before after (queued_by_each finished.reports.items) (Some found)
+whole_end finished config before middle after found printed holds of_table of_limit (inl k) =
+    page_end config before middle after (queued_by_each finished.reports.items) found printed k
+whole_end finished config before middle after found printed holds of_table of_limit (inr (same, given)) =
+    subst (λ (f : ServeFault). RunsOn config before after (queued_by_each finished.reports.items) (Some f)) (sym (operators_fault finished.operator found same))
+    (inr (inr (inr (inr (whole_run finished config before middle after printed holds of_table of_limit given)))))
+
 -- what it prints where it could not apply all
 undrained_end : (why : CloseAllCause) (drained : ApplierView) (config : Config) (before middle after : SinkState) (queued : List (ℕ × List ℕ)) (found : ServeFault) → FollowsAddresses config before middle []
     → drained.table ≡ config.table → drained.limit ≡ config.limits.limit → IsDrainFault config.workers why queued drained → IsCloseEnd why drained middle after found → RunsOn config before after queued (Some found)
@@ -187,12 +219,12 @@ undrained_end why drained config before middle after queued fault.OutOfMemory pr
 undrained_end why drained config before middle after queued fault.OutOfMemory printed of_table of_limit known (inr (inl k)) = inr (inl (fails_after config before middle after printed k))
 undrained_end why drained config before middle after queued fault.OutOfMemory printed of_table of_limit known (inr (inr (is, given))) =
     let d = subst (λ (cause : CloseAllCause). IsDrainFault config.workers cause queued drained) is known in
-    inr (inr (inr (record {
+    inr (inr (inr (inl (record {
       records = drained.records;
       none_lost = d.0;
       count = subst (λ (n : ℕ). length drained.records < n) of_limit d.1;
       printed = page_after config before middle after drained printed of_table given;
-    })))
+    }))))
 undrained_end why drained config before middle after queued fault.Spawn printed of_table of_limit known k = absurd k
 undrained_end why drained config before middle after queued fault.WriteFault printed of_table of_limit known k = fails_after config before middle after printed k
 
@@ -211,15 +243,11 @@ pub ends_on : (ran : Result Finished GatewayFault) (found : Option ServeFault) (
     → IfOk ran (λ finished. HoldsAll config.workers (queued_by_each finished.reports.items) (items_of_records finished.closed.applier.records))
     → IfOk ran (λ finished. finished.closed.applier.table ≡ config.table) → IfOk ran (λ finished. finished.closed.applier.limit ≡ config.limits.limit)
     → IfErr ran (IsGatewayFault config.workers config.limits.capacity config.limits.limit config.table)
-    → (found ≡ None → IsOk ran) → IfOk ran (λ finished. found ≡ None → Delivers middle after (page_of finished.closed.applier.table finished.closed.applier.records))
-    → IfOk ran (λ finished. length finished.closed.applier.records ≤ finished.closed.applier.limit) → IfSome found (IsRunEnd ran middle after) → RunsOn config before after (queued_after ran) found
-ends_on (Ok finished) None config before middle after printed holds of_table of_limit known is_finished page few ended = record {
-  records = finished.closed.applier.records;
-  holds = holds;
-  few = subst (λ (n : ℕ). length finished.closed.applier.records ≤ n) of_limit few;
-  printed = page_after config before middle after finished.closed.applier printed of_table (record { few = few; printed = page refl });
-}
-ends_on (Err why) None config before middle after printed holds of_table of_limit known is_finished page few ended = let k = is_finished refl in absurd (cc)
-ends_on (Ok finished) (Some found) config before middle after printed holds of_table of_limit known is_finished page few ended =
-    page_end config before middle after (queued_by_each finished.reports.items) found printed ended
-ends_on (Err why) (Some found) config before middle after printed holds of_table of_limit known is_finished page few ended = fault_end why config before middle after found printed known ended
+    → (found ≡ None → IsOk ran) → IfOk ran (λ finished. found ≡ None → (fault_after finished.operator ≡ None) × IsPageGiven finished.closed.applier middle after)
+    → IfSome found (IsRunEnd ran middle after) → RunsOn config before after (queued_after ran) found
+ends_on (Ok finished) None config before middle after printed holds of_table of_limit known is_finished page ended =
+    whole_run finished config before middle after printed holds of_table of_limit (page refl).1
+ends_on (Err why) None config before middle after printed holds of_table of_limit known is_finished page ended = let k = is_finished refl in absurd (cc)
+ends_on (Ok finished) (Some found) config before middle after printed holds of_table of_limit known is_finished page ended =
+    whole_end finished config before middle after found printed holds of_table of_limit ended
+ends_on (Err why) (Some found) config before middle after printed holds of_table of_limit known is_finished page ended = fault_end why config before middle after found printed known ended

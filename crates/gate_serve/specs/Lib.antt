@@ -1,2 +1,4 @@
+pub mod Fault
 pub mod Serve
+pub mod Setup
 pub mod inner

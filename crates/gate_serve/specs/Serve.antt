@@ -6,15 +6,16 @@ use Rattle.gate_model.specs.declared.object.ObjectLine.{ObjectLine}
 use Rattle.gate_model.specs.declared.record.Record.{Record}
 use Rattle.gate_model.specs.Meaning.{outcomes_of}
 use Rattle.gate_queue.specs.DrainedClose.{items_of_records}
-use Rattle.gate_reader.specs.Sink.{SinkState, Delivers, FailsOnce, IsReported}
+use Rattle.gate_reader.specs.Fault.{status_at_end, IsFaultReported}
+use Rattle.gate_reader.specs.Sink.{SinkState, Delivers, FailsOnce}
 use Rattle.gate_pages.specs.LogPage.{log_text}
 use Rattle.gate_daemon.specs.Answered.{HoldsAll}
 use Rattle.gate_daemon.specs.Faults.{LosesNothing}
 use Rattle.gate_config.specs.declared.config.Config.{Config}
-use Rattle.gate_setup.specs.declared.fault.ServeFault.{ServeFault}
-use Rattle.gate_setup.specs.declared.fault.ServeFault.TheVariants as fault
-use Rattle.gate_setup.specs.Fault.{status_at_end, message_of}
-use Rattle.gate_setup.specs.Setup.{Configures, IsFaulty, IsAddress, AreBoundAs, address_lines}
+use Rattle.gate_serve.specs.declared.fault.ServeFault.{ServeFault}
+use Rattle.gate_serve.specs.declared.fault.ServeFault.TheVariants as fault
+use Rattle.gate_serve.specs.Fault.{status_of, message_of}
+use Rattle.gate_serve.specs.Setup.{Configures, IsFaulty, IsAddress, AreBoundAs, address_lines}
 
 -- the output grew by the addresses of this configuration, as the daemon is bound to them, and then by this
 pub record FollowsAddresses (config : Config) (before after : SinkState) (rest : List ℕ) : Type 0 where
@@ -49,12 +50,13 @@ pub record IsUnfinished (Count : ℕ → Type 0) (config : Config) (queued : Lis
 abbrev pub IsFull : Config → List (ℕ × List ℕ) → SinkState → SinkState → Type 0
 IsFull config queued before after = IsUnfinished (λ count. count ≡ config.limits.limit) config queued before after
 
--- memory ran out for a daemon of this configuration: after its addresses nothing was printed, or the log page of fewer
--- records than the limit
+-- memory ran out for a daemon of this configuration: after its addresses nothing was printed; or the log page of fewer
+-- records than the limit, and items are left; or it closed itself, and the log page of all records was printed
 abbrev pub IsStarved : Config → List (ℕ × List ℕ) → SinkState → SinkState → Type 0
 IsStarved config queued before after =
     FollowsAddresses config before after []
     ⊎ IsUnfinished (λ count. count < config.limits.limit) config queued before after
+    ⊎ IsRun config queued before after
 
 -- some text configures a daemon, and this holds for its configuration
 pub record IsServed (Ran : Config → Type 0) : Type 0 where
@@ -77,16 +79,11 @@ ServeEnds before after queued (Some fault.OutOfMemory) =
 ServeEnds before after queued (Some fault.Spawn) = IsServed (λ config. FollowsAddresses config before after [])
 ServeEnds before after queued (Some fault.WriteFault) = FailsOnce before after
 
--- the fault is reported in one line, and without a fault nothing is
-abbrev pub IsFaultReported : Option ServeFault → SinkState → SinkState → Type 0
-IsFaultReported None before after = after ≡ before
-IsFaultReported (Some found) before after = IsReported (message_of found) before after
-
 -- the daemon, with what is known of the output and of the errors before and after it, ends with this status, after its
 -- clients were answered that some numbers are queued
 pub record IsServeRun (output output_after errors errors_after : SinkState) (status : ℕ) : Type 0 where
   pub queued : List (ℕ × List ℕ)
   pub fault : Option ServeFault
-  pub status_is : status ≡ status_at_end fault
+  pub status_is : status ≡ status_at_end status_of fault
   pub ended : ServeEnds output output_after queued fault
-  pub reported : IsFaultReported fault errors errors_after
+  pub reported : IsFaultReported message_of fault errors errors_after

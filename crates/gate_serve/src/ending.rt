@@ -1,17 +1,19 @@
 ghost use Rattle.std.specs.Prelude.{◌≡◌, ◌≤◌, length, IfErr, IfOk, IfSome, IsOk, None, OnOk};
 ghost use Rattle.gate_reader.specs.Sink.{SinkState, sink_state, Delivers};
 ghost use Rattle.gate_daemon.specs.Answered.{queued_by_each};
-ghost use Rattle.gate_setup.specs.Setup.{IsWriteEnd};
+ghost use Rattle.gate_serve.specs.Setup.{IsWriteEnd};
 ghost use Rattle.gate_serve.specs.Serve.{page_of};
-ghost use Rattle.gate_serve.specs.inner.Serving.{HasStopped, IsCloseEnd, IsFaultOf, IsRunEnd, IsStopCause, queued_after};
+ghost use Rattle.gate_serve.specs.inner.Serving.{HasStopped, IsCloseEnd, IsFaultOf, IsPageGiven, IsRunEnd, IsStopCause, IsWholeEnd, fault_after, queued_after};
 
+use crate::announcing::print;
+use crate::fault::ServeFault;
 use crate::served::{Served, without_reports};
 use gate_applier::Applier;
 use gate_daemon::{Finished, GatewayFault};
 use gate_pages::log_page;
 use gate_queue::{CloseAllCause, CloseAllFault};
 use gate_reader::Sink;
-use gate_setup::{ServeFault, print};
+use gate_worker::Cause;
 use std::alloc::Global;
 
 // Prints the log page, and flushes.
@@ -54,6 +56,37 @@ fn end_early<W: Sink>(alloc: Global, fault: CloseAllFault, output: &mut W) -> Se
     }
 }
 
+// The fault of a daemon that applied and printed all, by why its operator's worker ended.
+fn fault_after(cause: Cause) -> Option<ServeFault>
+    ensures { result ≡ fault_after cause }
+{
+    match cause {
+        Cause::OutOfMemory => Some(ServeFault::OutOfMemory),
+        Cause::Closing | Cause::TooManySessions | Cause::NoMoreConnections => None,
+    }
+}
+
+// Prints the log page of a gateway that applied all.
+fn end_whole<W: Sink>(
+    alloc: Global,
+    applier: Applier,
+    operator: Cause,
+    output: &mut W,
+) -> Option<ServeFault>
+    ensures printed { let state = sink_state W.contents W.pending W.failures in
+        result ≡ None → (fault_after operator ≡ None)
+        × IsPageGiven applier (state output.old) (state output.new) }
+    ensures err { let state = sink_state W.contents W.pending W.failures in
+        IfSome result (IsWholeEnd operator applier (state output.old) (state output.new)) }
+{
+    let printed = print_log(alloc, &applier, output);
+    drop(applier);
+    match printed {
+        Ok(()) => fault_after(operator),
+        Err(fault) => Some(fault),
+    }
+}
+
 /// Prints the log page of a gateway that has ended, if it has one.
 pub(crate) fn end<W: Sink>(
     alloc: Global,
@@ -64,17 +97,20 @@ pub(crate) fn end<W: Sink>(
     ensures finished { result.fault ≡ None → IsOk ran }
     ensures reports { queued_by_each result.reports.items ≡ queued_after ran }
     ensures printed { let state = sink_state W.contents W.pending W.failures in
-        IfOk ran (λ finished. let applier = finished.closed.applier in result.fault ≡ None →
-        Delivers (state output.old) (state output.new) (page_of applier.table applier.records)) }
-    ensures few { IfOk ran (λ finished. let applier = finished.closed.applier in
-        length applier.records ≤ applier.limit) }
+        IfOk ran (λ finished. result.fault ≡ None → (fault_after finished.operator ≡ None)
+        × IsPageGiven finished.closed.applier (state output.old) (state output.new)) }
     ensures err { let state = sink_state W.contents W.pending W.failures in
         IfSome result.fault (IsRunEnd ran (state output.old) (state output.new)) }
 {
     match ran {
-        Ok(Finished { closed, reports }) => {
-            let fault = print_log(alloc, &closed.applier, output).err();
-            drop(closed);
+        Ok(
+            Finished {
+                closed,
+                reports,
+                operator,
+            },
+        ) => {
+            let fault = end_whole(alloc, closed.applier, operator, output);
             Served { reports, fault }
         }
         Err(

@@ -1,15 +1,15 @@
 ghost use Rattle.std.specs.Prelude.{◌≡◌, [], Some};
 
+use crate::fault::ServeFault;
 use gate_reader::Report;
-use gate_setup::ServeFault;
 use std::alloc::Global;
 
 /// How a daemon ended.
 #[derive(Drop)]
 pub struct Served {
     /// What its clients were answered: each client's number with the reports of its connections, the
-    /// operator's first, and then those of the workers of packets, from 1. None where the daemon
-    /// ended with a fault other than LogFull, or than OutOfMemory of the last records.
+    /// operator's first, and then those of the agents' workers, from 1. None where no gateway ran,
+    /// or a thread of it couldn't be started.
     pub reports: Vec<(u32, Vec<Report>)>,
     /// What stopped it early.
     pub fault: Option<ServeFault>,

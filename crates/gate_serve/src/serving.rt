@@ -3,17 +3,19 @@ ghost use Rattle.gate_queue.specs.DrainedClose.{items_of_records};
 ghost use Rattle.gate_reader.specs.Sink.{sink_state};
 ghost use Rattle.gate_daemon.specs.Answered.{queued_by_each, HoldsAll};
 ghost use Rattle.gate_daemon.specs.Faults.{IsGatewayFault};
-ghost use Rattle.gate_setup.specs.Setup.{AreBoundAs, Configures};
+ghost use Rattle.gate_serve.specs.Setup.{AreBoundAs, Configures};
 ghost use Rattle.gate_serve.specs.Serve.{ServeEnds, IsServeRun};
 ghost use Rattle.gate_serve.specs.inner.Serving.{RunsOn};
 
+use crate::announcing::announce;
+use crate::configuring::configuration;
 use crate::ending::end;
+use crate::listening::{Listeners, listen};
 use crate::served::{Served, without_reports};
 use gate_config::{Config, Limits};
-use gate_daemon::{Finished, GatewayFault, Post, Posts, run_gateway};
+use gate_daemon::{Endpoint, Endpoints, Finished, GatewayFault, run_gateway};
 use gate_model::ObjectTable;
-use gate_reader::{SessionLimits, Sink};
-use gate_setup::{Listeners, announce, configuration, listen};
+use gate_reader::{SessionLimits, Sink, end_with};
 use gate_worker::{Accepted, Ending, NoHold, SystemWatch, WorkerLimits};
 use std::alloc::{AllocError, Global};
 use std::fs::Files;
@@ -49,27 +51,27 @@ fn gateway_config(workers: u32, limits: Limits, table: ObjectTable) -> gate_daem
     }
 }
 
-fn post<C>(connections: C) -> Post<C, NoHold> {
-    Post {
+fn endpoint<C>(connections: C) -> Endpoint<C, NoHold> {
+    Endpoint {
         connections,
         hold: NoHold,
     }
 }
 
-// A post for each of these listeners, of workers of packets.
-fn posts_of<'a, R>(
+// An endpoint for each of these listeners, of workers of packets.
+fn endpoints_of<'a, R>(
     rt: &'a R,
     alloc: Global,
     mut listeners: Vec<TcpListener>,
     ending: &'a Ending,
-) -> Result<Vec<Post<Accepted<'a, R>, NoHold>>, AllocError>
-    ensures { IfOk result (λ posts. vec_len posts ≡ vec_len listeners) }
+) -> Result<Vec<Endpoint<Accepted<'a, R>, NoHold>>, AllocError>
+    ensures { IfOk result (λ endpoints. vec_len endpoints ≡ vec_len listeners) }
 {
-    let mut posts = Vec::with_capacity(alloc, listeners.len())?;
+    let mut endpoints = Vec::with_capacity(alloc, listeners.len())?;
     while let Some(listener) = listeners.pop() {
-        posts.push_reserved(post(Accepted::of_agents(rt, listener, ending)));
+        endpoints.push_reserved(endpoint(Accepted::of_agents(rt, listener, ending)));
     }
-    Ok(posts)
+    Ok(endpoints)
 }
 
 // Runs a gateway on these listeners until it is closed.
@@ -94,14 +96,14 @@ fn run<R: Net<Listener = TcpListener, Stream = TcpStream> + Threads + Wait + Clo
         operators,
         pages,
     } = listeners;
-    let posts = Posts {
-        packets: posts_of(rt, alloc, agents.listeners, &ending)?,
-        operator: post(Accepted::of_operators(rt, operators.listener, &ending)),
+    let endpoints = Endpoints {
+        agents: endpoints_of(rt, alloc, agents.listeners, &ending)?,
+        operator: endpoint(Accepted::of_operators(rt, operators.listener, &ending)),
         pages: Accepted::of_readers(rt, pages.listener, &ending),
         applier: NoHold,
     };
     let config = gateway_config(config.workers, config.limits, config.table);
-    run_gateway(rt, alloc, config, posts, &SystemWatch { rt }, &ending)
+    run_gateway(rt, alloc, config, endpoints, &SystemWatch { rt }, &ending)
 }
 
 // Prints the addresses of these listeners, runs a gateway on them and prints its log page.
@@ -135,25 +137,6 @@ fn serve_on<
     }
 }
 
-// Serves as a configuration says.
-fn serve_config<
-    R: Net<Listener = TcpListener, Stream = TcpStream> + Threads + Wait + Clock + Sync,
-    W: Sink,
->(rt: &R, alloc: Global, config: Config, output: &mut W) -> Served
-    ensures { let state = sink_state W.contents W.pending W.failures in
-        (text : List ℕ) → Configures text config
-        → ServeEnds (state output.old) (state output.new)
-        (queued_by_each result.reports.items) result.fault }
-{
-    match listen(rt, alloc, &config) {
-        Ok(listeners) => serve_on(rt, alloc, config, listeners, output),
-        Err(fault) => {
-            drop(config);
-            without_reports(alloc, fault)
-        }
-    }
-}
-
 /// Runs the daemon as the file of this path configures it, until an operator shuts it down: it
 /// binds the addresses of agents, operators and pages, in this order, and prints them as they are
 /// bound, each on a line. As many workers as are configured serve packets side by side, of clients
@@ -165,7 +148,9 @@ fn serve_config<
 /// log page has as many records as the limit, and nothing is lost, since with the items that are
 /// left they hold what was answered with Queued. Spawn is a thread that can't be started. WriteFault
 /// is a failed call of `output`, after which no other is made. OutOfMemory may come instead of any
-/// other answer; the log page is then printed only where it could be made. Own rules.
+/// other answer; the log page is then printed only where it could be made. Where memory for one more
+/// report of the operator's worker is missing, nobody could shut the daemon down any more: it closes
+/// itself, applies all, prints the log page and ends with OutOfMemory. Own rules.
 pub fn serve<
     R: Files + Net<Listener = TcpListener, Stream = TcpStream> + Threads + Wait + Clock + Sync,
     W: Sink,
@@ -174,9 +159,16 @@ pub fn serve<
         ServeEnds (state output.old) (state output.new)
         (queued_by_each result.reports.items) result.fault }
 {
-    match configuration(rt, alloc, path) {
-        Ok(config) => serve_config(rt, alloc, config, output),
-        Err(fault) => without_reports(alloc, fault),
+    let config = match configuration(rt, alloc, path) {
+        Ok(config) => config,
+        Err(fault) => return without_reports(alloc, fault),
+    };
+    match listen(rt, alloc, &config) {
+        Ok(listeners) => serve_on(rt, alloc, config, listeners, output),
+        Err(fault) => {
+            drop(config);
+            without_reports(alloc, fault)
+        }
     }
 }
 
@@ -201,9 +193,5 @@ pub fn run_serve<
 {
     let Served { reports, fault } = serve(rt, alloc, path, output);
     drop(reports);
-    let Some(fault) = fault else {
-        return 0;
-    };
-    let _ = fault.report(errors);
-    fault.status()
+    end_with(&fault, errors)
 }

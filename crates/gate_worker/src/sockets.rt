@@ -112,7 +112,7 @@ impl<'a, R: Wait + Clock + Sync> Connections for Accepted<'a, R> {
 
     type Out = TimedOutput<'a, R>;
 
-    // What fails for now, for want of descriptors say, is tried again; a stream without time
+    // What fails for now, as where no descriptor is left, is tried again; a stream without time
     // limits could hold a worker for ever, so it is dropped.
     fn next(&mut self) -> Option<(TimedInput<'a, R>, TimedOutput<'a, R>)> {
         for _ in self.rt.forever() {

@@ -1,11 +1,11 @@
 //! The times of the daemon, and how they fit together. Own rules.
 //!
 //! Each is the time that a peer may take for one thing that it owes, however many calls that needs;
-//! only waiting for the peer counts. Whoever waits looks after each turn whether the daemon is to
-//! end.
+//! only waiting for the peer counts. Whoever waits for a connection or for bytes looks after each
+//! turn whether the daemon is to end; a write goes on until it is done or out of time.
 
 /// How long a wait for a connection, for bytes or for room to write goes on before the waiting
-/// thread looks whether the daemon is to end.
+/// thread looks at its time and, but for a write, whether the daemon is to end.
 pub const TURN_MILLIS: u64 = 100;
 
 /// In what time a sender takes its greeting.
@@ -43,8 +43,9 @@ pub const PARTING_MILLIS: u64 = 500;
 /// In what time the daemon ends after the answer `closing`, whatever its peers do.
 const END_MILLIS: u64 = 15_000;
 
-// The operator parts; the workers of packets look whether they are to end; and of two pages, one that
-// is being written and one that waits, each is written and its reader parts.
+// The operator parts; the agents' workers look whether they are to end; and of two pages, one that is
+// being written and one that waits, each is written and its reader parts. A greeting has 132 bytes,
+// for which a new connection always has room, so that no worker waits to write it.
 const _: () = prove!(
     PARTING_MILLIS + TURN_MILLIS + PAGE_MILLIS + PARTING_MILLIS + LAST_PAGE_MILLIS + PARTING_MILLIS
         < END_MILLIS

@@ -1,14 +1,21 @@
 //! The program: `nscagate replay` replays the script on standard input, and
-//! `nscagate serve --config PATH` runs the daemon as the file configures it.
+//! `nscagate serve --config PATH` runs the daemon as the file configures it, until an operator shuts
+//! it down. Each ends with an exit status, and with one line on standard error where it isn't 0.
 #![tactic(auto)]
 
-use gate_program::{ProgramFault, run_program};
+mod fault;
+mod program;
+mod words;
+
+use crate::fault::ProgramFault;
+use crate::program::run_program;
+use gate_reader::end_with;
 use std::env;
 use std::io::BufWriter;
 use std::process::ExitCode;
 use std::rt::Env;
 
-fn words(rt: &(impl Env + AllocGlobal)) -> Result<Vec<String>, ProgramFault> {
+fn arguments(rt: &(impl Env + AllocGlobal)) -> Result<Vec<String>, ProgramFault> {
     let mut words = env::args(rt)?;
     let _name = words.next();
     Ok(words.collect(rt.alloc())?)
@@ -16,7 +23,7 @@ fn words(rt: &(impl Env + AllocGlobal)) -> Result<Vec<String>, ProgramFault> {
 
 fn main(rt: HostRuntime) -> ExitCode {
     let mut errors = rt.stderr().lock();
-    let status = match words(&rt) {
+    let status = match arguments(&rt) {
         Ok(words) => match BufWriter::new(rt.alloc(), rt.stdout().lock()) {
             Ok(mut output) => {
                 let mut input = rt.stdin().lock();
@@ -26,9 +33,9 @@ fn main(rt: HostRuntime) -> ExitCode {
                 let _unwritten = output.into_parts();
                 status
             }
-            Err(_) => ProgramFault::OutOfMemory.end(&mut errors),
+            Err(_) => end_with(&Some(ProgramFault::OutOfMemory), &mut errors),
         },
-        Err(fault) => fault.end(&mut errors),
+        Err(fault) => end_with(&Some(fault), &mut errors),
     };
     ExitCode::from(status)
 }

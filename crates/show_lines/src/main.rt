@@ -1,5 +1,5 @@
 //! Reads the lines on standard input as command lines, and prints for each the canonical line of its
-//! command, or why it is none.
+//! command, or why it is none. Where that line isn't read again as the same command, it says so.
 #![tactic(auto)]
 
 ghost use Rattle.gate_grammar.specs.Writability.{IsWritable};
@@ -9,15 +9,35 @@ use std::alloc::Global;
 use std::io;
 use std::io::{BufRead, BufReader, BufWriter, Write};
 
+// Names a line that isn't read again as its command.
+fn show_if_other(
+    alloc: Global,
+    command: &Command,
+    line: &[u8],
+    output: &mut impl Write,
+) -> io::Result<()> {
+    match read_line(alloc, line) {
+        Ok(again) => {
+            if again == *command {
+                Ok(())
+            } else {
+                output.write_all(b"read again: another command\n")
+            }
+        }
+        Err(fault) => writeln!(output, "read again: {fault:?}"),
+    }
+}
+
 fn show_command(alloc: Global, command: &Command, output: &mut impl Write) -> io::Result<()>
     requires { IsWritable command.now }
 {
     match write_line(alloc, command) {
         Ok(line) => {
             output.write_all(&line)?;
-            output.write_all(b"\n")
+            output.write_all(b"\n")?;
+            show_if_other(alloc, command, &line, output)
         }
-        Err(_) => output.write_all(b"OutOfMemory\n"),
+        Err(_) => output.write_all(b"write_line: OutOfMemory\n"),
     }
 }
 

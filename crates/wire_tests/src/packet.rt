@@ -1,3 +1,5 @@
+ghost use Rattle.std.specs.Prelude.{◌≤◌};
+
 use gate_model::{Body, Moment};
 use gate_packet::{
     Block, ContentFault, Cutter, Field, PACKET_SIZE, Packet, PacketFault, RefusedPacket, crc32,
@@ -379,4 +381,46 @@ fn the_fault_of_a_long_host_names_its_limit(rt: HostRuntime) {
 fn the_fault_of_a_stale_packet_names_its_age(rt: HostRuntime) {
     let want = "the packet is older than the greatest age";
     assert!(rt; is_shown_as(rt.alloc(), &PacketFault::Stale, want));
+}
+
+// Two packets, and all bytes but one of a third.
+fn two_and_a_rest(alloc: Global, packet: &[u8; PACKET_SIZE]) -> Option<Vec<u8>> {
+    let mut stream = Vec::with_capacity(alloc, 3 * PACKET_SIZE).ok()?;
+    stream.extend_from_slice(packet).ok()?;
+    stream.extend_from_slice(packet).ok()?;
+    stream.extend_from_slice(packet).ok()?;
+    let _last = stream.pop();
+    Some(stream)
+}
+
+fn fed_in_pieces(alloc: Global, stream: &[u8], size: usize) -> Option<Cutter>
+    requires { 1 ≤ size }
+{
+    let mut cutter = Cutter::new(alloc);
+    for piece in stream.chunks(size) {
+        cutter.feed(piece).ok()?;
+    }
+    Some(cutter)
+}
+
+// Whether the stream, in pieces of this size, is the packet twice and then 4303 bytes.
+fn is_twice(alloc: Global, stream: &[u8], size: usize, packet: &[u8; PACKET_SIZE]) -> bool
+    requires { 1 ≤ size }
+{
+    let Some(mut cutter) = fed_in_pieces(alloc, stream, size) else {
+        return false;
+    };
+    let both = is_next(&mut cutter, packet) && is_next(&mut cutter, packet);
+    let rest = cutter.next_packet().is_none() && cutter.rest() == 4303;
+    drop(cutter);
+    both && rest
+}
+
+#[test]
+fn two_packets_and_a_rest_are_cut_by_one_byte_and_whole(rt: HostRuntime) -> Result<(), Fail> {
+    let packet = bytes_sent(rt.alloc(), 1000)?;
+    let stream = two_and_a_rest(rt.alloc(), &packet).ok_or("no stream")?;
+    assert!(rt; is_twice(rt.alloc(), &stream, 1, &packet));
+    assert!(rt; is_twice(rt.alloc(), &stream, 3 * PACKET_SIZE, &packet));
+    Ok(())
 }

@@ -1,5 +1,5 @@
 -- Only proofs and private functions use this: workers before they start, and what all threads returned.
-use Rattle.std.specs.Prelude.{◌≡◌, ℕ, ◌+◌, ◌≤◌, Bool, IsTrue, IsSome, List, [], ◌∷◌, length}
+use Rattle.std.specs.Prelude.{◌≡◌, ℕ, ◌+◌, ◌≤◌, Option, IsSome, List, [], ◌∷◌, length}
 use Rattle.gate_queue.specs.Gate.{GateId}
 use Rattle.gate_queue.specs.Client.{ClientState}
 use Rattle.gate_queue.specs.Taker.{TakerState}
@@ -7,6 +7,7 @@ use Rattle.gate_queue.specs.Opening.{new_clients}
 use Rattle.gate_queue.specs.DrainedClose.{items_of_records}
 use Rattle.gate_applier.specs.Applier.{ApplierView}
 use Rattle.gate_worker.specs.Numbers.{numbers_after}
+use Rattle.gate_worker.specs.declared.worker.Cause.{Cause}
 use Rattle.gate_daemon.specs.Applying.{IsSameLog}
 use Rattle.gate_daemon.specs.declared.collected.Collected.{Collected}
 use Rattle.gate_daemon.specs.declared.joined.Joined.{Joined}
@@ -18,16 +19,17 @@ pub record HasRoom (count : ℕ) (collected : Collected) : Type 0 where
   pub ended : count ≤ collected.ended.cap
   pub reports : count ≤ collected.reports.cap
 
--- clients of this gate: 1 to as many as there are posts, and the operator's, for none of which anything is queued
-pub record AreNew (gate : GateId) (clients : List ClientState) (posts : ℕ) (operator : ClientState) : Type 0 where
+-- clients of this gate: 1 to as many as there are endpoints, and the operator's, for none of which anything is queued
+pub record AreNew (gate : GateId) (clients : List ClientState) (endpoints : ℕ) (operator : ClientState) : Type 0 where
   pub all : clients ≡ new_clients gate (length clients)
-  pub count : posts ≡ length clients
+  pub count : endpoints ≡ length clients
   pub operators : operator.gate ≡ gate
   pub fresh : operator.queued ≡ []
 
--- the ends of at most so many workers of packets and of the operator's are collected; where all were started, of all
-pub record AreCollected (gate : GateId) (count operator : ℕ) (before after : Collected) (all_started : Bool) : Type 0 where
-  pub all : IsTrue all_started → numbers_of after.ended.items ≡ operator ∷ numbers_after 0 count
+-- the ends of at most so many workers of packets and of the operator's are collected; where the operator's ended for a
+-- cause that is known, all were started, and it is the ends of all
+pub record AreCollected (gate : GateId) (count operator : ℕ) (before after : Collected) (cause : Option Cause) : Type 0 where
+  pub all : IsSome cause → numbers_of after.ended.items ≡ operator ∷ numbers_after 0 count
   pub few : length after.ended.items ≤ count + 1
   pub gates : AreOf gate after.ended.items
   pub ended_room : after.ended.cap ≡ before.ended.cap

@@ -10,7 +10,7 @@ use Rattle.gate_core.specs.declared.event.Event.{Event}
 use Rattle.gate_core.specs.declared.event.Event.TheVariants.{Take}
 use Rattle.gate_core.specs.declared.event.Reply.{Reply}
 use Rattle.gate_core.specs.declared.event.Reply.TheVariants.{Taken, Empty}
-use Rattle.gate_desk.specs.Ending.{with_ends}
+use Rattle.gate_solo.specs.Ending.{with_ends}
 use Rattle.gate_applier.specs.Applier.{ApplierView, opened}
 use Rattle.gate_reader.specs.Sink.{SinkState, FailsOnce, Writes, Delivers}
 use Rattle.gate_replay.specs.declared.fault.ReplayFault.{ReplayFault}
@@ -21,44 +21,44 @@ use Rattle.gate_replay.specs.declared.player.Stopped.TheVariants as stopped
 use Rattle.gate_replay.specs.declared.script.Step.{Step}
 use Rattle.gate_replay.specs.declared.script.Setup.{Setup}
 use Rattle.gate_replay.specs.declared.script.Script.{Script}
-use Rattle.gate_replay.specs.Gateway.{Gateway, Heard, number_queued, serves, drains, plays, gateway_after, steps_of, Finishes, IsWholeStep, IsWhole, IsPlayed, BeginsDrain, IsBegunStep, IsWholeSoFar, IsPlayedSoFar}
+use Rattle.gate_replay.specs.ReplayState.{ReplayState, Heard, number_queued, serves, drains, plays, state_after, steps_of, Finishes, IsWholeStep, IsWhole, IsPlayed, BeginsDrain, IsBegunStep, IsWholeSoFar, IsPlayedSoFar}
 use Rattle.gate_replay.specs.Replay.{IsTooLong, printed_by, PrintsSoFar}
 
--- ---- a desk
+-- ---- a queue
 
--- what a desk's type knows of it: the runs that may be what happened at it, and its limits
-pub record DeskView (D : Type 0) : Type 1 where
+-- what a queue's type knows of it: the runs that may be what happened at it, and its limits
+pub record SoloView (D : Type 0) : Type 1 where
   pub after : D → Run → Type 0
   pub limits : D → Limits
 
--- the view with these members of the desk's type
-abbrev pub desk_view : {D : Type 0} → (D → Run → Type 0) → (D → Limits) → DeskView D
-desk_view after limits = record { after = after; limits = limits }
+-- the view with these members of the queue's type
+abbrev pub solo_view : {D : Type 0} → (D → Run → Type 0) → (D → Limits) → SoloView D
+solo_view after limits = record { after = after; limits = limits }
 
--- whatever run the old desk showed, the new one shows that run with this event and its reply
-abbrev pub Extends : {D : Type 0} → DeskView D → D → Event → Reply → D → Type 0
+-- whatever run the old queue showed, the new one shows that run with this event and its reply
+abbrev pub Extends : {D : Type 0} → SoloView D → D → Event → Reply → D → Type 0
 Extends view old event reply new = (run : Run) → view.after old run → view.after new ((event, reply) ∷ run)
 
--- the desk has the setup's limits, and this run may be what happened at it
-pub record HoldsRun {D : Type 0} (view : DeskView D) (setup : Setup) (desk : D) (run : Run) : Type 0 where
-  pub after : view.after desk run
-  pub limits : view.limits desk ≡ limits_of 2 default_quota setup.capacity
+-- the queue has the setup's limits, and this run may be what happened at it
+pub record HoldsRun {D : Type 0} (view : SoloView D) (setup : Setup) (queue : D) (run : Run) : Type 0 where
+  pub after : view.after queue run
+  pub limits : view.limits queue ≡ limits_of 2 default_quota setup.capacity
 
--- a desk of these limits shows this run
-pub record IsShown {D : Type 0} (view : DeskView D) (limits : Limits) (run : Run) : Type 0 where
-  pub desk : D
-  pub after : view.after desk run
-  pub limits_are : view.limits desk ≡ limits
+-- a queue of these limits shows this run
+pub record IsShown {D : Type 0} (view : SoloView D) (limits : Limits) (run : Run) : Type 0 where
+  pub queue : D
+  pub after : view.after queue run
+  pub limits_are : view.limits queue ≡ limits
 
--- a desk of these limits shows this run, or what is left of one after its end shows it with the ends
-abbrev pub IsShownSoFar : {D E : Type 0} → DeskView D → DeskView E → Limits → Run → Type 0
+-- a queue of these limits shows this run, or what is left of one after its end shows it with the ends
+abbrev pub IsShownSoFar : {D E : Type 0} → SoloView D → SoloView E → Limits → Run → Type 0
 IsShownSoFar view ended limits run = IsShown view limits run ⊎ IsShown ended limits (with_ends run)
 
--- what is left of the desk after its end shows whatever run the desk did, with the ends
-pub record IsEnded {D E : Type 0} (view : DeskView D) (ended : DeskView E) (desk : D) : Type 0 where
+-- what is left of the queue after its end shows whatever run the queue did, with the ends
+pub record IsEnded {D E : Type 0} (view : SoloView D) (ended : SoloView E) (queue : D) : Type 0 where
   pub rest : E
-  pub after : (run : Run) → view.after desk run → ended.after rest (with_ends run)
-  pub limits_are : ended.limits rest ≡ view.limits desk
+  pub after : (run : Run) → view.after queue run → ended.after rest (with_ends run)
+  pub limits_are : ended.limits rest ≡ view.limits queue
 
 -- ---- a player
 
@@ -71,15 +71,15 @@ abbrev pub setting : Setup → SinkState → Setting
 setting setup base = record { setup = setup; base = base }
 
 -- the applier shows this gateway's records
-pub record ShowsRecords (setup : Setup) (applier : ApplierView) (g : Gateway) : Type 0 where
+pub record ShowsRecords (setup : Setup) (applier : ApplierView) (g : ReplayState) : Type 0 where
   pub table : applier.table ≡ setup.table
   pub opening : applier.opening ≡ setup.moment
   pub limit : applier.limit ≡ setup.limit
   pub records : applier.records ≡ g.records
 
 -- the player has come to this state of the gateway, and its output to this
-pub record Shows {D : Type 0} (view : DeskView D) (s : Setting) (player : Player D) (output : SinkState) (g : Gateway) : Type 0 where
-  pub holds : HoldsRun view s.setup player.desk g.run
+pub record Shows {D : Type 0} (view : SoloView D) (s : Setting) (player : Player D) (output : SinkState) (g : ReplayState) : Type 0 where
+  pub holds : HoldsRun view s.setup player.queue g.run
   pub applier : ShowsRecords s.setup player.applier g
   pub moment : player.applier.moment ≡ g.moment
   pub clock : player.clock ≡ g.clock
@@ -88,42 +88,42 @@ pub record Shows {D : Type 0} (view : DeskView D) (s : Setting) (player : Player
   pub printed : Writes s.base output g.printed
   pub running : g.full ≡ false
 
--- the gateway has come to this state, as some desk, this applier and the output show
-pub record Stays {D : Type 0} (view : DeskView D) (s : Setting) (applier : ApplierView) (output : SinkState) (g : Gateway) : Type 0 where
+-- the gateway has come to this state, as some queue, this applier and the output show
+pub record Stays {D : Type 0} (view : SoloView D) (s : Setting) (applier : ApplierView) (output : SinkState) (g : ReplayState) : Type 0 where
   pub stood : IsShown view (limits_of 2 default_quota s.setup.capacity) g.run
   pub shown : ShowsRecords s.setup applier g
   pub printed : Writes s.base output g.printed
 
 -- a player that has done nothing yet
-pub record IsNew {D : Type 0} (view : DeskView D) (setup : Setup) (player : Player D) : Type 0 where
-  pub holds : HoldsRun view setup player.desk []
+pub record IsNew {D : Type 0} (view : SoloView D) (setup : Setup) (player : Player D) : Type 0 where
+  pub holds : HoldsRun view setup player.queue []
   pub applier : player.applier ≡ opened setup.table setup.moment setup.limit
   pub clock : player.clock ≡ setup.moment
   pub age : player.age ≡ setup.age
   pub queued : player.queued ≡ 0
 
--- a player found the log full, and ended its desk
-pub record FindsFull {D E : Type 0} (view : DeskView D) (ended : DeskView E) (player : Player D) (kept : ApplierView) : Type 0 where
+-- a player found the log full, and ended its queue
+pub record FindsFull {D E : Type 0} (view : SoloView D) (ended : SoloView E) (player : Player D) (kept : ApplierView) : Type 0 where
   pub applier : kept ≡ player.applier
   pub full : length player.applier.records ≡ player.applier.limit
-  pub is_ended : IsEnded view ended player.desk
+  pub is_ended : IsEnded view ended player.queue
 
 -- a player took an item and recorded it
-pub record TakesItem {D : Type 0} (view : DeskView D) (was now : Player D) (item : Numbered) : Type 0 where
-  pub taken : Extends view was.desk Take (Taken item) now.desk
+pub record TakesItem {D : Type 0} (view : SoloView D) (was now : Player D) (item : Numbered) : Type 0 where
+  pub taken : Extends view was.queue Take (Taken item) now.queue
   pub records : now.applier.records ≡ was.applier.records ++ record { moment = later was.applier.moment was.clock; item = item } ∷ []
   pub moment : now.applier.moment ≡ later was.applier.moment was.clock
 
 -- a player took nothing
-pub record TakesNothing {D : Type 0} (view : DeskView D) (was now : Player D) : Type 0 where
-  pub taken : Extends view was.desk Take Empty now.desk
+pub record TakesNothing {D : Type 0} (view : SoloView D) (was now : Player D) : Type 0 where
+  pub taken : Extends view was.queue Take Empty now.queue
   pub records : now.applier.records ≡ was.applier.records
   pub moment : now.applier.moment ≡ was.applier.moment
 
 -- a player took an item and recorded it, or nothing where the last is false
-pub record Takes {D : Type 0} (view : DeskView D) (was now : Player D) (found : Bool) : Type 0 where
+pub record Takes {D : Type 0} (view : SoloView D) (was now : Player D) (found : Bool) : Type 0 where
   pub room : length was.applier.records ≢ was.applier.limit
-  pub limits : view.limits now.desk ≡ view.limits was.desk
+  pub limits : view.limits now.queue ≡ view.limits was.queue
   pub table : now.applier.table ≡ was.applier.table
   pub opening : now.applier.opening ≡ was.applier.opening
   pub limit : now.applier.limit ≡ was.applier.limit
@@ -133,88 +133,88 @@ pub record Takes {D : Type 0} (view : DeskView D) (was now : Player D) (found : 
   pub turn : MatchBool found ((item : Numbered) × TakesItem view was now item) (TakesNothing view was now)
 
 -- the player has come to some state of the gateway
-pub record IsUnderWay {D : Type 0} (view : DeskView D) (player : Player D) (output : SinkState) : Type 0 where
+pub record IsUnderWay {D : Type 0} (view : SoloView D) (player : Player D) (output : SinkState) : Type 0 where
   pub setting : Setting
-  pub gateway : Gateway
-  pub shows : Shows view setting player output gateway
+  pub replayed : ReplayState
+  pub shows : Shows view setting player output replayed
 
 -- the player may play a step
-pub record IsReady {D : Type 0} (view : DeskView D) (player : Player D) (output : SinkState) : Type 0 where
+pub record IsReady {D : Type 0} (view : SoloView D) (player : Player D) (output : SinkState) : Type 0 where
   pub under_way : IsUnderWay view player output
   pub few : player.queued < 2 ^ 34
 
 -- ---- what a step did
 
 -- the step was served, without its drain
-pub record Serves {D : Type 0} (view : DeskView D) (s : Setting) (player : Player D) (output : SinkState) (step : Step) (g : Gateway) : Type 0 where
+pub record Serves {D : Type 0} (view : SoloView D) (s : Setting) (player : Player D) (output : SinkState) (step : Step) (g : ReplayState) : Type 0 where
   pub heard : Heard
   pub shows : (takes : List (Option Numbered)) → Shows view s player output (serves s.setup step (record heard { takes = takes }) g)
 
 -- a drain from this state came to an end
-pub record Drains {D : Type 0} (view : DeskView D) (s : Setting) (player : Player D) (output : SinkState) (g : Gateway) : Type 0 where
+pub record Drains {D : Type 0} (view : SoloView D) (s : Setting) (player : Player D) (output : SinkState) (g : ReplayState) : Type 0 where
   pub takes : List (Option Numbered)
   pub finishes : Finishes s.setup.limit takes g
   pub shows : Shows view s player output (drains takes g)
 
--- the log was full with an item left, and the desk has ended
-pub record Ends {E : Type 0} (ended : DeskView E) (s : Setting) (applier : ApplierView) (output : SinkState) (g : Gateway) : Type 0 where
+-- the log was full with an item left, and the queue has ended
+pub record Ends {E : Type 0} (ended : SoloView E) (s : Setting) (applier : ApplierView) (output : SinkState) (g : ReplayState) : Type 0 where
   pub kept : IsShown ended (limits_of 2 default_quota s.setup.capacity) (with_ends g.run)
   pub shown : ShowsRecords s.setup applier g
   pub printed : Writes s.base output g.printed
   pub full : g.full ≡ true
 
 -- a drain from this state met a full log with an item left
-pub record DrainsFull {E : Type 0} (ended : DeskView E) (s : Setting) (applier : ApplierView) (output : SinkState) (g : Gateway) : Type 0 where
+pub record DrainsFull {E : Type 0} (ended : SoloView E) (s : Setting) (applier : ApplierView) (output : SinkState) (g : ReplayState) : Type 0 where
   pub takes : List (Option Numbered)
   pub finishes : Finishes s.setup.limit takes g
   pub ends : Ends ended s applier output (drains takes g)
 
 -- memory ran out amid a drain from this state
-pub record DrainsPart {D : Type 0} (view : DeskView D) (s : Setting) (applier : ApplierView) (output : SinkState) (g : Gateway) : Type 0 where
+pub record DrainsPart {D : Type 0} (view : SoloView D) (s : Setting) (applier : ApplierView) (output : SinkState) (g : ReplayState) : Type 0 where
   pub takes : List (Option Numbered)
   pub begins : BeginsDrain s.setup.limit takes g
   pub stays : Stays view s applier output (drains takes g)
 
 -- the step was played
-pub record Plays {D : Type 0} (view : DeskView D) (s : Setting) (player : Player D) (output : SinkState) (step : Step) (g : Gateway) : Type 0 where
+pub record Plays {D : Type 0} (view : SoloView D) (s : Setting) (player : Player D) (output : SinkState) (step : Step) (g : ReplayState) : Type 0 where
   pub heard : Heard
   pub whole : IsWholeStep s.setup step heard g
   pub shows : Shows view s player output (plays s.setup step heard g)
 
 -- the step was played, and the log was full with an item left
-pub record PlaysFull {E : Type 0} (ended : DeskView E) (s : Setting) (applier : ApplierView) (output : SinkState) (step : Step) (g : Gateway) : Type 0 where
+pub record PlaysFull {E : Type 0} (ended : SoloView E) (s : Setting) (applier : ApplierView) (output : SinkState) (step : Step) (g : ReplayState) : Type 0 where
   pub heard : Heard
   pub whole : IsWholeStep s.setup step heard g
   pub ends : Ends ended s applier output (plays s.setup step heard g)
 
 -- memory ran out amid the drain of the step
-pub record PlaysPart {D : Type 0} (view : DeskView D) (s : Setting) (applier : ApplierView) (output : SinkState) (step : Step) (g : Gateway) : Type 0 where
+pub record PlaysPart {D : Type 0} (view : SoloView D) (s : Setting) (applier : ApplierView) (output : SinkState) (step : Step) (g : ReplayState) : Type 0 where
   pub heard : Heard
   pub begins : IsBegunStep s.setup step heard g
   pub stays : Stays view s applier output (plays s.setup step heard g)
 
 -- the steps so far were played
-pub record PlayedTo {D : Type 0} (view : DeskView D) (s : Setting) (steps : List Step) (player : Player D) (output : SinkState) : Type 0 where
+pub record PlayedTo {D : Type 0} (view : SoloView D) (s : Setting) (steps : List Step) (player : Player D) (output : SinkState) : Type 0 where
   pub done : List (Step × Heard)
   pub steps_are : steps_of done ≡ reverse steps
   pub whole : IsWhole s.setup done
-  pub shows : Shows view s player output (gateway_after s.setup done)
+  pub shows : Shows view s player output (state_after s.setup done)
 
 -- the steps were played, and at one of them the log was full with an item left
-pub record PlayedFull {E : Type 0} (ended : DeskView E) (s : Setting) (steps : List Step) (applier : ApplierView) (output : SinkState) : Type 0 where
+pub record PlayedFull {E : Type 0} (ended : SoloView E) (s : Setting) (steps : List Step) (applier : ApplierView) (output : SinkState) : Type 0 where
   pub done : List (Step × Heard)
   pub steps_are : steps_of done ≡ reverse steps
   pub whole : IsWhole s.setup done
-  pub ends : Ends ended s applier output (gateway_after s.setup done)
+  pub ends : Ends ended s applier output (state_after s.setup done)
 
 -- the first steps were played, and then memory ran out
-pub record PlayedPart {D : Type 0} (view : DeskView D) (s : Setting) (steps : List Step) (applier : ApplierView) (output : SinkState) : Type 0 where
+pub record PlayedPart {D : Type 0} (view : SoloView D) (s : Setting) (steps : List Step) (applier : ApplierView) (output : SinkState) : Type 0 where
   pub front : List Step
   pub front_begins : IsPrefix front steps
   pub done : List (Step × Heard)
   pub steps_are : steps_of done ≡ reverse front
   pub whole : IsWholeSoFar s.setup done
-  pub stays : Stays view s applier output (gateway_after s.setup done)
+  pub stays : Stays view s applier output (state_after s.setup done)
 
 -- ---- ends
 
@@ -245,16 +245,16 @@ StopsBy P Q R (stopped.Unwritten fault) = R fault
 
 -- a script was played, to a full log or to its end, and what it prints was delivered
 pub record IsPrinted (rules : Limits → Run → Type 0) (script : Script) (before after : SinkState) (full : Bool) : Type 0 where
-  pub gateway : Gateway
-  pub played : IsPlayed rules script gateway
-  pub full_is : gateway.full ≡ full
-  pub printed : Delivers before after (printed_by script gateway)
+  pub replayed : ReplayState
+  pub played : IsPlayed rules script replayed
+  pub full_is : replayed.full ≡ full
+  pub printed : Delivers before after (printed_by script replayed)
 
 -- the first steps of a script were played, and what they print was delivered
 pub record IsPrintedSoFar (rules : Limits → Run → Type 0) (script : Script) (before after : SinkState) : Type 0 where
-  pub gateway : Gateway
-  pub played : IsPlayedSoFar rules script gateway
-  pub printed : PrintsSoFar script gateway before after
+  pub replayed : ReplayState
+  pub played : IsPlayedSoFar rules script replayed
+  pub printed : PrintsSoFar script replayed before after
 
 -- a script was played to its end, or to this fault. The second rules are those of a queue before its end
 abbrev pub EndsPlaying : (rules so_far : Limits → Run → Type 0) → Script → SinkState → SinkState → Option ReplayFault → Type 0

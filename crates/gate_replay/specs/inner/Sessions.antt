@@ -21,8 +21,8 @@ use Rattle.gate_reader.specs.Session.{ClientView, Submits}
 use Rattle.gate_reader.specs.Lines.{OperatorView, Closes, first_close}
 use Rattle.gate_replay.specs.declared.script.Step.{Step}
 use Rattle.gate_replay.specs.declared.script.Setup.{Setup}
-use Rattle.gate_replay.specs.Gateway.{Gateway, Heard, prints, asks, is_shutdown, number_queued, serves}
-use Rattle.gate_replay.specs.inner.Playing.{DeskView, HoldsRun}
+use Rattle.gate_replay.specs.ReplayState.{ReplayState, Heard, prints, asks, is_shutdown, number_queued, serves}
+use Rattle.gate_replay.specs.inner.Playing.{SoloView, HoldsRun}
 
 -- the session stopped at the end of its input, after a rest or none, or after the answer that reports a close
 abbrev pub HasEnded : Stop → Type 0
@@ -35,12 +35,6 @@ HasEnded _ = ⊥
 pub record HasOnly (report : Report) (answer : Answer) : Type 0 where
   pub answers : report.answers ≡ answer ∷ []
   pub ended : HasEnded report.stop
-
--- a packet may be answered so
-abbrev pub IsPacketAnswer : Answer → Type 0
-IsPacketAnswer (Bad cause) = ⊥
-IsPacketAnswer (Down first) = ⊥
-IsPacketAnswer _ = ⊤
 
 -- the body was submitted, and answered so
 abbrev pub SubmitsBody : {S : Type 0} → ClientView S → S → Body → Answer → S → Type 0
@@ -77,16 +71,16 @@ abbrev pub queued_in : Answer → ℕ
 queued_in (Queued number) = 1
 queued_in _ = 0
 
--- a step is a session that asks this desk so much and prints this answer
-pub record Answers {D : Type 0} (view : DeskView D) (setup : Setup) (desk : D) (step : Step) (answer : Answer) (g : Gateway) : Type 0 where
+-- a step is a session that asks this queue so much and prints this answer
+pub record Answers {D : Type 0} (view : SoloView D) (setup : Setup) (queue : D) (step : Step) (answer : Answer) (g : ReplayState) : Type 0 where
   pub heard : Heard
   pub pairs : Run
   pub does : (takes : List (Option Numbered)) → serves setup step (record heard { takes = takes }) g ≡ prints (answer_line answer) (asks pairs g)
-  pub holds : HoldsRun view setup desk (pairs ++ g.run)
+  pub holds : HoldsRun view setup queue (pairs ++ g.run)
   pub counted : number_queued (pairs ++ g.run) ≡ number_queued g.run + queued_in answer
 
--- the desk answered a step so, after each gateway that it held
-abbrev pub AnswersStep : {D : Type 0} → DeskView D → D → ℕ → Moment → D → Step → Answer → Type 0
+-- the queue answered a step so, after each gateway that it held
+abbrev pub AnswersStep : {D : Type 0} → SoloView D → D → ℕ → Moment → D → Step → Answer → Type 0
 AnswersStep view old age now new step answer =
-    (setup : Setup) (g : Gateway) → HoldsRun view setup old g.run → now ≡ g.clock → age ≡ setup.age
+    (setup : Setup) (g : ReplayState) → HoldsRun view setup old g.run → now ≡ g.clock → age ≡ setup.age
     → Answers view setup new step answer g

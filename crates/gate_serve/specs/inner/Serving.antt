@@ -4,14 +4,16 @@ use Rattle.gate_reader.specs.Sink.{SinkState, Delivers, FailsOnce}
 use Rattle.gate_applier.specs.Applier.{ApplierView}
 use Rattle.gate_queue.specs.declared.drained_close.CloseAllCause.{CloseAllCause}
 use Rattle.gate_queue.specs.declared.drained_close.CloseAllCause.TheVariants as cause
+use Rattle.gate_worker.specs.declared.worker.Cause.{Cause}
+use Rattle.gate_worker.specs.declared.worker.Cause.TheVariants as worker
 use Rattle.gate_daemon.specs.Answered.{queued_by_each}
 use Rattle.gate_daemon.specs.declared.gateway.Finished.{Finished}
 use Rattle.gate_daemon.specs.declared.gateway.GatewayFault.{GatewayFault}
 use Rattle.gate_daemon.specs.declared.gateway.GatewayFault.TheVariants as gateway_fault
 use Rattle.gate_config.specs.declared.config.Config.{Config}
-use Rattle.gate_setup.specs.declared.fault.ServeFault.{ServeFault}
-use Rattle.gate_setup.specs.declared.fault.ServeFault.TheVariants.{LogFull, OutOfMemory, Spawn, WriteFault}
-use Rattle.gate_setup.specs.Setup.{IsWriteEnd}
+use Rattle.gate_serve.specs.declared.fault.ServeFault.{ServeFault}
+use Rattle.gate_serve.specs.declared.fault.ServeFault.TheVariants.{LogFull, OutOfMemory, Spawn, WriteFault}
+use Rattle.gate_serve.specs.Setup.{IsWriteEnd}
 use Rattle.gate_serve.specs.Serve.{page_of, FollowsAddresses, IsRun, IsFull, IsStarved}
 
 -- why a gateway may not have applied all
@@ -42,6 +44,20 @@ pub record IsPageGiven (applier : ApplierView) (before after : SinkState) : Type
   pub few : length applier.records ≤ applier.limit
   pub printed : Delivers before after (page_of applier.table applier.records)
 
+-- the fault of a daemon that applied and printed all, by why its operator's worker ended
+abbrev pub fault_after : Cause → Option ServeFault
+fault_after worker.OutOfMemory = Some OutOfMemory
+fault_after worker.Closing = None
+fault_after worker.TooManySessions = None
+fault_after worker.NoMoreConnections = None
+
+-- a gateway that applied all, whose operator's worker ended for this cause, ended with a fault: its log page can't be
+-- written, or was given, and the operator's worker had no memory
+abbrev pub IsWholeEnd : Cause → ApplierView → SinkState → SinkState → ServeFault → Type 0
+IsWholeEnd operator applier before after found =
+    IsWriteEnd before after found
+    ⊎ ((fault_after operator ≡ Some found) × IsPageGiven applier before after)
+
 -- a close that failed for this cause ended with a fault, after the log page of its applier
 abbrev pub IsCloseEnd : CloseAllCause → ApplierView → SinkState → SinkState → ServeFault → Type 0
 IsCloseEnd why applier before after LogFull = (why ≡ cause.LogFull) × IsPageGiven applier before after
@@ -58,7 +74,7 @@ IsLoglessEnd before after _ = ⊥
 
 -- a gateway, which had ended so, ended with a fault
 abbrev pub IsRunEnd : Result Finished GatewayFault → SinkState → SinkState → ServeFault → Type 0
-IsRunEnd (Ok finished) before after found = IsWriteEnd before after found
+IsRunEnd (Ok finished) before after found = IsWholeEnd finished.operator finished.closed.applier before after found
 IsRunEnd (Err (gateway_fault.CloseAll gate drain reports)) before after found =
     IsCloseEnd drain.cause drain.applier before after found
 IsRunEnd (Err _) before after found = IsLoglessEnd before after found

@@ -4,31 +4,31 @@ use Rattle.gate_core.specs.Limits.{Limits}
 use Rattle.gate_core.specs.Legal.{Run, IsLegal}
 use Rattle.gate_core.specs.State.{WorldState, StandsAfter}
 use Rattle.gate_core.specs.LocalClient.{LocalState}
-use Rattle.gate_desk.specs.Ending.{with_ends}
-use Rattle.gate_desk.specs.LocalDesk.{IsAfter}
-use Rattle.gate_desk.specs.inner.LocalDesks.{open_at}
+use Rattle.gate_solo.specs.Ending.{with_ends}
+use Rattle.gate_solo.specs.SoloWorld.{IsAfter}
+use Rattle.gate_solo.specs.laws.SoloWorlds.{open_at}
 use Rattle.gate_reader.specs.Sink.{sink_state}
-use Rattle.gate_replay.specs.Replay.{fault_in}
-use Rattle.gate_replay.specs.inner.Playing.{desk_view, IsShown, IsShownSoFar}
+use Rattle.gate_reader.specs.Fault.{fault_in}
+use Rattle.gate_replay.specs.inner.Playing.{solo_view, IsShown, IsShownSoFar}
 use Rattle.gate_replay.proofs.ReplayEnds.{ends_too}
 use Rattle.gate_replay.proofs.replay.play_over_world.Goals as goal
 
 -- what a World shows is legal
-shown_legal : (limits : Limits) (run : Run) → IsShown (desk_view StandsAfter (λ (world : WorldState). world.limits)) limits run → IsLegal limits run
+shown_legal : (limits : Limits) (run : Run) → IsShown (solo_view StandsAfter (λ (world : WorldState). world.limits)) limits run → IsLegal limits run
 shown_legal limits run h = subst (λ (l : Limits). IsLegal l run) h.limits_are h.after.legal
 
-shown_so_far : (limits : Limits) (run : Run) → IsShownSoFar (desk_view IsAfter (λ (client : LocalState). client.world.limits)) (desk_view StandsAfter (λ (world : WorldState). world.limits)) limits run → IsLegal limits run
+shown_so_far : (limits : Limits) (run : Run) → IsShownSoFar (solo_view IsAfter (λ (client : LocalState). client.world.limits)) (solo_view StandsAfter (λ (world : WorldState). world.limits)) limits run → IsLegal limits run
 shown_so_far limits run h =
-    ⊎_elim (λ (stood : IsShown (desk_view IsAfter (λ (client : LocalState). client.world.limits)) limits run). subst (λ (l : Limits). IsLegal l run) stood.limits_are stood.after.stands.legal)
-    (λ (left : IsShown (desk_view StandsAfter (λ (world : WorldState). world.limits)) limits (with_ends run)). (shown_legal limits (with_ends run) left).1.1.1.1) h
+    ⊎_elim (λ (stood : IsShown (solo_view IsAfter (λ (client : LocalState). client.world.limits)) limits run). subst (λ (l : Limits). IsLegal l run) stood.limits_are stood.after.stands.legal)
+    (λ (left : IsShown (solo_view StandsAfter (λ (world : WorldState). world.limits)) limits (with_ends run)). (shown_legal limits (with_ends run) left).1.1.1.1) h
 
 pub returns : goal.returns
 returns g c =
     let state = sink_state g.W.Write.contents g.W.Sink.pending g.W.Sink.failures in
-    ends_too (IsShown (desk_view StandsAfter (λ (world : WorldState). world.limits))) (IsShownSoFar (desk_view IsAfter (λ (client : LocalState). client.world.limits)) (desk_view StandsAfter (λ (world : WorldState). world.limits))) IsLegal c.args.script (state c.args.output.now) (state c.play_over.new.output) (fault_in c.play_over.result) shown_legal shown_so_far c.play_over.ensures
+    ends_too (IsShown (solo_view StandsAfter (λ (world : WorldState). world.limits))) (IsShownSoFar (solo_view IsAfter (λ (client : LocalState). client.world.limits)) (solo_view StandsAfter (λ (world : WorldState). world.limits))) IsLegal c.args.script (state c.args.output.now) (state c.play_over.new.output) (fault_in c.play_over.result) shown_legal shown_so_far c.play_over.ensures
 
-pub unwrap-desk-requires : goal.unwrap-desk-requires
-unwrap-desk-requires g c =
+pub unwrap-queue-requires : goal.unwrap-queue-requires
+unwrap-queue-requires g c =
     let ok : is_ok c.new.result ≡ true = c.new.ensures.open [] c.in-Ok.ensures.new
     ∙ open_at c.in-Ok.world.limits 1 [] (ap (λ (l : Limits). l.clients) c.in-Ok.ensures.limits) (omega arith, omega arith) refl in
     search rules

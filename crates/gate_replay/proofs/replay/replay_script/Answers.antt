@@ -1,6 +1,6 @@
-use Rattle.gate_desk.specs.Allowed.{IsAllowed}
+use Rattle.gate_solo.specs.Allowed.{IsAllowed}
 use Rattle.gate_reader.specs.Sink.{sink_state}
-use Rattle.gate_replay.specs.Replay.{fault_in}
+use Rattle.gate_reader.specs.Fault.{fault_in}
 use Rattle.gate_replay.proofs.ReplayTexts.{played_input}
 use Rattle.gate_replay.proofs.replay.replay_script.Goals as goal
 

@@ -1,0 +1,162 @@
+use crate::fakes::{AlwaysAt, config, is_reached, packet};
+use gate_daemon::{Endpoint, Endpoints, run_gateway};
+use gate_worker::{Connections, Hold, Point, Wake};
+use std::alloc::Global;
+use std::sync::Wait;
+use std::sync::atomic::{AtomicU64, Ordering};
+use std::thread;
+use std::thread::Threads;
+use std::time::Clock;
+
+// How often who wakes a thread looks whether it has gone on: far less often than a thread looks
+// whether it is woken.
+const TURNS: u64 = 10_000;
+
+// The page of a gateway without objects that is closing.
+const LAST_PAGE: &[u8] = b"status 1000\nclosing;1000\n";
+
+// How often threads were woken, and what they served.
+#[derive(Drop)]
+struct Seen {
+    agents: AtomicU64,
+    pages: AtomicU64,
+    packets: AtomicU64,
+    lines: AtomicU64,
+    shown: AtomicU64,
+    last_pages: AtomicU64,
+}
+
+fn nothing_seen() -> Seen {
+    Seen {
+        agents: AtomicU64::new(0),
+        pages: AtomicU64::new(0),
+        packets: AtomicU64::new(0),
+        lines: AtomicU64::new(0),
+        shown: AtomicU64::new(0),
+        last_pages: AtomicU64::new(0),
+    }
+}
+
+fn wait_for(count: &AtomicU64) {
+    for _ in 0..TURNS {
+        if count.load(Ordering::SeqCst) > 0 {
+            return;
+        }
+        thread::yield_now();
+    }
+}
+
+// Whoever is woken goes on before the gateway does.
+impl Wake for Seen {
+    fn agents(&self) {
+        self.agents.fetch_add(1, Ordering::SeqCst);
+        wait_for(&self.packets);
+    }
+
+    fn pages(&self) {
+        self.pages.fetch_add(1, Ordering::SeqCst);
+        wait_for(&self.shown);
+    }
+}
+
+// One connection, which sends these bytes and comes once its thread is woken, or at once.
+#[derive(Drop)]
+struct OnePeer<'a> {
+    alloc: Global,
+    is_left: bool,
+    bytes: &'a [u8],
+    woken: Option<&'a AtomicU64>,
+    seen: &'a Seen,
+}
+
+fn one_that_sends<'a>(
+    alloc: Global,
+    bytes: &'a [u8],
+    woken: Option<&'a AtomicU64>,
+    seen: &'a Seen,
+) -> OnePeer<'a> {
+    OnePeer {
+        alloc,
+        is_left: true,
+        bytes,
+        woken,
+        seen,
+    }
+}
+
+impl<'a> Connections for OnePeer<'a> {
+    type In = &'a [u8];
+
+    type Out = Vec<u8>;
+
+    fn next(&mut self) -> Option<(&'a [u8], Vec<u8>)> {
+        if !self.is_left {
+            return None;
+        }
+        self.is_left = false;
+        match self.woken {
+            Some(woken) if !is_reached(woken, 1) => None,
+            _ => Some((self.bytes, Vec::new(self.alloc))),
+        }
+    }
+
+    fn part(&mut self, _input: &'a [u8], output: Vec<u8>) {
+        if output.as_slice() == LAST_PAGE {
+            self.seen.last_pages.fetch_add(1, Ordering::SeqCst);
+        }
+        if output.as_slice().starts_with(b"status") {
+            self.seen.shown.fetch_add(1, Ordering::SeqCst);
+        }
+    }
+}
+
+// Counts the connections that a worker serves.
+#[derive(Clone, Copy)]
+struct Served<'a> {
+    count: &'a AtomicU64,
+}
+
+impl<'a> Hold for Served<'a> {
+    fn pass(&mut self, point: Point) {
+        if point == Point::Session {
+            self.count.fetch_add(1, Ordering::SeqCst);
+        }
+    }
+}
+
+// Runs a worker of packets, whose sender comes once it is woken, and a reader of a page who comes
+// once the pages are woken, beside an operator who shuts down. How many packets, lines and pages
+// were served, and how many of these were the last page.
+fn close_on<R: Threads + Wait + Clock + Sync>(rt: &R, alloc: Global) -> Option<[u64; 4]> {
+    let bytes = packet(alloc)?;
+    let seen = nothing_seen();
+    let mut senders = Vec::with_capacity(alloc, 1).ok()?;
+    senders.push_reserved(Endpoint {
+        connections: one_that_sends(alloc, &bytes, Some(&seen.agents), &seen),
+        hold: Served {
+            count: &seen.packets,
+        },
+    });
+    let operators = Served { count: &seen.lines };
+    let endpoints = Endpoints {
+        agents: senders,
+        operator: Endpoint {
+            connections: one_that_sends(alloc, b"[1] SHUTDOWN_PROGRAM\n", None, &seen),
+            hold: operators,
+        },
+        pages: one_that_sends(alloc, b"", Some(&seen.pages), &seen),
+        applier: operators,
+    };
+    let config = config(alloc, 1)?;
+    let finished = run_gateway(rt, alloc, config, endpoints, &AlwaysAt(1000), &seen).ok()?;
+    drop(finished);
+    let counts = [&seen.packets, &seen.lines, &seen.shown, &seen.last_pages];
+    Some(counts.map(|count| count.load(Ordering::SeqCst)))
+}
+
+// Woken before the gate is closed, the worker would serve its sender; woken before the board is
+// marked closing, the pages would show an earlier one.
+#[test]
+fn threads_are_woken_once_there_is_nothing_more_to_wait_for(rt: HostRuntime) {
+    assert!(rt; close_on(&rt, rt.alloc()) == Some([0, 1, 1, 1]));
+}

@@ -1,0 +1,52 @@
+use Rattle.std.proofs.Common.{◌≡◌, ◌+◌, ◌≤◌, [], ◌∷◌, ◌++◌, length, length-append, sym, ap, ◌∙◌, subst, arith}
+use Rattle.std.proofs.lemmas.List.Elements.{All-push}
+use Rattle.gate_queue.specs.Client.{ClientState}
+use Rattle.gate_daemon.specs.inner.Collecting.{AreOf}
+use Rattle.gate_daemon.proofs.Clients.{last_client, all_ended}
+use Rattle.gate_daemon.proofs.workers.+run_workers.Goals as goal
+
+pub start_worker-requires-clause-gate : goal.start_worker-requires-clause-gate
+start_worker-requires-clause-gate g t c κs within =
+    ap (λ (x : ClientState). x.gate) (last_client c.args.shared.now.gate.now c.args.workers.clients.items c.pop.new.self.items c.in-Some.client c.requires.new.all c.in-Some.ensures.items).0
+
+pub start_worker-requires-clause-fresh : goal.start_worker-requires-clause-fresh
+start_worker-requires-clause-fresh g t c κs within =
+    ap (λ (x : ClientState). x.queued) (last_client c.args.shared.now.gate.now c.args.workers.clients.items c.pop.new.self.items c.in-Some.client c.requires.new.all c.in-Some.ensures.items).0
+
+pub run_workers-collected-requires-clause-new : goal.run_workers-collected-requires-clause-new
+run_workers-collected-requires-clause-new g t c κs within =
+    let clients = c.pop.new.self.items in
+    let endpoints = c.pop-2.new.self.items in
+    let a : length c.args.workers.clients.items ≡ length (clients ++ c.in-Some.client ∷ []) = ap length c.in-Some.ensures.items in
+    let b : length (clients ++ c.in-Some.client ∷ []) ≡ length clients + 1 = length-append clients (c.in-Some.client ∷ []) in
+    let d : length c.args.workers.endpoints.items ≡ length (endpoints ++ c.in-Some-pop.endpoint ∷ []) = ap length c.in-Some-pop.ensures.items in
+    let e : length (endpoints ++ c.in-Some-pop.endpoint ∷ []) ≡ length endpoints + 1 = length-append endpoints (c.in-Some-pop.endpoint ∷ []) in
+    let same : length c.args.workers.endpoints.items ≡ length c.args.workers.clients.items = c.requires.new.count in
+    record {
+      all = (last_client c.args.shared.now.gate.now c.args.workers.clients.items clients c.in-Some.client c.requires.new.all c.in-Some.ensures.items).1;
+      count = omega arith;
+      operators = c.requires.new.operators;
+      fresh = c.requires.new.fresh;
+    }
+
+pub returns-in-Ok-clause-ends : goal.returns-in-Ok-clause-ends
+returns-in-Ok-clause-ends g t c =
+    let gate = c.args.shared.now.gate.now in
+    let clients = c.args.workers.clients.items in
+    let rest = c.pop.new.self.items in
+    let before = c.run_workers-collected.result.0.ended.items in
+    let ends = c.run_workers-collected.ensures.ends in
+    let a : length clients ≡ length (rest ++ c.in-Some.client ∷ []) = ap length c.in-Some.ensures.items in
+    let b : length (rest ++ c.in-Some.client ∷ []) ≡ length rest + 1 = length-append rest (c.in-Some.client ∷ []) in
+    let d : length c.add.new.self.ended.items ≡ length (before ++ c.join.result.ended ∷ []) = ap length c.add.ensures.ended in
+    let e : length (before ++ c.join.result.ended ∷ []) ≡ length before + 1 = length-append before (c.join.result.ended ∷ []) in
+    let few : length before ≤ length rest + 1 = ends.few in
+    record {
+      all = λ all. all_ended gate clients rest before c.add.new.self.ended.items c.in-Some.client c.join.result.ended c.args.workers.operator.number
+          c.requires.new.all c.in-Some.ensures.items (c.join.ensures.1 ∙ c.in-Ok.ensures.1) c.add.ensures.ended (ends.all all);
+      few = omega arith;
+      gates = subst (AreOf gate) (sym c.add.ensures.ended)
+          (All-push (λ (e : ClientState). e.gate ≡ gate) before c.join.result.ended ends.gates (c.join.ensures.0 ∙ c.in-Ok.ensures.0));
+      ended_room = c.add.ensures.room.0 ∙ ends.ended_room;
+      reports_room = c.add.ensures.room.1 ∙ ends.reports_room;
+    }

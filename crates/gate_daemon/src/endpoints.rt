@@ -1,0 +1,19 @@
+/// A worker's connections, and its hold.
+#[derive(Drop)]
+pub struct Endpoint<C, H> {
+    pub connections: C,
+    pub hold: H,
+}
+
+/// What the threads of a gateway serve, and their holds.
+#[derive(Drop)]
+pub struct Endpoints<C, H> {
+    /// Of each worker of packets: clients 1, 2 and so on.
+    pub agents: Vec<Endpoint<C, H>>,
+    /// Of the operator's worker, who is the last client.
+    pub operator: Endpoint<C, H>,
+    /// The connections that get the status page.
+    pub pages: C,
+    /// The applier's hold.
+    pub applier: H,
+}

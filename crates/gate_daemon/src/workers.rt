@@ -1,0 +1,154 @@
+ghost use Rattle.std.specs.Prelude.{◌≡◌, ◌+◌, [], length};
+ghost use Rattle.gate_daemon.specs.inner.Joining.{AreCollected, AreNew, HasRoom};
+
+use crate::closing::close_and_wake;
+use crate::collected::Collected;
+use crate::endpoints::Endpoint;
+use crate::shared::Shared;
+use crate::starting::{Unstarted, start_worker};
+use gate_queue::{Client, Closer};
+use gate_worker::{Cause, Connections, Hold, Wake, Watch, WorkerLimits};
+use std::sync::Wait;
+use std::thread::{Scope, Threads};
+use std::time::Clock;
+
+// What the operator's worker serves: were its connections limited, nobody could shut the daemon
+// down once they are used up.
+fn unlimited(limits: WorkerLimits) -> WorkerLimits
+    ensures { result ≡ record limits { sessions = 4294967295 } }
+{
+    WorkerLimits {
+        sessions: u32::MAX,
+        ..limits
+    }
+}
+
+// The workers before they start: the clients and endpoints of those of packets, those of the operator's
+// worker, and room for what all of them return.
+#[derive(Drop)]
+pub(crate) struct Workers<C, H> {
+    pub(crate) clients: Vec<Client>,
+    pub(crate) endpoints: Vec<Endpoint<C, H>>,
+    pub(crate) operator: Client,
+    pub(crate) operator_endpoint: Endpoint<C, H>,
+    pub(crate) collected: Collected,
+}
+
+// Starts the operator's worker, and joins it: why it ended. None: it was not started.
+//
+// Where memory for its next report is missing, or it has served as many connections as it may,
+// nobody can shut the daemon down any more: the gate is closed then, as it is where it was not
+// started.
+fn run_operator<
+    's,
+    E,
+    R: Threads + Wait + Clock + Sync,
+    C: Connections + Send + Drop + 's,
+    K: Watch + Sync,
+    H: Hold + Send + Drop + 's,
+    W: Wake,
+>(
+    shared: &Shared<'s, R, K, W>,
+    scope: &Scope<'s, E>,
+    client: Client,
+    endpoint: Endpoint<C, H>,
+    closer: &mut Closer,
+    collected: &mut Collected,
+) -> Option<Cause>
+    requires gate { client.gate ≡ shared.now.gate.now }
+    requires closer { closer.old.cell ≡ shared.now.gate.now.cell }
+    requires fresh { client.queued ≡ [] }
+    requires room { HasRoom 1 collected.old }
+    ensures closer { closer.new.cell ≡ shared.now.gate.now.cell }
+    ensures ends { AreCollected shared.now.gate.now 0 client.number collected.old collected.new result }
+{
+    let spare = Some(closer.another());
+    let of_operator = Shared {
+        limits: unlimited(shared.limits),
+        ..*shared
+    };
+    match start_worker(&of_operator, scope, client, spare, endpoint) {
+        Ok(handle) => {
+            let end = handle.join(shared.rt);
+            let cause = end.cause;
+            match cause {
+                Cause::Closing | Cause::TooManySessions | Cause::OutOfMemory => {
+                    close_and_wake(shared, closer);
+                }
+                Cause::NoMoreConnections => {}
+            }
+            collected.add(end);
+            Some(cause)
+        }
+        Err(Unstarted) => {
+            close_and_wake(shared, closer);
+            None
+        }
+    }
+}
+
+// Starts a worker of packets, goes on to the next one, and then joins it; the last of them goes on
+// to the operator's. What they returned, and why the operator's ended, if all were started. Where
+// one can't be started, the gate is closed.
+pub(crate) fn run_workers<
+    's,
+    E,
+    R: Threads + Wait + Clock + Sync,
+    C: Connections + Send + Drop + 's,
+    H: Hold + Send + Drop + 's,
+    K: Watch + Sync,
+    W: Wake,
+>(
+    shared: &Shared<'s, R, K, W>,
+    scope: &Scope<'s, E>,
+    workers: Workers<C, H>,
+    closer: &mut Closer,
+) -> (Collected, Option<Cause>)
+    requires new { AreNew shared.now.gate.now
+        workers.clients.items (length workers.endpoints.items) workers.operator }
+    requires closer { closer.old.cell ≡ shared.now.gate.now.cell }
+    requires room { HasRoom (length workers.clients.items + 1) workers.collected }
+    ensures closer { closer.new.cell ≡ shared.now.gate.now.cell }
+    ensures ends { AreCollected shared.now.gate.now (length workers.clients.items) workers.operator.number
+        workers.collected result.0 result.1 }
+{
+    let Workers {
+        mut clients,
+        mut endpoints,
+        operator,
+        operator_endpoint,
+        mut collected,
+    } = workers;
+    let Some(client) = clients.pop() else {
+        let cause = run_operator(
+            shared,
+            scope,
+            operator,
+            operator_endpoint,
+            closer,
+            &mut collected,
+        );
+        return (collected, cause);
+    };
+    let Some(endpoint) = endpoints.pop() else {
+        unreachable!()
+    };
+    match start_worker(shared, scope, client, None, endpoint) {
+        Ok(handle) => {
+            let others = Workers {
+                clients,
+                endpoints,
+                operator,
+                operator_endpoint,
+                collected,
+            };
+            let (mut collected, cause) = run_workers(shared, scope, others, closer);
+            collected.add(handle.join(shared.rt));
+            (collected, cause)
+        }
+        Err(Unstarted) => {
+            close_and_wake(shared, closer);
+            (collected, None)
+        }
+    }
+}

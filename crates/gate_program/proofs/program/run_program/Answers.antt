@@ -1,9 +1,0 @@
-use Rattle.gate_desk.specs.Allowed.{IsAllowed}
-use Rattle.gate_program.proofs.Unknown.{unknown_replay, unknown_serve}
-use Rattle.gate_program.proofs.program.run_program.Goals as goal
-
-pub returns-in-Err-clause-replay : goal.returns-in-Err-clause-replay
-returns-in-Err-clause-replay g c = λ is. unknown_replay IsAllowed _ _ _ _ _ c.in-Err.fault c.from.result _ c.from.ensures c.in-Err.ensures.refused is c.end.ensures
-
-pub returns-in-Err-clause-serve : goal.returns-in-Err-clause-serve
-returns-in-Err-clause-serve g c = λ path is. unknown_serve path _ _ _ _ c.in-Err.fault c.from.result _ c.from.ensures c.in-Err.ensures.refused is c.end.ensures

@@ -1,0 +1,120 @@
+ghost use Rattle.std.specs.Prelude.{◌≡◌, ◌≢◌, length, IfOk, IfErr, OnOk};
+ghost use Rattle.gate_core.specs.Legal.{Run};
+ghost use Rattle.gate_reader.specs.Sink.{SinkState};
+ghost use Rattle.gate_replay.specs.ReplayState.{ReplayState};
+ghost use Rattle.gate_replay.specs.inner.Playing.{solo_view, Setting, Shows, IsUnderWay, Takes, Drains, DrainsFull, DrainsPart, FindsFull, StopsBy};
+
+use crate::player::{Player, Stopped};
+use gate_applier::{Applier, PrepareCause, PrepareFault, Ready};
+use gate_solo::SoloQueue;
+
+// Makes room for a record, or stops.
+fn prepare(applier: Applier) -> Result<Ready, Stopped>
+    ensures ready { IfOk result (λ ready. ready ≡ record applier { room = ready.room }) }
+    ensures stopped { IfErr result (StopsBy
+        (λ kept. (kept ≡ applier) × (length applier.records ≡ applier.limit))
+        (λ kept. kept ≡ applier) (λ _. ⊥)) }
+    ensures room { OnOk result (length applier.records ≢ applier.limit) }
+{
+    match applier.prepare() {
+        Ok(ready) => Ok(ready),
+        Err(
+            PrepareFault {
+                cause: PrepareCause::LogFull,
+                applier,
+            },
+        ) => Err(Stopped::Full(applier)),
+        Err(
+            PrepareFault {
+                cause: PrepareCause::OutOfMemory,
+                applier,
+            },
+        ) => Err(Stopped::OutOfMemory(applier)),
+    }
+}
+
+impl<D: SoloQueue + Drop> Player<D>
+where
+    D::Ended: Drop,
+{
+    // Takes an item and records it. Without one there is nothing more to take. The queue is ended
+    // where the log is full.
+    fn take_one(self) -> Result<(Player<D>, bool), Stopped>
+        requires { (run : Run) × D.after self.queue run }
+        ensures taken { IfOk result (λ turn.
+            Takes (solo_view D.after D.limits) self turn.0 turn.1) }
+        ensures stopped { let view = solo_view D.after D.limits in
+            let ended = solo_view D.Ended.after D.Ended.limits in
+            IfErr result (StopsBy (FindsFull view ended self) (λ kept. kept ≡ self.applier)
+            (λ _. ⊥)) }
+    {
+        let Player {
+            queue,
+            applier,
+            clock,
+            age,
+            queued,
+        } = self;
+        let ready = match prepare(applier) {
+            Ok(ready) => ready,
+            Err(stop) => {
+                let _ended = queue.end();
+                return Err(stop);
+            }
+        };
+        let (queue, item) = queue.take();
+        match item {
+            Some(item) => {
+                let (applier, _) = ready.apply(item, clock);
+                let player = Player {
+                    queue,
+                    applier,
+                    clock,
+                    age,
+                    queued,
+                };
+                Ok((player, true))
+            }
+            None => {
+                let applier = ready.give_back();
+                let player = Player {
+                    queue,
+                    applier,
+                    clock,
+                    age,
+                    queued,
+                };
+                Ok((player, false))
+            }
+        }
+    }
+
+    // Records what is queued.
+    pub(crate) fn drain(self) -> Result<Player<D>, Stopped>
+        requires { (output : SinkState) × IsUnderWay (solo_view D.after D.limits) self output }
+        ensures drained { let view = solo_view D.after D.limits in
+            IfOk result (λ now. (s : Setting) (output : SinkState) (g : ReplayState)
+            → Shows view s self output g → Drains view s now output g) }
+        ensures stopped { let view = solo_view D.after D.limits in
+            let ended = solo_view D.Ended.after D.Ended.limits in
+            IfErr result (StopsBy (λ kept. (s : Setting) (output : SinkState)
+            (g : ReplayState) → Shows view s self output g → DrainsFull ended s kept output g)
+            (λ kept. (s : Setting) (output : SinkState) (g : ReplayState)
+            → Shows view s self output g → DrainsPart view s kept output g)
+            (λ _. ⊥)) }
+    {
+        let mut player = self;
+        while (player.applier.records().len() as u64) < player.queued {
+            match player.take_one() {
+                Ok(turn) => {
+                    if !turn.1 {
+                        return Ok(turn.0);
+                    }
+                    player = turn.0;
+                }
+                Err(stop) => return Err(stop),
+            }
+        }
+        Ok(player)
+    }
+}

@@ -1,0 +1,81 @@
+ghost use Rattle.std.specs.Prelude.{◌≡◌, ◌⊎◌, ◌++◌, IfOk, IfErr, OnOk};
+ghost use Rattle.gate_reader.specs.Sink.{sink_state, Delivers};
+ghost use Rattle.gate_serve.specs.Setup.{address_line, address_lines, IsWriteEnd};
+
+use crate::fault::ServeFault;
+use gate_reader::{Sink, put_last};
+use std::alloc::{AllocError, Global};
+use std::io;
+use std::io::ErrorKind;
+use std::net::SocketAddr;
+
+// The fault that a failed write or flush is: out of memory for what was written, or a failed output.
+fn write_fault(error: &io::Error) -> ServeFault
+    ensures { (result ≡ ServeFault.OutOfMemory) ⊎ (result ≡ ServeFault.WriteFault) }
+{
+    match error.kind() {
+        ErrorKind::OutOfMemory => ServeFault::OutOfMemory,
+        _ => ServeFault::WriteFault,
+    }
+}
+
+/// Prints a text, and flushes.
+pub(crate) fn print<W: Sink>(output: &mut W, text: &[u8]) -> Result<(), ServeFault>
+    ensures ok { let state = sink_state W.contents W.pending W.failures in
+        OnOk result (Delivers (state output.old) (state output.new) text.now) }
+    ensures err { let state = sink_state W.contents W.pending W.failures in
+        IfErr result (IsWriteEnd (state output.old) (state output.new)) }
+{
+    match put_last(output, text) {
+        Ok(()) => Ok(()),
+        Err(error) => Err(write_fault(&error)),
+    }
+}
+
+// Appends a line of a name and an address.
+fn push_line(
+    alloc: Global,
+    out: &mut Vec<u8>,
+    name: &[u8],
+    address: SocketAddr,
+) -> Result<(), AllocError>
+    ensures { OnOk result (out.new.items ≡ out.old.items ++ address_line name.now address) }
+{
+    let shown = address.to_string(alloc)?;
+    out.extend_from_slice(name)?;
+    out.extend_from_slice(shown.as_bytes())?;
+    out.extend_from_slice(b"\n")
+}
+
+fn address_lines(
+    alloc: Global,
+    agents: SocketAddr,
+    operators: SocketAddr,
+    pages: SocketAddr,
+) -> Result<Vec<u8>, AllocError>
+    ensures { IfOk result (λ text. text.items ≡ address_lines agents operators pages) }
+{
+    let mut text = Vec::new(alloc);
+    push_line(alloc, &mut text, b"agents ", agents)?;
+    push_line(alloc, &mut text, b"operators ", operators)?;
+    push_line(alloc, &mut text, b"pages ", pages)?;
+    Ok(text)
+}
+
+/// Prints the three addresses, each on a line, and flushes.
+pub(crate) fn announce<W: Sink>(
+    alloc: Global,
+    agents: SocketAddr,
+    operators: SocketAddr,
+    pages: SocketAddr,
+    output: &mut W,
+) -> Result<(), ServeFault>
+    ensures ok { let state = sink_state W.contents W.pending W.failures in
+        OnOk result (Delivers (state output.old) (state output.new)
+        (address_lines agents operators pages)) }
+    ensures err { let state = sink_state W.contents W.pending W.failures in
+        IfErr result (IsWriteEnd (state output.old) (state output.new)) }
+{
+    let text = address_lines(alloc, agents, operators, pages)?;
+    print(output, &text)
+}

@@ -1,2 +1,0 @@
--- Only proofs and private functions use these.
-pub mod Reading

@@ -1,0 +1,5 @@
+pub mod Allowed
+pub mod SoloWorld
+pub mod SoloGate
+pub mod Ending
+pub mod laws

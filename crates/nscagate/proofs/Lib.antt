@@ -1,0 +1,3 @@
+mod Examples
+pub mod Unknown
+pub mod WordSteps

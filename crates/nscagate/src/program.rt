@@ -1,0 +1,57 @@
+ghost use Rattle.std.specs.Prelude.{◌≡◌, ◌≢◌, ℕ, List, Some, None, map, string_bytes};
+ghost use Rattle.gate_solo.specs.Allowed.{IsAllowed};
+ghost use Rattle.gate_reader.specs.Sink.{sink_state};
+ghost use Rattle.nscagate.specs.Words.{asked_of, replay, serve};
+ghost use Rattle.gate_replay.specs.Replay.{IsReplayRun};
+ghost use Rattle.nscagate.specs.Program.{IsRefused};
+ghost use Rattle.gate_serve.specs.Serve.{IsServeRun};
+
+use crate::fault::ProgramFault;
+use crate::words::{Request, read_words};
+use gate_reader::{Sink, end_with};
+use gate_replay::run_replay;
+use gate_serve::run_serve;
+use std::alloc::Global;
+use std::fs::Files;
+use std::io::Read;
+use std::net::{Net, TcpListener, TcpStream};
+use std::sync::Wait;
+use std::thread::Threads;
+use std::time::Clock;
+
+/// Runs the program with the words after its name, and returns the exit status.
+///
+/// `replay` replays the script on `input`, as `run_replay` does. `serve --config PATH`, in any
+/// spelling that `clap` reads, runs the daemon, as `run_serve` does. Any other words, or none, are
+/// refused with status 2 and the line `nscagate: bad arguments` on `errors`: nothing is read and
+/// nothing printed. Memory may run out before the words are known: the status is 3 and the line
+/// `nscagate: OutOfMemory`. That a line can't be written to `errors` changes nothing. Own rules.
+pub fn run_program<
+    T: Files + Net<Listener = TcpListener, Stream = TcpStream> + Threads + Wait + Clock + Sync,
+    R: Read,
+    W: Sink,
+    E: Sink,
+>(rt: &T, alloc: Global, words: &[String], input: &mut R, output: &mut W, errors: &mut E) -> u8
+    ensures replay { asked_of (map string_bytes words.now) ≡ Some replay →
+        let of_output = sink_state W.contents W.pending W.failures in
+        let of_errors = sink_state E.contents E.pending E.failures in
+        IsReplayRun IsAllowed (R.remaining input.old) (of_output output.old) (of_output output.new)
+        (of_errors errors.old) (of_errors errors.new) result }
+    ensures serve { (path : List ℕ) → asked_of (map string_bytes words.now) ≡ Some (serve path) →
+        let of_output = sink_state W.contents W.pending W.failures in
+        let of_errors = sink_state E.contents E.pending E.failures in
+        IsServeRun (of_output output.old) (of_output output.new)
+        (of_errors errors.old) (of_errors errors.new) result }
+    ensures refused { asked_of (map string_bytes words.now) ≡ None →
+        let state = sink_state E.contents E.pending E.failures in
+        IsRefused (state errors.old) (state errors.new) result }
+
+    ensures unread { asked_of (map string_bytes words.now) ≢ Some replay → input.new ≡ input.old }
+    ensures unprinted { asked_of (map string_bytes words.now) ≡ None → output.new ≡ output.old }
+{
+    match read_words(alloc, words) {
+        Ok(Request::Replay) => run_replay(rt, alloc, input, output, errors),
+        Ok(Request::Serve(path)) => run_serve(rt, alloc, path, output, errors),
+        Err(fault) => end_with(&Some(ProgramFault::from(fault)), errors),
+    }
+}

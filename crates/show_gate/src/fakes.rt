@@ -1,0 +1,79 @@
+use gate_model::Moment;
+use gate_reader::{SessionLimits, Sink};
+use gate_worker::{Connections, Wake, Watch, WorkerLimits};
+use std::io;
+use std::io::Write;
+
+/// A writer that drops what is written.
+#[derive(Drop)]
+pub struct Nowhere;
+
+impl Write for Nowhere {
+    fn write(&mut self, buf: &[u8]) -> io::Result<usize> {
+        Ok(buf.len())
+    }
+
+    fn flush(&mut self) -> io::Result<()> {
+        Ok(())
+    }
+}
+
+impl Sink for Nowhere {
+    fn put(&mut self, bytes: &[u8]) -> io::Result<()> {
+        self.write_all(bytes)
+    }
+
+    fn deliver(&mut self) -> io::Result<()> {
+        self.flush()
+    }
+}
+
+/// Some connections, each of which sends these bytes.
+#[derive(Drop)]
+pub struct Sending<'a> {
+    pub connections: u32,
+    pub bytes: &'a [u8],
+}
+
+impl<'a> Connections for Sending<'a> {
+    type In = &'a [u8];
+
+    type Out = Nowhere;
+
+    fn next(&mut self) -> Option<(&'a [u8], Nowhere)> {
+        if self.connections == 0 {
+            return None;
+        }
+        self.connections -= 1;
+        Some((self.bytes, Nowhere))
+    }
+}
+
+/// A clock that stands at this moment.
+pub struct AlwaysAt(pub u32);
+
+impl Watch for AlwaysAt {
+    fn read(&self) -> Moment {
+        Moment(self.0)
+    }
+}
+
+/// Nobody is woken: connections of this program don't wait.
+pub struct NoWake;
+
+impl Wake for NoWake {
+    fn agents(&self) {}
+
+    fn pages(&self) {}
+}
+
+pub fn limits(sessions: u32) -> WorkerLimits {
+    WorkerLimits {
+        sessions,
+        session: SessionLimits {
+            items: 10,
+            reads: 100,
+        },
+        greatest_age: 0,
+    }
+}
