@@ -1,8 +1,10 @@
-"""Plays what the applier shows by time alone, and with little memory or few descriptors: python3 boards_test.py PROGRAM
-[FAIL_ALLOC], the library of fail_alloc.c. Each play has a daemon of its own, and all run side by side. Ends with a line
-'N passed, M failed'."""
+"""Plays what the applier shows by time alone, and with little memory, few descriptors or a thread too few: python3
+boards_test.py PROGRAM [FAIL_ALLOC], the library of fail_alloc.c. Each play has a daemon of its own, and all run side by
+side. Ends with a line 'N passed, M failed'."""
 import os
 import re
+import resource
+import subprocess
 import sys
 import tempfile
 import threading
@@ -89,9 +91,14 @@ def play_two_of_one_second(program, folder):
 
 
 def play_few_descriptors(program, folder):
-    """With 16 descriptors and 40 connections the daemon goes on: it serves again once they have gone."""
+    """With 16 descriptors and 40 connections the daemon goes on: it serves again once they have gone, even if for a second it
+    could accept none of them."""
     daemon = Daemon(os.path.join(os.path.dirname(folder), "few_descriptors"), folder, CONFIGURATION)
+    resource.prlimit(daemon.process.pid, resource.RLIMIT_NOFILE, (3, 16))
     opened = [daemon.connect(name) for name in ["agents", "operators", "pages", "agents"] * 10]
+    time.sleep(1.0)
+    check("few descriptors: it runs without any", daemon.process.poll(), None)
+    resource.prlimit(daemon.process.pid, resource.RLIMIT_NOFILE, (16, 16))
     time.sleep(1.0)
     check("few descriptors: it runs", daemon.process.poll(), None)
     for connection in opened:
@@ -139,7 +146,10 @@ def play_little_memory(_, folder):
     def run(number):
         own = os.path.join(folder, str(number))
         os.mkdir(own)
-        found[number] = refuse(own)
+        try:
+            found[number] = refuse(own)
+        except Exception:  # one that breaks off has failed
+            found[number] = traceback.format_exc()
 
     first = 1
     while list(found.values()).count("goes on") < 20 and first < 1000:
@@ -155,6 +165,30 @@ def play_little_memory(_, folder):
     check("little memory: boards were among them", list(found.values()).count("goes on") >= 20, True)
 
 
+def play_a_thread_too_few(_, folder):
+    """Whichever of its threads isn't started, the daemon ends by itself, and reports it."""
+    if len(sys.argv) < 3:
+        print("a thread too few ... skipped: there is no library that refuses one")
+        return
+    program = os.path.join(folder, "..", "thread_too_few")
+    workers = 3
+    threads = workers + 3  # an applier, pages and an operator
+    for number in range(1, threads + 1):
+        own = os.path.join(folder, str(number))
+        os.mkdir(own)
+        daemon = Daemon(program, own, f"workers = {workers}\n" + CONFIGURATION)
+        try:
+            ended = daemon.end(10.0)
+        except subprocess.TimeoutExpired:
+            daemon.process.kill()
+            daemon.end()
+            ended = "it goes on"
+        check(f"a thread too few: without thread {number} the daemon ends", ended, (3, "", "nscagate: Spawn\n"))
+    own = os.path.join(folder, str(threads + 1))
+    os.mkdir(own)
+    end(Daemon(program, own, f"workers = {workers}\n" + CONFIGURATION), "a thread too few: with all threads")
+
+
 PLAYS = [play for name, play in sorted(globals().items()) if name.startswith("play_")]
 
 
@@ -165,6 +199,8 @@ def main():
             wrapped(sys.argv[1], folder, "little_memory",
                     f"folder=$(dirname \"$3\")\nexport LD_PRELOAD='{sys.argv[2]}' FAIL_ALLOC=\"$(basename \"$folder\")\""
                     " FAIL_ALLOC_MARK=\"$folder/refused\"")
+            wrapped(sys.argv[1], folder, "thread_too_few",
+                    f"export LD_PRELOAD='{sys.argv[2]}' FAIL_THREAD=\"$(basename \"$(dirname \"$3\")\")\"")
 
         def run(play):
             own = os.path.join(folder, play.__name__)

@@ -1,12 +1,14 @@
 /*
  * For LD_PRELOAD: refuses one request for memory of a program, the one of the number FAIL_ALLOC, and grants all others.
  * Requests are counted from 1, from the entry of main to its return, so those of the C library before and after are none.
- * Where one was refused, a file of the name FAIL_ALLOC_MARK stands afterwards. Nothing is printed.
+ * Where one was refused, a file of the name FAIL_ALLOC_MARK stands afterwards. Nothing is printed. In the same way the
+ * thread of the number FAIL_THREAD isn't started.
  */
 #define _GNU_SOURCE
 #include <dlfcn.h>
 #include <errno.h>
 #include <fcntl.h>
+#include <pthread.h>
 #include <stddef.h>
 #include <stdlib.h>
 #include <unistd.h>
@@ -17,6 +19,8 @@ typedef int start_function(main_function *, int, char **, void (*)(void), void (
 static main_function *program_main;
 static unsigned long number_refused;
 static unsigned long requests;
+static unsigned long thread_refused;
+static unsigned long threads;
 static int in_main;
 
 /* The same function of the C library. A dlsym that asks for memory itself finds its function unresolved, and is refused. */
@@ -30,8 +34,8 @@ static void *next_function(void **known, const char *name) {
     return *known;
 }
 
-static int refuses(void) {
-    if (!in_main || ++requests != number_refused) {
+static int is_refused(unsigned long number, unsigned long refused) {
+    if (number != refused) {
         return 0;
     }
     const char *mark = getenv("FAIL_ALLOC_MARK");
@@ -41,9 +45,16 @@ static int refuses(void) {
     return 1;
 }
 
+static int refuses(void) { return in_main && is_refused(__atomic_add_fetch(&requests, 1, __ATOMIC_RELAXED), number_refused); }
+
+static unsigned long number_in(const char *name) {
+    const char *number = getenv(name);
+    return number == NULL ? 0 : strtoul(number, NULL, 10);
+}
+
 static int counted_main(int argc, char **argv, char **envp) {
-    const char *number = getenv("FAIL_ALLOC");
-    number_refused = number == NULL ? 0 : strtoul(number, NULL, 10);
+    number_refused = number_in("FAIL_ALLOC");
+    thread_refused = number_in("FAIL_THREAD");
     in_main = 1;
     int status = program_main(argc, argv, envp);
     in_main = 0;
@@ -105,4 +116,14 @@ int posix_memalign(void **block, size_t alignment, size_t size) {
         return ENOMEM;
     }
     return next(block, alignment, size);
+}
+
+int pthread_create(pthread_t *thread, const pthread_attr_t *settings, void *(*run)(void *), void *argument) {
+    static void *known;
+    int (*next)(pthread_t *, const pthread_attr_t *, void *(*)(void *), void *) =
+        (int (*)(pthread_t *, const pthread_attr_t *, void *(*)(void *), void *))next_function(&known, "pthread_create");
+    if (next == NULL || (in_main && is_refused(__atomic_add_fetch(&threads, 1, __ATOMIC_RELAXED), thread_refused))) {
+        return EAGAIN;
+    }
+    return next(thread, settings, run, argument);
 }

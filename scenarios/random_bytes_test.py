@@ -101,7 +101,7 @@ def play_sessions_of_lines(rng, given, found):
     faults = dict(zip(given, found))
     short = [line for line in given if len(line) < 60]
     streams = [stream_of(rng, short) for _ in range(COUNT)]
-    sessions = run("serve_stream", ["lines", "each=97"], b"".join(streams))
+    sessions = run("show_session", ["lines", "each=97"], b"".join(streams))
     check("as many sessions of lines as streams", len(sessions), COUNT)
     check("a session answers its lines",
           next(((stream, session) for stream, session in zip(streams, sessions)
@@ -121,7 +121,7 @@ def play_sessions_of_packets(rng):
             one = bytearray(rng.choice(good[room]))
             one[offset] ^= rng.randrange(1, 256)
             given.append(bytes(one))
-        found = run("serve_stream", ["packets", f"each={size}"], b"".join(given))
+        found = run("show_session", ["packets", f"each={size}"], b"".join(given))
 
         def expected(offset):
             if size == 720:
@@ -132,12 +132,12 @@ def play_sessions_of_packets(rng):
         check(f"a packet of {size} bytes with one changed is refused",
               next(((offset, line) for offset, line in zip(offsets, found) if not line.startswith(expected(offset))), None), None)
         check(f"a good packet of {size} bytes is queued",
-              [line.startswith(b"End | Queued(1) |") for line in run("serve_stream", ["packets", f"each={size}"], b"".join(good[room]))],
+              [line.startswith(b"End | Queued(1) |") for line in run("show_session", ["packets", f"each={size}"], b"".join(good[room]))],
               [True, True])
     sizes = (1, 720, 4303, 4304, 4305, 9000)
     for size in sizes:
         count = min(COUNT // 50, 2000)
-        found = run("serve_stream", ["packets", f"each={size}", "age=0"],
+        found = run("show_session", ["packets", f"each={size}", "age=0"],
                     b"".join(struct.pack(">H", 3) + rng.randbytes(size - 2) if size > 1 and rng.random() < 0.5 else rng.randbytes(size)
                              for _ in range(count)))
         stop = re.compile(rb"Truncated\(%d\) \| \|.*" % size if size < 4304 else rb"BadPacket\((BadVersion|BadCheckWord)\) \| \|.*", re.DOTALL)

@@ -7,13 +7,14 @@ import struct
 import subprocess
 import sys
 import tempfile
+import threading
 import time
 
 from daemon_clients import CONFIGURATION, PATIENCE, Daemon, ask, check, end_tests, packet, read_all, read_exactly
 
 
 def send(daemon, packets, rest=b""):
-    """Sends packets on one connection, after its greeting, and some bytes behind them."""
+    """Sends packets on one connection, after its greeting, and some bytes after them."""
     with daemon.connect("agents") as connection:
         greeting = read_exactly(connection, 132)
         check("the greeting's first 128 bytes are zeros", greeting[:128], bytes(128))
@@ -21,7 +22,7 @@ def send(daemon, packets, rest=b""):
         check("the greeting has the time", abs(moment - time.time()) < 5, True)
         connection.sendall(b"".join(packet(moment, *one) for one in packets) + rest)
         connection.shutdown(socket.SHUT_WR)
-        check("nothing is written behind the greeting", read_all(connection), b"")
+        check("nothing is written after the greeting", read_all(connection), b"")
 
 
 def send_result(daemon, folder, line):
@@ -80,6 +81,19 @@ def play_a_day(program, folder):
           "[T] 2:1 ACKNOWLEDGE_SVC_PROBLEM;web1;HTTP;2;0;0;ann;on it -> Accepted\n"
           "[T] 2:2 SCHEDULE_HOST_DOWNTIME;web1;T;T;1;0;0;bob;reboot -> Accepted\n"
           "[T] 2:3 DEL_SVC_COMMENT;7 -> NoSuchComment\n")
+
+
+def play_a_dialogue(program, folder):
+    """An operator who waits for each answer before the next line is sent is answered too."""
+    daemon = Daemon(program, folder, CONFIGURATION)
+    answers = []
+    with daemon.connect("operators") as connection:
+        answer = connection.makefile("rb")
+        for line in (b"[1] ADD_HOST_COMMENT;web1;0;ann;hi", b"no time", b"[1] SHUTDOWN_PROGRAM"):
+            connection.sendall(line + b"\n")
+            answers.append(answer.readline())
+    check("each line is answered before the next", answers, [b"queued 1\n", b"bad NoTime\n", b"closing\n"])
+    check("the status after a dialogue", daemon.end()[0], 0)
 
 
 def play_a_burst(program, folder):
@@ -204,33 +218,47 @@ def play_few_sessions(program, folder):
     check("all is logged", output.split("\n", 1)[0], "log 4")
 
 
-def play_four_workers(program, folder):
-    """Of four real clients at once one is silent: with four workers the other three are served within a second."""
-    if not (shutil.which("send_nsca") or shutil.which("send_nsca", path="/usr/sbin")):
-        print("four clients at once ... skipped: send_nsca is not installed")
+def send_at_once(daemon, folder, hosts, is_real):
+    """Each of these hosts sends a result of its own, all at once, by real clients or by own ones."""
+    if is_real:
+        clients = [start_client(daemon, folder, [f"{host}\t1\tfrom {host}"]) for host in hosts]
+        for client in clients:
+            check("the status of a client beside a silent one", client.wait(PATIENCE), 0)
+            client.stdout.close()
+            client.stderr.close()
         return
+    clients = [threading.Thread(target=send, args=(daemon, [(host.encode(), b"", 1, f"from {host}".encode())])) for host in hosts]
+    for client in clients:
+        client.start()
+    for client in clients:
+        client.join()
+
+
+def play_four_workers(program, folder):
+    """Of four clients at once, real ones if they are installed, one is silent: with four workers the other three are served
+    within a second."""
     hosts = ("a", "b", "c")
     daemon = Daemon(program, folder, "workers = 4\n" + CONFIGURATION + "".join(f'[[host]]\nname = "{host}"\n' for host in hosts))
-    silent = start_client(daemon, folder, [])
+    is_real = bool(shutil.which("send_nsca") or shutil.which("send_nsca", path="/usr/sbin"))
+    silent = start_client(daemon, folder, []) if is_real else daemon.connect("agents")
     time.sleep(0.5)
     began = time.monotonic()
-    clients = [start_client(daemon, folder, [f"{host}\t1\tfrom {host}"]) for host in hosts]
-    for client in clients:
-        client.wait(PATIENCE)
-        check("the status of a client beside a silent one", client.returncode, 0)
-        client.stdout.close()
-        client.stderr.close()
+    send_at_once(daemon, folder, hosts, is_real)
     took = time.monotonic() - began
     print(f"three clients beside a silent one took {took:.2f} s")
     check("three clients beside a silent one are served within a second", took < 1.0, True)
     for host in hosts:
         check("the result of a client beside a silent one is shown", f";from {host}\n" in daemon.page_with(f";from {host}\n"), True)
-    check("the silent one is still connected", silent.poll(), None)
+    if is_real:
+        check("the silent one is still connected", silent.poll(), None)
     check("an operator is answered beside a silent client", ask(daemon, "[1] ADD_HOST_COMMENT;web1;0;ann;hi", "[1] SHUTDOWN_PROGRAM"),
           ["queued 1", "closing"])
     status, output, _ = daemon.end()
-    silent.kill()
-    silent.communicate()
+    if is_real:
+        silent.kill()
+        silent.communicate()
+    else:
+        silent.close()
     check("the status with four workers", status, 0)
     logged = re.findall(r"^\[\d+\] (\d):(\d+) PROCESS_HOST_CHECK_RESULT;(\w);1;from \3 -> Accepted$", output, flags=re.MULTILINE)
     check("the results of three clients are logged once", sorted(host for _, _, host in logged), list(hosts))
@@ -239,6 +267,61 @@ def play_four_workers(program, folder):
         check("the items of each worker are numbered from 1", numbers, [str(number) for number in range(1, len(numbers) + 1)])
     check("the operator is the client after four workers", " 5:1 ADD_HOST_COMMENT;web1;0;ann;hi -> Accepted" in output, True)
     check("as many records are logged as were queued", output.split("\n", 1)[0], "log 4")
+
+
+def let_go_of(connection):
+    """Whether the daemon lets go of a connection that could go on."""
+    try:
+        return read_all(connection) == b""
+    except ConnectionResetError:
+        return True
+
+
+def send_in_pieces(daemon, name, pieces):
+    """Sends these pieces on one connection with pauses between them, each of which takes a read, and leaves it open."""
+    connection = daemon.connect(name)
+    if name == "agents":
+        read_exactly(connection, 132)
+    for piece in pieces:
+        try:
+            connection.sendall(piece)
+        except OSError:  # it was let go of
+            pass
+        time.sleep(0.3)
+    return connection
+
+
+def play_limits_of_a_session(program, folder):
+    """The greatest age, the packets or lines and the reads of a session are those of the configuration, with two workers."""
+    daemon = Daemon(program, folder, "workers = 2\nitems = 3\n" + CONFIGURATION.replace("greatest_age = 0", "greatest_age = 60"))
+    with daemon.connect("agents") as connection:
+        moment = int.from_bytes(read_exactly(connection, 132)[128:], "big")
+        ages = [90, 30, 90, 0]
+        connection.sendall(b"".join(packet(moment - age, b"web1", b"HTTP", 1, b"%d seconds old" % age) for age in ages))
+        check("a session of more packets than it may is let go of", let_go_of(connection), True)
+    daemon.page_with("30 seconds old")
+    comment = "[1] ADD_HOST_COMMENT;web1;0;ann;hi"
+    check("a session of more lines than it may is let go of", ask(daemon, *[comment] * 5), ["queued 1", "queued 2", "queued 3"])
+    check("the next session closes", ask(daemon, "[1] SHUTDOWN_PROGRAM"), ["closing"])
+    status, output, _ = daemon.end()
+    check("the status with few items", status, 0)
+    check("a packet is stale by the age that is configured, and the fourth isn't served",
+          (output.split("\n", 1)[0], re.findall(r"(\d+) seconds old", output)), ("log 4", ["30"]))
+    daemon = Daemon(program, folder, "workers = 2\nreads = 2\n" + CONFIGURATION)
+    one = packet(1000, b"web1", b"HTTP", 2, b"in pieces", 512)
+    with send_in_pieces(daemon, "agents", [one[:300], one[300:600], one[600:]]) as connection:
+        check("a session of more reads than it may is let go of", let_go_of(connection), True)
+    with send_in_pieces(daemon, "agents", [one[:300], one[300:]]):
+        check("a session of as many reads as it may is served", "in pieces" in daemon.page_with("in pieces"), True)
+    with send_in_pieces(daemon, "operators", [comment.encode() + b"\n"] * 2) as connection:
+        try:
+            answers = read_all(connection)
+        except OSError as error:
+            answers = str(error)
+        check("an operator is let go of after as many reads as it may take", answers, b"queued 1\nqueued 2\n")
+    check("the last session closes", ask(daemon, "[1] SHUTDOWN_PROGRAM"), ["closing"])
+    status, output, _ = daemon.end()
+    check("the status with few reads", (status, output.split("\n", 1)[0]), (0, "log 3"))
 
 
 def free_port(host):
@@ -298,6 +381,7 @@ def main():
     program = sys.argv[1]
     with tempfile.TemporaryDirectory() as folder:
         play_a_day(program, folder)
+        play_a_dialogue(program, folder)
         play_a_burst(program, folder)
         play_a_full_log(program, folder)
         play_an_old_packet(program, folder)
@@ -305,6 +389,7 @@ def main():
         play_both_lengths_in_turns(program, folder)
         play_few_sessions(program, folder)
         play_four_workers(program, folder)
+        play_limits_of_a_session(program, folder)
         play_three_addresses(program, folder)
         play_on_version_6(program, folder)
         refuse(program, folder, "colour = 1\n", 2, "config: UnknownKey colour")
