@@ -1,4 +1,4 @@
-pub mod RowSteps
+pub mod StatusSteps
 pub mod StandingSteps
 pub mod StaleSteps
 pub mod OpeningSteps

@@ -1,4 +1,4 @@
-pub mod Row
+pub mod ObjectStatus
 pub mod Book
 pub mod Standing
 pub mod inner

@@ -2,14 +2,14 @@ ghost use Rattle.std.specs.Prelude.{◌≡◌};
 ghost use Rattle.std.specs.Iterator.{YieldsFirst, item_count};
 ghost use Rattle.gate_objects.specs.Book.{stale_objects};
 
-use crate::row::ObjectRow;
+use crate::object_status::ObjectStatus;
 use gate_model::{Moment, ObjectId};
 use std::marker::Model;
 
 /// The stale objects of a book, in table order. Contracts see the list of those that are left.
 #[derive(Drop)]
 pub struct StaleObjects<'a> {
-    rows: &'a [ObjectRow],
+    statuses: &'a [ObjectStatus],
     opening: Moment,
     moment: Moment,
 }
@@ -21,15 +21,19 @@ impl<'a> Model for StaleObjects<'a> {
 
     ghost Value = { List ObjectId };
 
-    ghost view = { λ left. stale_objects left.opening left.moment left.rows.now };
+    ghost view = { λ left. stale_objects left.opening left.moment left.statuses.now };
 }
 
 impl<'a> StaleObjects<'a> {
-    pub(crate) fn new(rows: &'a [ObjectRow], opening: Moment, moment: Moment) -> StaleObjects<'a>
-        ensures { result ≡ stale_objects opening moment rows.now }
+    pub(crate) fn new(
+        statuses: &'a [ObjectStatus],
+        opening: Moment,
+        moment: Moment,
+    ) -> StaleObjects<'a>
+        ensures { result ≡ stale_objects opening moment statuses.now }
     {
         StaleObjects {
-            rows,
+            statuses,
             opening,
             moment,
         }
@@ -44,10 +48,10 @@ impl<'a> Iterator for StaleObjects<'a> {
     ghost remaining = { item_count (λ left. left) };
 
     fn next(&mut self) -> Option<ObjectId> {
-        while let Some((row, rest)) = self.rows.split_first() {
-            self.rows = rest;
-            if row.is_stale(self.opening, self.moment) {
-                return Some(row.object);
+        while let Some((status, rest)) = self.statuses.split_first() {
+            self.statuses = rest;
+            if status.is_stale(self.opening, self.moment) {
+                return Some(status.object);
             }
         }
         None

@@ -1,7 +1,8 @@
--- For proofs and private functions alone: where the rows of a book stand.
+-- For proofs and private functions alone: which object each status of a book is of.
 use Rattle.std.specs.Prelude.{◌≡◌, ℕ, List, slice_get, Some}
-use Rattle.gate_objects.specs.declared.row.ObjectRow.{ObjectRow}
+use Rattle.gate_objects.specs.declared.object_status.ObjectStatus.{ObjectStatus}
 
--- each row has the object of its place
-abbrev pub IsPlaced : List ObjectRow → Type 0
-IsPlaced rows = (place : ℕ) (row : ObjectRow) → slice_get rows place ≡ Some row → row.object.place ≡ place
+-- each status is of the object of its place
+abbrev pub IsPlaced : List ObjectStatus → Type 0
+IsPlaced statuses =
+    (place : ℕ) (status : ObjectStatus) → slice_get statuses place ≡ Some status → status.object.place ≡ place

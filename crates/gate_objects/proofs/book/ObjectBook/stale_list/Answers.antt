@@ -7,4 +7,4 @@ pub returns-clause-stale : goal.returns-clause-stale
 returns-clause-stale c =
     rw (← c.self.view_is)
     (λ history stands. c.new.ensures ∙ ap (stale_objects c.self.inside.opening c.args.moment) c.deref.ensures.value
-    ∙ stale-standing c.self.inside.opening c.self.inside.rows.items history c.args.moment c.self.invariant stands)
+    ∙ stale-standing c.self.inside.opening c.self.inside.statuses.items history c.args.moment c.self.invariant stands)
