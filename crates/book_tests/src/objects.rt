@@ -41,7 +41,7 @@ fn lines(alloc: Global) -> Option<Vec<ObjectLine>>
 
 // Their book, opened at 1000.
 fn opened(alloc: Global) -> Option<ObjectBook>
-    ensures { IfSome result (λ book. length book.rows ≡ 2) }
+    ensures { IfSome result (λ book. length book.statuses ≡ 2) }
 {
     let lines = lines(alloc)?;
     let table = ObjectTable::build(alloc, lines).ok()?;
@@ -52,7 +52,7 @@ fn opened(alloc: Global) -> Option<ObjectBook>
 
 // HTTP is WARNING from 1100 on and acknowledged at 1110.
 fn acknowledged(alloc: Global, sticky: bool) -> Option<ObjectBook>
-    ensures { IfSome result (λ book. length book.rows ≡ 2) }
+    ensures { IfSome result (λ book. length book.statuses ≡ 2) }
 {
     let mut book = opened(alloc)?;
     let _ = book.result(HTTP, 1, 0, Moment(1100));
@@ -102,7 +102,7 @@ fn stale_without_a_result(alloc: Global, moment: u32) -> Option<bool> {
 }
 
 fn with_a_result_at_1400(alloc: Global) -> Option<ObjectBook>
-    ensures { IfSome result (λ book. length book.rows ≡ 2) }
+    ensures { IfSome result (λ book. length book.statuses ≡ 2) }
 {
     let mut book = opened(alloc)?;
     let _ = book.result(HTTP, 0, 0, Moment(1400));

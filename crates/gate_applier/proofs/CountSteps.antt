@@ -26,7 +26,7 @@ use Rattle.gate_model.specs.declared.status.ObjectEvent.{ObjectEvent}
 use Rattle.gate_model.specs.declared.comments.CommentEvent.TheVariants as comment
 use Rattle.gate_model.specs.declared.comments.Source.TheVariants.{User, Ack, Downtime}
 use Rattle.gate_model.proofs.ServiceSteps.{services-few, services-within}
-use Rattle.gate_objects.specs.Book.{new_rows, threshold_of_row}
+use Rattle.gate_objects.specs.Book.{new_statuses, threshold_of_status}
 use Rattle.gate_model.specs.declared.record.Moment.{Moment}
 use Rattle.gate_applier.specs.declared.books.Books.{Books}
 use Rattle.gate_applier.specs.inner.Books.{threshold_of_line, events_of, BooksFollow, IsOfTable, CanTake, CanMake, Gives, Takes, TakesOne, room_of_books}
@@ -255,7 +255,7 @@ some-place (Some place) object e = ap (option_map (λ (one : ObjectId). one.plac
 
 -- ---- opening
 
-pub threshold-new : (from : ℕ) (lines : List ObjectLine) (place : ℕ) → threshold_of_row (slice_get (new_rows from lines) place) ≡ threshold_of_line (slice_get lines place)
+pub threshold-new : (from : ℕ) (lines : List ObjectLine) (place : ℕ) → threshold_of_status (slice_get (new_statuses from lines) place) ≡ threshold_of_line (slice_get lines place)
 threshold-new from [] place = refl
 threshold-new from (line ∷ lines) zero = refl
 threshold-new from (line ∷ lines) (suc place) = threshold-new (from + 1) lines place

@@ -91,7 +91,7 @@ impl Books {
         log_index: u32,
         moment: Moment,
     ) -> Result<(), PassiveDisabled>
-        requires row { object.place < length self.old.objects.rows }
+        requires row { object.place < length self.old.objects.statuses }
         requires place { object.place < self.old.downtime.objects }
         ensures follow { OnOk result (
             Follows moment (result_added object code log_index moment) self.old self.new) }

@@ -9,6 +9,6 @@ mod downtimes;
 mod judging;
 mod ready;
 
-pub use applier::{Applier, MOST_RECORDS, OpenCause, OpenFault, PrepareCause, PrepareFault};
+pub use applier::{Applier, OpenCause, OpenFault, PrepareCause, PrepareFault};
 pub use downtimes::{Downtimes, LiveDowntime};
 pub use ready::Ready;

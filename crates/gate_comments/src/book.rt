@@ -2,15 +2,15 @@ ghost use Rattle.std.specs.Prelude.{ℕ, Bool, List, ◌≡◌, ◌≢◌, ◌<�
 ghost use Rattle.gate_model.specs.declared.comments.CommentEvent.TheVariants.{Add, Delete, DeleteAll, Clear, Gone};
 ghost use Rattle.gate_model.specs.Comments.{number_made};
 ghost use Rattle.gate_model.specs.Meaning.{is_same_kind};
-ghost use Rattle.gate_comments.specs.Search.{index_of_id, IsWithinBinaryDigits, IsAscending};
+ghost use Rattle.gate_model.specs.Search.{IsWithinBinaryDigits};
+ghost use Rattle.gate_comments.specs.Search.{index_of_id, IsAscending};
 ghost use Rattle.gate_comments.specs.Faults.{deletion_by_id};
 ghost use Rattle.gate_comments.specs.Book.{without, with_live, AnswersBy, comment_by};
 ghost use Rattle.gate_comments.specs.Standing.{IsStanding, AddsEvent, AreEnded, AddsEnds, HoldsAfter};
 
 use crate::counts::{Counts, outlives, removes};
 use crate::faults::{DeleteFault, IdsSpent};
-use crate::search;
-use gate_model::{Comment, CommentEvent, Kind, ObjectId, Source, Steps};
+use gate_model::{Comment, CommentEvent, Kind, ObjectId, Source, Steps, find_by_id};
 use std::alloc::{AllocError, Global};
 use std::marker::Model;
 
@@ -132,7 +132,7 @@ impl CommentBook {
         ensures err { OnErr result (self.new ≡ self.old) }
     {
         let mut steps = Steps::new();
-        let Some(index) = search::index_of_id(&self.comments, id, &mut steps) else {
+        let Some(index) = find_by_id(&self.comments, id, &mut steps) else {
             return Err(DeleteFault::NoSuchComment);
         };
         let comment = self.comments[index];
@@ -158,9 +158,9 @@ impl CommentBook {
         });
     }
 
-    /// Deletes those of the object's comments that are of acknowledgements and aren't persistent: its
-    /// acknowledgement was cleared or removed. Where the object has no comments, nothing is searched.
-    /// Own rule.
+    /// Deletes those of the object's comments that are of acknowledgements and aren't persistent:
+    /// its acknowledgement was cleared or removed. Where the object has no comments, nothing is
+    /// searched. Own rule.
     pub fn clear_ack(&mut self, object: ObjectId)
         ensures stands { AddsEvent (Clear object.place) self.old self.new }
         ensures comments { self.new.comments ≡ without (Clear object.place) self.old.comments }
@@ -215,7 +215,7 @@ impl CommentBook {
         ensures index { result ≡ index_of_id id self.now.comments }
         ensures steps { IsWithinBinaryDigits (length self.now.comments) steps.old steps.new }
     {
-        search::index_of_id(&self.comments, id, steps)
+        find_by_id(&self.comments, id, steps)
     }
 
     fn remove(&mut self, event: CommentEvent)

@@ -106,7 +106,7 @@ impl Counts {
         }
     }
 
-    /// Whether the event may remove a comment: whether one is on its object, or of a downtime entry.
+    /// Whether the event may remove a comment: whether its object, or a downtime entry, has one.
     pub fn may_remove(&self, event: CommentEvent) -> bool
         ensures { (comments : List Comment)
             → IsCounted self.now.places.items self.now.downtimes comments

@@ -6,7 +6,6 @@
 mod book;
 mod counts;
 mod faults;
-mod search;
 
 pub use book::CommentBook;
 pub use faults::{DeleteFault, IdsSpent};

@@ -27,7 +27,7 @@ use Rattle.gate_downtime.proofs.Unmarked.{length-same}
 use Rattle.gate_downtime.proofs.LiveSteps.{live-is}
 use Rattle.gate_downtime.proofs.CancelSteps.{live-struck, live-at}
 use Rattle.gate_downtime.proofs.BookSteps.{turned-entries}
-use Rattle.gate_downtime.proofs.SearchSteps.{same_as}
+use Rattle.gate_downtime.proofs.AscendingSteps.{same_as}
 use Rattle.gate_downtime.proofs.IdSteps.{live-in, flags-push, live-ascending, live-filter}
 use Rattle.gate_downtime.proofs.NotedSteps.{ids-noted}
 

@@ -19,6 +19,9 @@ use Rattle.gate_downtime.proofs.Fresh.{set-cases}
 use Rattle.gate_downtime.proofs.Marks.{between, ltb-same}
 use Rattle.gate_downtime.proofs.Settling.{not-first}
 use Rattle.gate_downtime.specs.inner.Gone.{gone_cmp, Listed, is_free, is_returned, IsKept, Awaits, AllGone, GoneOrDue, Lists, SameGone, Pops, Returns, AllPassed, TakesGone}
+use Rattle.std.specs.Global.{Vec}
+use Rattle.gate_downtime.specs.declared.tally.Tally.{Tally}
+use Rattle.gate_downtime.specs.inner.Tally.{KeepsSize, AddsForSettled}
 
 -- a mark, where none is given
 abbrev pub some-mark : Mark
@@ -97,6 +100,18 @@ gone-trans a b c x y = record { same = y.same ∙ x.same; capacity = omega (arit
 
 pub gone-lists : (at : ℕ) (live : Bool) (a b : Gone) → Lists at live a b → SameGone a b
 gone-lists at live a b x = record { same = x.same; capacity = x.capacity; marks_len = x.marks_len; marks_capacity = x.marks_capacity }
+
+pub keeps-trans : (rows mid rows' : Vec Row) (a b c : Tally) → KeepsSize rows mid a b → KeepsSize mid rows' b c → KeepsSize rows rows' a c
+keeps-trans rows mid rows' a b c x y = record {
+  objects = y.objects ∙ x.objects;
+  gone_same = gone-trans a.gone b.gone c.gone x.gone_same y.gone_same;
+  ids_same = y.ids_same ∙ x.ids_same;
+  len = y.len ∙ x.len;
+  capacity = y.capacity ∙ x.capacity;
+}
+
+pub adds-trans : (rows mid rows' : List Row) (a b c : Tally) → AddsForSettled rows mid a b → AddsForSettled mid rows' b c → AddsForSettled rows rows' a c
+adds-trans rows mid rows' a b c x y = record { left = omega (arith, x.left, y.left); capacity = omega (arith, x.capacity, y.capacity) }
 
 -- a row written, and listed if it isn't live
 gone-write : (t at : ℕ) (v : Row) (live : Bool) (rows rows' : List Row) (old new : Gone) → at < length rows → rows' ≡ set rows at v → live ≡ live_at t v → Lists at live old new

@@ -13,7 +13,7 @@ use Rattle.gate_downtime.specs.declared.row.Row.{Row}
 use Rattle.gate_downtime.specs.inner.Rows.{live_at, is_live_row, some-row}
 use Rattle.gate_downtime.specs.inner.Gone.{returned_ids}
 use Rattle.gate_downtime.specs.inner.Live.{AreFrom, AreAscending, AreInside, index_among, live_ids}
-use Rattle.gate_downtime.proofs.SearchSteps.{same_as, at-least}
+use Rattle.gate_downtime.proofs.AscendingSteps.{same_as, at-least}
 
 -- the ids but for this one
 abbrev pub others : ℕ → List ℕ → List ℕ

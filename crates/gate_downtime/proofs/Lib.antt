@@ -15,7 +15,7 @@ pub mod BookSteps
 pub mod CancelSteps
 pub mod FindSteps
 pub mod ReturnSteps
-pub mod SearchSteps
+pub mod AscendingSteps
 pub mod IdSteps
 pub mod NotedSteps
 pub mod EntrySteps

@@ -9,8 +9,8 @@ use Rattle.gate_model.specs.declared.downtime.Entry.{Entry}
 use Rattle.gate_model.specs.Record.{later}
 use Rattle.gate_model.specs.Downtime.{begins_at, is_chained, is_live_in, or_else}
 
--- all entries ever scheduled, the newest first; the moment of the book; the first id; how many objects there are; for how
--- many more entries there is room; and the ids that were returned by `next_gone`, ascending
+-- all entries ever scheduled, the newest first; the moment of the book; the first id; how many objects there are; how
+-- many more entries can be scheduled without memory; and the ids that `next_gone` has returned, ascending
 pub record DowntimeView : Type 0 where
   pub entries : List Entry
   pub moment : Moment
@@ -65,7 +65,10 @@ was_returned returned id = list_any (λ (other : ℕ). other == id) returned
 abbrev pub next_gone_of : List Entry → Moment → List ℕ → Option ℕ
 next_gone_of entries moment returned =
     option_map (λ (entry : Entry). entry.scheduled.id)
-    (find (λ (entry : Entry). not (is_live_in entries moment.0 entry.scheduled.id) && not (was_returned returned entry.scheduled.id)) (reverse entries))
+    (find
+    (λ (entry : Entry).
+    not (is_live_in entries moment.0 entry.scheduled.id) && not (was_returned returned entry.scheduled.id))
+    (reverse entries))
 
 -- the least id of an entry of the book that isn't live, and wasn't returned before
 abbrev pub next_gone_now : DowntimeView → Option ℕ
@@ -88,7 +91,8 @@ live_count book = length (live_entries book.entries book.moment)
 
 -- the returned ids of the new book are those of the old one, and this answer
 abbrev pub ReturnsToo : Option ℕ → DowntimeView → DowntimeView → Type 0
-ReturnsToo answer old new = (id : ℕ) → was_returned new.returned id ≡ (was_returned old.returned id || is_answer answer id)
+ReturnsToo answer old new =
+    (id : ℕ) → was_returned new.returned id ≡ (was_returned old.returned id || is_answer answer id)
 
 -- the book at the later of its moment and this one
 abbrev pub with_later : Moment → DowntimeView → DowntimeView

@@ -1,5 +1,5 @@
--- What a search by id finds among live entries, and how many comparisons it may make.
-use Rattle.std.specs.Prelude.{ℕ, ◌+◌, ◌^◌, ◌<◌, ◌≤◌, ◌==◌, Bool, List, Option}
+-- What a search by id finds among live entries.
+use Rattle.std.specs.Prelude.{ℕ, ◌==◌, Bool, List, Option}
 use Rattle.std.specs.List.{position_from}
 use Rattle.gate_model.specs.declared.downtime.Scheduled.{Scheduled}
 
@@ -10,7 +10,3 @@ has_id id scheduled = scheduled.id == id
 -- the index of the entry of this id
 abbrev pub index_of_id : ℕ → List Scheduled → Option ℕ
 index_of_id id entries = position_from (has_id id) 0 entries
-
--- a counter rises by no more than this number has binary digits: by at most d where the number is below 2 ^ d
-abbrev pub IsWithinBinaryDigits : ℕ → ℕ → ℕ → Type 0
-IsWithinBinaryDigits number before after = (digits : ℕ) → number < 2 ^ digits → after ≤ before + digits

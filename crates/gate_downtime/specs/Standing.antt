@@ -14,10 +14,11 @@ pub record IsStanding (first : ℕ) (book : DowntimeView) (history : List Downti
   pub moment_is : book.moment ≡ moment
   pub first_id_is : book.first_id ≡ first
 
--- this holds of each history after which the book stands, with its first id and its moment
+-- this is so of every history after which the book stands, with its first id and its moment
 abbrev pub HoldsAfter : DowntimeView → (ℕ → List DowntimeEvent → Moment → Type 0) → Type 0
 HoldsAfter book holds =
-    (first : ℕ) (history : List DowntimeEvent) (moment : Moment) → IsStanding first book history moment → holds first history moment
+    (first : ℕ) (history : List DowntimeEvent) (moment : Moment)
+    → IsStanding first book history moment → holds first history moment
 
 -- after whichever history the old book stands, the new one stands at the later of its moment and this one
 abbrev pub StandsLater : Moment → DowntimeView → DowntimeView → Type 0

@@ -6,7 +6,8 @@ ghost use Rattle.gate_model.specs.Record.{later};
 ghost use Rattle.gate_model.specs.Meaning.{is_same_kind};
 ghost use Rattle.gate_model.specs.Downtime.{entries_of, depth_of, is_live, begin_of, begin_in};
 ghost use Rattle.gate_downtime.specs.Book.{fresh, without, is_live_now, next_gone_of, next_gone_now, ReturnsToo, with_later, with_entries, with_room, with_transition, live_entries, live_count};
-ghost use Rattle.gate_downtime.specs.Search.{index_of_id, IsWithinBinaryDigits};
+ghost use Rattle.gate_model.specs.Search.{IsWithinBinaryDigits};
+ghost use Rattle.gate_downtime.specs.Search.{index_of_id};
 ghost use Rattle.gate_downtime.specs.Faults.{scheduling_of, cancellation_by_id};
 ghost use Rattle.gate_downtime.specs.Standing.{IsStanding, HoldsAfter, StandsLater, AddsEvent, live_of};
 
@@ -19,10 +20,9 @@ use crate::live::{drop_ended, push_live};
 use crate::pruning::prune;
 use crate::row::{Row, is_live_at, row_at};
 use crate::scheduling::{add_row, find_begin, find_live, find_trigger, fresh_row};
-use crate::search::index_of;
 use crate::tally::{Tally, no_tally, settle};
 use crate::waiting::turn_waiting;
-use gate_model::{Kind, Moment, ObjectId, Plan, Scheduled, Steps};
+use gate_model::{Kind, Moment, ObjectId, Plan, Scheduled, Steps, find_by_id};
 use std::alloc::{AllocError, Global};
 use std::marker::Model;
 
@@ -172,9 +172,8 @@ impl DowntimeBook {
         Ok(id)
     }
 
-    /// The object at this place goes into a problem state, at the book's moment. It begins what
-    /// waits for that.
-    /// It costs what can still begin and what begins.
+    /// The object goes into a problem state, at the book's moment: the entries that wait for that
+    /// begin. It takes a step for each entry that it can still begin, and for each that begins.
     pub fn transition(&mut self, object: ObjectId)
         requires { object.place < self.old.objects }
         ensures stands { AddsEvent (λ now. event.Transition now object.place) self.old self.new }
@@ -269,7 +268,7 @@ impl DowntimeBook {
         ensures index { result ≡ index_of_id id (live_entries self.now.entries self.now.moment) }
         ensures steps { IsWithinBinaryDigits (live_count self.now) steps.old steps.new }
     {
-        index_of(self.tally.live.ids.as_slice(), id, steps)
+        find_by_id(self.tally.live.ids.as_slice(), id, steps)
     }
 
     /// When the entry of this id begins, if it does, deleted or not.

@@ -3,9 +3,8 @@ ghost use Rattle.std.specs.BinaryHeap.{heap_len, heap_capacity};
 ghost use Rattle.gate_model.specs.Downtime.{is_chained, is_live_in};
 ghost use Rattle.gate_downtime.specs.declared.row.Row.{Row};
 ghost use Rattle.gate_downtime.specs.Book.{after_deletion};
-ghost use Rattle.gate_downtime.specs.inner.Rows.{Counted, is_unsettled, row_entries, live_at, Consistent};
-ghost use Rattle.gate_downtime.specs.inner.Tally.{IsSound};
-ghost use Rattle.gate_downtime.specs.inner.Gone.{SameGone};
+ghost use Rattle.gate_downtime.specs.inner.Rows.{Counted, CanCount, is_unsettled, row_entries, live_at, Consistent};
+ghost use Rattle.gate_downtime.specs.inner.Tally.{IsSound, KeepsSize, SameDeadlines};
 ghost use Rattle.gate_downtime.specs.inner.Links.{load, Spreading};
 ghost use Rattle.gate_downtime.specs.inner.Cancel.{deleted_row, is_kept, IsStack, Deletes, HasStruck};
 
@@ -19,10 +18,7 @@ use gate_model::Entry;
 /// Deletes the entry of a row, which isn't counted from then on.
 fn delete_row(rows: &mut Vec<Row>, depths: &mut Vec<u32>, at: usize)
     requires within { at < length rows.old.items }
-    requires counted { Counted rows.old.items depths.old.items }
-    requires placed { All (λ r. r.entry.scheduled.object.place
-        < length depths.old.items) rows.old.items }
-    requires few { length rows.old.items < 2 ^ 32 }
+    requires counters { CanCount rows.old.items depths.old.items }
     ensures rows { (d : Row)
         → rows.new.items
         ≡ slice_set rows.old.items at (deleted_row (slice_index_or rows.old.items at d)) }
@@ -56,14 +52,8 @@ fn delete_at(rows: &mut Vec<Row>, tally: &mut Tally, at: usize, now: u32)
     ensures rows { (d : Row)
         → rows.new.items
         ≡ slice_set rows.old.items at (deleted_row (slice_index_or rows.old.items at d)) }
-    ensures objects { vec_len tally.new.depths ≡ vec_len tally.old.depths }
-    ensures gone_same { SameGone tally.old.gone tally.new.gone }
-    ensures ids_same { tally.new.live.ids ≡ tally.old.live.ids }
-    ensures len { vec_len rows.new ≡ vec_len rows.old }
-    ensures capacity { vec_capacity rows.new ≡ vec_capacity rows.old }
-    ensures deadlines_len { heap_len tally.new.deadlines ≡ heap_len tally.old.deadlines }
-    ensures deadlines_capacity { heap_capacity tally.new.deadlines
-        ≡ heap_capacity tally.old.deadlines }
+    ensures kept { KeepsSize rows.old rows.new tally.old tally.new }
+    ensures deadlines { SameDeadlines tally.old tally.new }
 {
     let id = row_at(rows, at).entry.scheduled.id;
     delete_row(rows, &mut tally.depths, at);
@@ -92,14 +82,8 @@ fn visit(
         → Deletes first now id before rows.new.items links.now pending.new.items }
     ensures unsettled { count_by is_unsettled rows.new.items
         ≡ count_by is_unsettled rows.old.items }
-    ensures objects { vec_len tally.new.depths ≡ vec_len tally.old.depths }
-    ensures gone_same { SameGone tally.old.gone tally.new.gone }
-    ensures ids_same { tally.new.live.ids ≡ tally.old.live.ids }
-    ensures len { vec_len rows.new ≡ vec_len rows.old }
-    ensures capacity { vec_capacity rows.new ≡ vec_capacity rows.old }
-    ensures deadlines_len { heap_len tally.new.deadlines ≡ heap_len tally.old.deadlines }
-    ensures deadlines_capacity { heap_capacity tally.new.deadlines
-        ≡ heap_capacity tally.old.deadlines }
+    ensures kept { KeepsSize rows.old rows.new tally.old tally.new }
+    ensures deadlines { SameDeadlines tally.old tally.new }
     ensures room { vec_len pending.new + count_by is_kept rows.new.items
         ≤ vec_capacity pending.new }
     ensures pending_capacity { vec_capacity pending.old ≤ vec_capacity pending.new }
@@ -143,14 +127,8 @@ pub fn delete_from(
     ensures pending_empty { pending.new.items ≡ [] }
     ensures unsettled { count_by is_unsettled rows.new.items
         ≡ count_by is_unsettled rows.old.items }
-    ensures objects { vec_len tally.new.depths ≡ vec_len tally.old.depths }
-    ensures gone_same { SameGone tally.old.gone tally.new.gone }
-    ensures ids_same { tally.new.live.ids ≡ tally.old.live.ids }
-    ensures len { vec_len rows.new ≡ vec_len rows.old }
-    ensures capacity { vec_capacity rows.new ≡ vec_capacity rows.old }
-    ensures deadlines_len { heap_len tally.new.deadlines ≡ heap_len tally.old.deadlines }
-    ensures deadlines_capacity { heap_capacity tally.new.deadlines
-        ≡ heap_capacity tally.old.deadlines }
+    ensures kept { KeepsSize rows.old rows.new tally.old tally.new }
+    ensures deadlines { SameDeadlines tally.old tally.new }
     ensures pending_capacity { vec_capacity pending.old ≤ vec_capacity pending.new }
 {
     delete_at(rows, tally, at, now);
@@ -158,8 +136,8 @@ pub fn delete_from(
     delete_pending(rows, links, pending, tally, first, now);
 }
 
-/// Empties the list of pending rows: each that is live is deleted, and the rows that it triggers come
-/// next.
+/// Empties the list of pending rows: each that is live is deleted, and the rows that it triggers
+/// come next.
 fn delete_pending(
     rows: &mut Vec<Row>,
     links: &[Link],
@@ -179,14 +157,8 @@ fn delete_pending(
     ensures unsettled { count_by is_unsettled rows.new.items
         ≡ count_by is_unsettled rows.old.items }
     ensures pending_empty { pending.new.items ≡ [] }
-    ensures objects { vec_len tally.new.depths ≡ vec_len tally.old.depths }
-    ensures gone_same { SameGone tally.old.gone tally.new.gone }
-    ensures ids_same { tally.new.live.ids ≡ tally.old.live.ids }
-    ensures len { vec_len rows.new ≡ vec_len rows.old }
-    ensures capacity { vec_capacity rows.new ≡ vec_capacity rows.old }
-    ensures deadlines_len { heap_len tally.new.deadlines ≡ heap_len tally.old.deadlines }
-    ensures deadlines_capacity { heap_capacity tally.new.deadlines
-        ≡ heap_capacity tally.old.deadlines }
+    ensures kept { KeepsSize rows.old rows.new tally.old tally.new }
+    ensures deadlines { SameDeadlines tally.old tally.new }
     ensures pending_capacity { vec_capacity pending.old ≤ vec_capacity pending.new }
 {
     'pending: while let Some(at) = pending.pop() {

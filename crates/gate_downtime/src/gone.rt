@@ -10,10 +10,9 @@ use std::alloc::Global;
 use std::cmp::Reverse;
 use std::collections::BinaryHeap;
 
-/// What is known of a row that is live no more.
+/// Whether a row is in the list, and whether it was returned.
 #[derive(Clone, Copy)]
 pub struct Mark {
-    /// It stands in the list.
     pub listed: bool,
     pub returned: bool,
 }

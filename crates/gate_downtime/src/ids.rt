@@ -5,8 +5,7 @@ ghost use Rattle.gate_downtime.specs.inner.Live.{AreAscending};
 
 use crate::row::Row;
 use crate::scheduling::find_live;
-use crate::search::index_of;
-use gate_model::Steps;
+use gate_model::{Steps, find_by_id};
 use std::alloc::{AllocError, Global};
 use std::marker::Model;
 
@@ -71,13 +70,13 @@ impl Ids {
         ensures room { self.old.room ≤ self.new.room }
     {
         let mut steps = Steps::new();
-        if let Some(index) = index_of(self.as_slice(), id, &mut steps) {
+        if let Some(index) = find_by_id(self.as_slice(), id, &mut steps) {
             self.remove_at(index);
         }
     }
 
-    /// Removes the id at this index. The ids before it move up, or those after it down, whichever are
-    /// fewer.
+    /// Removes the id at this index. The ids before it move up, or those after it down, whichever
+    /// are fewer.
     fn remove_at(&mut self, index: usize)
         requires { index < length self.old.items }
         ensures items { self.new.items ≡ remove self.old.items index }

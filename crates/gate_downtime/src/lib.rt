@@ -1,6 +1,7 @@
-//! The book of downtime entries: when an object is in downtime, and how deep. Entries are scheduled,
-//! begun by transitions of their objects or by their triggers, and deleted with what they trigger.
-//! Whatever calls were made, the book shows what they mean. Memory is taken by `reserve` alone.
+//! The book of downtime entries: when an object is in downtime, and how deep. Entries are
+//! scheduled, begun by transitions of their objects or by their triggers, and deleted with what they
+//! trigger. Whatever calls were made, the book shows what they mean. Memory is taken by `open` and
+//! `reserve` alone.
 #![tactic(auto)]
 
 mod book;
@@ -14,7 +15,6 @@ mod live;
 mod pruning;
 mod row;
 mod scheduling;
-mod search;
 mod spreading;
 mod tally;
 mod waiting;

@@ -1,6 +1,6 @@
-ghost use Rattle.std.specs.Prelude.{◌≡◌, ◌<◌, ◌≤◌, ◌+◌, ◌++◌, [], ◌∷◌, false, filter, IfOk, if◌then◌else◌};
+ghost use Rattle.std.specs.Prelude.{◌≡◌, ◌<◌, ◌≤◌, ◌+◌, ◌++◌, [], ◌∷◌, false, IfOk, if◌then◌else◌};
 ghost use Rattle.gate_downtime.specs.inner.Rows.{is_live_row};
-ghost use Rattle.gate_downtime.specs.inner.Live.{Notes, AreNoted, IsIdle, AreAscending};
+ghost use Rattle.gate_downtime.specs.inner.Live.{Notes, AreNoted, IsIdle, AreAscending, DropsEnded};
 
 use crate::ids::{Ids, is_live_id, push_id};
 use crate::row::Row;
@@ -64,9 +64,7 @@ fn remove_ended(live: &mut LiveIds, rows: &[Row], first: u32, now: u32)
     requires ascending { AreAscending live.old.ids.items }
     requires few { live.old.many ≡ false }
     requires noted { AreNoted (is_live_row first rows.now now) live.old }
-    ensures ids { live.new.ids.items ≡ filter (is_live_row first rows.now now) live.old.ids.items }
-    ensures room { live.old.ids.room ≤ live.new.ids.room }
-    ensures idle { IsIdle live.new }
+    ensures { DropsEnded (is_live_row first rows.now now) live.old live.new }
 {
     'ended: while let Some(id) = live.ended.pop() {
         if !is_live_id(rows, first, id, now) {
@@ -79,9 +77,7 @@ fn remove_ended(live: &mut LiveIds, rows: &[Row], first: u32, now: u32)
 pub fn drop_ended(live: &mut LiveIds, rows: &[Row], first: u32, now: u32)
     requires ascending { AreAscending live.old.ids.items }
     requires noted { AreNoted (is_live_row first rows.now now) live.old }
-    ensures ids { live.new.ids.items ≡ filter (is_live_row first rows.now now) live.old.ids.items }
-    ensures room { live.old.ids.room ≤ live.new.ids.room }
-    ensures idle { IsIdle live.new }
+    ensures { DropsEnded (is_live_row first rows.now now) live.old live.new }
 {
     if !live.many {
         remove_ended(live, rows, first, now);

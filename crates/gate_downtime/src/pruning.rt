@@ -5,7 +5,7 @@ ghost use Rattle.gate_downtime.specs.inner.Pruning.{SetsNext, IsLastWithin, Same
 use crate::links::{Link, link_at, write_link};
 use crate::row::{Row, row_at};
 
-/// Whether a transition may begin the entry of an untriggered flexible row, at this moment or later.
+/// Whether a transition can begin the entry of an untriggered flexible row, now or later.
 fn may_begin(row: Row, now: u32) -> bool
     ensures { result ≡ may_begin now row.entry }
 {

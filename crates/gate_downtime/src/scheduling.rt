@@ -3,7 +3,7 @@ ghost use Rattle.std.specs.BinaryHeap.{heap_len, heap_capacity};
 ghost use Rattle.gate_downtime.specs.declared.row.Row.{Row};
 ghost use Rattle.gate_downtime.specs.inner.Rows.{SameButMarks, Follows, is_live_row, begin_of_row};
 ghost use Rattle.gate_downtime.specs.inner.Scheduling.{IsTrigger, IsLiveAt, settled_by};
-ghost use Rattle.gate_downtime.specs.inner.Tally.{IsSound, HasRoom};
+ghost use Rattle.gate_downtime.specs.inner.Tally.{IsSound, HasRoom, AddsAtMost};
 ghost use Rattle.gate_downtime.specs.inner.Gone.{MoreGone};
 ghost use Rattle.gate_downtime.specs.inner.Live.{IsFresh};
 
@@ -88,7 +88,8 @@ pub fn find_trigger(rows: &[Row], first: u32, trigger: u32, now: u32) -> Option<
 
 /// The row of a new entry, not yet marked.
 pub fn fresh_row(scheduled: Scheduled, trigger: Trigger) -> Row
-    ensures entry { result.entry ≡ record { scheduled = scheduled; transition = None; deleted = false } }
+    ensures entry { result.entry
+        ≡ record { scheduled = scheduled; transition = None; deleted = false } }
     ensures follows { Follows result trigger.begun (Some trigger.over) }
     ensures settled { result.settled ≡ settled_by scheduled trigger }
     ensures active { result.active ≡ false }
@@ -132,8 +133,7 @@ pub fn add_row(rows: &mut Vec<Row>, tally: &mut Tally, row: Row, now: u32)
     ensures live_same { tally.new.live ≡ tally.old.live }
     ensures len { vec_len rows.new ≡ vec_len rows.old + 1 }
     ensures capacity { vec_capacity rows.old ≤ vec_capacity rows.new }
-    ensures deadlines_len { heap_len tally.new.deadlines ≤ heap_len tally.old.deadlines + 2 }
-    ensures deadlines_capacity { heap_capacity tally.old.deadlines ≤ heap_capacity tally.new.deadlines }
+    ensures deadlines { AddsAtMost 2 tally.old tally.new }
 {
     let at = rows.len();
     push_row(rows, row);

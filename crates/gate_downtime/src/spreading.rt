@@ -2,8 +2,7 @@ ghost use Rattle.std.specs.Prelude.{◌≡◌, ◌<◌, ◌≤◌, ◌+◌, ◌*
 ghost use Rattle.std.specs.BinaryHeap.{heap_len, heap_capacity};
 ghost use Rattle.gate_downtime.specs.declared.row.Row.{Row};
 ghost use Rattle.gate_downtime.specs.inner.Rows.{active_at, with_active, Consistent, is_unsettled, row_entries};
-ghost use Rattle.gate_downtime.specs.inner.Tally.{IsSound, HasRoom};
-ghost use Rattle.gate_downtime.specs.inner.Gone.{SameGone};
+ghost use Rattle.gate_downtime.specs.inner.Tally.{IsSound, HasRoom, KeepsSize, AddsAtMost, AddsForSettled};
 ghost use Rattle.gate_downtime.specs.inner.Links.{load, trig, Refreshes, Spreading};
 
 use crate::gone::list_gone;
@@ -26,14 +25,8 @@ pub fn replace_row(rows: &mut Vec<Row>, tally: &mut Tally, at: usize, row: Row, 
     ensures sound { IsSound now rows.new.items tally.new }
     ensures rows { rows.new.items
         ≡ slice_set rows.old.items at (with_active (active_at now row) row) }
-    ensures objects { vec_len tally.new.depths ≡ vec_len tally.old.depths }
-    ensures gone_same { SameGone tally.old.gone tally.new.gone }
-    ensures ids_same { tally.new.live.ids ≡ tally.old.live.ids }
-    ensures len { vec_len rows.new ≡ vec_len rows.old }
-    ensures capacity { vec_capacity rows.new ≡ vec_capacity rows.old }
-    ensures deadlines_len { heap_len tally.new.deadlines ≤ heap_len tally.old.deadlines + 2 }
-    ensures deadlines_capacity { heap_capacity tally.old.deadlines
-        ≤ heap_capacity tally.new.deadlines }
+    ensures kept { KeepsSize rows.old rows.new tally.old tally.new }
+    ensures deadlines { AddsAtMost 2 tally.old tally.new }
 {
     let ended = has_ended(row_at(rows, at), now, row, now);
     write_row(rows, at, row);
@@ -54,14 +47,8 @@ fn refresh_row(rows: &mut Vec<Row>, tally: &mut Tally, at: usize, first: u32, no
     requires room { HasRoom 2 tally.old }
     ensures sound { IsSound now rows.new.items tally.new }
     ensures refreshes { Refreshes first rows.old.items rows.new.items at }
-    ensures objects { vec_len tally.new.depths ≡ vec_len tally.old.depths }
-    ensures gone_same { SameGone tally.old.gone tally.new.gone }
-    ensures ids_same { tally.new.live.ids ≡ tally.old.live.ids }
-    ensures len { vec_len rows.new ≡ vec_len rows.old }
-    ensures capacity { vec_capacity rows.new ≡ vec_capacity rows.old }
-    ensures deadlines_len { heap_len tally.new.deadlines ≤ heap_len tally.old.deadlines + 2 }
-    ensures deadlines_capacity { heap_capacity tally.old.deadlines
-        ≤ heap_capacity tally.new.deadlines }
+    ensures kept { KeepsSize rows.old rows.new tally.old tally.new }
+    ensures deadlines { AddsAtMost 2 tally.old tally.new }
 {
     let row = row_at(rows, at);
     let trigger = row_at(rows, (row.entry.scheduled.plan.trigger - first) as usize);
@@ -95,16 +82,8 @@ fn visit(
     ensures sound { IsSound now rows.new.items tally.new }
     ensures spreading { Spreading first rows.new.items links.now pending.new.items }
     ensures entries { row_entries rows.new.items ≡ row_entries rows.old.items }
-    ensures objects { vec_len tally.new.depths ≡ vec_len tally.old.depths }
-    ensures gone_same { SameGone tally.old.gone tally.new.gone }
-    ensures ids_same { tally.new.live.ids ≡ tally.old.live.ids }
-    ensures len { vec_len rows.new ≡ vec_len rows.old }
-    ensures capacity { vec_capacity rows.new ≡ vec_capacity rows.old }
-    ensures deadlines_left { heap_len tally.new.deadlines
-        + 2 * count_by is_unsettled rows.new.items
-        ≤ heap_len tally.old.deadlines + 2 * count_by is_unsettled rows.old.items }
-    ensures deadlines_capacity { heap_capacity tally.old.deadlines
-        ≤ heap_capacity tally.new.deadlines }
+    ensures kept { KeepsSize rows.old rows.new tally.old tally.new }
+    ensures deadlines { AddsForSettled rows.old.items rows.new.items tally.old tally.new }
     ensures pending_left { vec_len pending.new + count_by is_unsettled rows.new.items
         ≤ vec_len pending.old + 1 + count_by is_unsettled rows.old.items }
     ensures pending_capacity { vec_capacity pending.old ≤ vec_capacity pending.new }
@@ -143,16 +122,8 @@ pub fn spread(
     ensures spreading { Spreading first rows.new.items links.now [] }
     ensures consistent { Consistent first rows.new.items }
     ensures entries { row_entries rows.new.items ≡ row_entries rows.old.items }
-    ensures objects { vec_len tally.new.depths ≡ vec_len tally.old.depths }
-    ensures gone_same { SameGone tally.old.gone tally.new.gone }
-    ensures ids_same { tally.new.live.ids ≡ tally.old.live.ids }
-    ensures len { vec_len rows.new ≡ vec_len rows.old }
-    ensures capacity { vec_capacity rows.new ≡ vec_capacity rows.old }
-    ensures deadlines_left { heap_len tally.new.deadlines
-        + 2 * count_by is_unsettled rows.new.items
-        ≤ heap_len tally.old.deadlines + 2 * count_by is_unsettled rows.old.items }
-    ensures deadlines_capacity { heap_capacity tally.old.deadlines
-        ≤ heap_capacity tally.new.deadlines }
+    ensures kept { KeepsSize rows.old rows.new tally.old tally.new }
+    ensures deadlines { AddsForSettled rows.old.items rows.new.items tally.old tally.new }
     ensures pending_empty { pending.new.items ≡ [] }
     ensures pending_left { count_by is_unsettled rows.new.items
         ≤ vec_len pending.old + count_by is_unsettled rows.old.items }

@@ -2,9 +2,8 @@ ghost use Rattle.std.specs.Prelude.{◌≡◌, ◌<◌, ◌≤◌, ◌^◌, ◌+
 ghost use Rattle.std.specs.BinaryHeap.{heap_items, heap_len, heap_capacity, IsHeap};
 ghost use Rattle.std.specs.List.Sorted.{IsPermutation};
 ghost use Rattle.gate_downtime.specs.declared.row.Row.{Row};
-ghost use Rattle.gate_downtime.specs.inner.Rows.{active_at, with_active, Counted, deadline_cmp, Sound, SameButMarks, Adds, Wakes};
-ghost use Rattle.gate_downtime.specs.inner.Tally.{IsSound, HasRoom};
-ghost use Rattle.gate_downtime.specs.inner.Gone.{SameGone};
+ghost use Rattle.gate_downtime.specs.inner.Rows.{active_at, with_active, Counted, CanCount, deadline_cmp, Sound, SameButMarks, Adds, Wakes};
+ghost use Rattle.gate_downtime.specs.inner.Tally.{IsSound, HasRoom, KeepsSize};
 ghost use Rattle.gate_downtime.specs.inner.Live.{IsIdle};
 
 use crate::gone::{Gone, list_gone, no_gone};
@@ -77,9 +76,7 @@ fn next_due(deadlines: &mut BinaryHeap<Reverse<(u64, usize)>>, now: u32) -> Opti
 /// Sets the mark of a row and keeps the counters right.
 fn mark_active(rows: &mut [Row], depths: &mut [u32], at: usize, active: bool)
     requires within { at < length rows.old }
-    requires counted { Counted rows.old depths.old }
-    requires placed { All (λ r. r.entry.scheduled.object.place < length depths.old) rows.old }
-    requires few { length rows.old < 2 ^ 32 }
+    requires counters { CanCount rows.old depths.old }
     ensures rows { (d : Row)
         → rows.new ≡ slice_set rows.old at (with_active active (slice_index_or rows.old at d)) }
     ensures counted { Counted rows.new depths.new }
@@ -106,10 +103,7 @@ fn mark_active(rows: &mut [Row], depths: &mut [u32], at: usize, active: bool)
 
 pub fn mark_row(rows: &mut Vec<Row>, depths: &mut Vec<u32>, at: usize, active: bool)
     requires within { at < length rows.old.items }
-    requires counted { Counted rows.old.items depths.old.items }
-    requires placed { All (λ r. r.entry.scheduled.object.place
-        < length depths.old.items) rows.old.items }
-    requires few { length rows.old.items < 2 ^ 32 }
+    requires counters { CanCount rows.old.items depths.old.items }
     ensures rows { (d : Row)
         → rows.new.items
         ≡ slice_set rows.old.items at (with_active active (slice_index_or rows.old.items at d)) }
@@ -128,11 +122,7 @@ pub fn settle(rows: &mut Vec<Row>, tally: &mut Tally, before: u32, now: u32)
     requires sound { IsSound before rows.old.items tally.old }
     ensures sound { IsSound now rows.new.items tally.new }
     ensures same { SameButMarks rows.old.items rows.new.items }
-    ensures objects { vec_len tally.new.depths ≡ vec_len tally.old.depths }
-    ensures gone_same { SameGone tally.old.gone tally.new.gone }
-    ensures ids_same { tally.new.live.ids ≡ tally.old.live.ids }
-    ensures rows { vec_len rows.new ≡ vec_len rows.old }
-    ensures rows_capacity { vec_capacity rows.new ≡ vec_capacity rows.old }
+    ensures kept { KeepsSize rows.old rows.new tally.old tally.new }
     ensures capacity { heap_capacity tally.new.deadlines ≡ heap_capacity tally.old.deadlines }
     ensures fewer { heap_len tally.new.deadlines ≤ heap_len tally.old.deadlines }
 {

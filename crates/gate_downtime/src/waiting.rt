@@ -4,10 +4,9 @@ ghost use Rattle.gate_model.specs.Downtime.{begins_at};
 ghost use Rattle.gate_downtime.specs.declared.row.Row.{Row};
 ghost use Rattle.gate_downtime.specs.Book.{after_transition};
 ghost use Rattle.gate_downtime.specs.inner.Rows.{is_unsettled, row_entries, Consistent};
-ghost use Rattle.gate_downtime.specs.inner.Tally.{IsSound, HasRoom};
-ghost use Rattle.gate_downtime.specs.inner.Gone.{SameGone};
-ghost use Rattle.gate_downtime.specs.inner.Links.{IsWaiting, turned_at, Spreading};
-ghost use Rattle.gate_downtime.specs.inner.Walk.{IsFlex, FlexLinked, entry_list};
+ghost use Rattle.gate_downtime.specs.inner.Tally.{KeepsSize, AddsForSettled};
+ghost use Rattle.gate_downtime.specs.inner.Links.{IsWaiting, turned_at};
+ghost use Rattle.gate_downtime.specs.inner.Walk.{IsFlex, FlexLinked, entry_list, IsReady};
 
 use crate::links::{Link, push_pending};
 use crate::row::{Row, begin_by, over_by, row_at};
@@ -26,29 +25,15 @@ fn turn_root(
     now: Moment,
 )
     requires within { at < length rows.old.items }
-    requires sound { IsSound now.0 rows.old.items tally.old }
-    requires spreading { Spreading first rows.old.items links.now [] }
-    requires pending { pending.old.items ≡ [] }
+    requires ready { IsReady now.0 first rows.old.items links.now pending.old tally.old }
     requires root { (d : Row) → IsWaiting (slice_index_or rows.old.items at d) }
-    requires room_deadlines { HasRoom (2 * count_by is_unsettled rows.old.items) tally.old }
-    requires room_pending { count_by is_unsettled rows.old.items ≤ vec_capacity pending.old }
-    ensures sound { IsSound now.0 rows.new.items tally.new }
-    ensures spreading { Spreading first rows.new.items links.now [] }
+    ensures ready { IsReady now.0 first rows.new.items links.now pending.new tally.new }
     ensures entries { (d : Row)
         → row_entries rows.new.items
         ≡ reverse (slice_set (map (λ (r : Row). r.entry) rows.old.items) at
         (turned_at now (slice_index_or rows.old.items at d).entry)) }
-    ensures pending_empty { pending.new.items ≡ [] }
-    ensures objects { vec_len tally.new.depths ≡ vec_len tally.old.depths }
-    ensures gone_same { SameGone tally.old.gone tally.new.gone }
-    ensures ids_same { tally.new.live.ids ≡ tally.old.live.ids }
-    ensures len { vec_len rows.new ≡ vec_len rows.old }
-    ensures capacity { vec_capacity rows.new ≡ vec_capacity rows.old }
-    ensures deadlines_left { heap_len tally.new.deadlines
-        + 2 * count_by is_unsettled rows.new.items
-        ≤ heap_len tally.old.deadlines + 2 * count_by is_unsettled rows.old.items }
-    ensures deadlines_capacity { heap_capacity tally.old.deadlines
-        ≤ heap_capacity tally.new.deadlines }
+    ensures kept { KeepsSize rows.old rows.new tally.old tally.new }
+    ensures deadlines { AddsForSettled rows.old.items rows.new.items tally.old tally.new }
     ensures pending_left { count_by is_unsettled rows.new.items
         ≤ count_by is_unsettled rows.old.items }
     ensures pending_capacity { vec_capacity pending.old ≤ vec_capacity pending.new }
@@ -99,29 +84,15 @@ fn turn_row(
     now: Moment,
 )
     requires within { at < length rows.old.items }
-    requires sound { IsSound now.0 rows.old.items tally.old }
-    requires spreading { Spreading first rows.old.items links.now [] }
-    requires pending { pending.old.items ≡ [] }
+    requires ready { IsReady now.0 first rows.old.items links.now pending.old tally.old }
     requires flexible { (d : Row) → IsFlex place (slice_index_or rows.old.items at d).entry }
-    requires room_deadlines { HasRoom (2 * count_by is_unsettled rows.old.items) tally.old }
-    requires room_pending { count_by is_unsettled rows.old.items ≤ vec_capacity pending.old }
-    ensures sound { IsSound now.0 rows.new.items tally.new }
-    ensures spreading { Spreading first rows.new.items links.now [] }
+    ensures ready { IsReady now.0 first rows.new.items links.now pending.new tally.new }
     ensures entries { (d : Row)
         → entry_list rows.new.items
         ≡ slice_set (entry_list rows.old.items) at
         (after_transition now place (slice_index_or rows.old.items at d).entry) }
-    ensures pending_empty { pending.new.items ≡ [] }
-    ensures objects { vec_len tally.new.depths ≡ vec_len tally.old.depths }
-    ensures gone_same { SameGone tally.old.gone tally.new.gone }
-    ensures ids_same { tally.new.live.ids ≡ tally.old.live.ids }
-    ensures len { vec_len rows.new ≡ vec_len rows.old }
-    ensures capacity { vec_capacity rows.new ≡ vec_capacity rows.old }
-    ensures deadlines_left { heap_len tally.new.deadlines
-        + 2 * count_by is_unsettled rows.new.items
-        ≤ heap_len tally.old.deadlines + 2 * count_by is_unsettled rows.old.items }
-    ensures deadlines_capacity { heap_capacity tally.old.deadlines
-        ≤ heap_capacity tally.new.deadlines }
+    ensures kept { KeepsSize rows.old rows.new tally.old tally.new }
+    ensures deadlines { AddsForSettled rows.old.items rows.new.items tally.old tally.new }
     ensures pending_left { count_by is_unsettled rows.new.items
         ≤ count_by is_unsettled rows.old.items }
     ensures pending_capacity { vec_capacity pending.old ≤ vec_capacity pending.new }
@@ -144,27 +115,13 @@ pub fn turn_waiting(
     first: u32,
     now: Moment,
 )
-    requires sound { IsSound now.0 rows.old.items tally.old }
-    requires spreading { Spreading first rows.old.items links.now [] }
-    requires pending { pending.old.items ≡ [] }
+    requires ready { IsReady now.0 first rows.old.items links.now pending.old tally.old }
     requires flexible { FlexLinked now.0 rows.old.items links.now place head }
-    requires room_deadlines { HasRoom (2 * count_by is_unsettled rows.old.items) tally.old }
-    requires room_pending { count_by is_unsettled rows.old.items ≤ vec_capacity pending.old }
-    ensures sound { IsSound now.0 rows.new.items tally.new }
-    ensures spreading { Spreading first rows.new.items links.now [] }
+    ensures ready { IsReady now.0 first rows.new.items links.now pending.new tally.new }
     ensures entries { entry_list rows.new.items
         ≡ map (after_transition now place) (entry_list rows.old.items) }
-    ensures pending_empty { pending.new.items ≡ [] }
-    ensures objects { vec_len tally.new.depths ≡ vec_len tally.old.depths }
-    ensures gone_same { SameGone tally.old.gone tally.new.gone }
-    ensures ids_same { tally.new.live.ids ≡ tally.old.live.ids }
-    ensures len { vec_len rows.new ≡ vec_len rows.old }
-    ensures capacity { vec_capacity rows.new ≡ vec_capacity rows.old }
-    ensures deadlines_left { heap_len tally.new.deadlines
-        + 2 * count_by is_unsettled rows.new.items
-        ≤ heap_len tally.old.deadlines + 2 * count_by is_unsettled rows.old.items }
-    ensures deadlines_capacity { heap_capacity tally.old.deadlines
-        ≤ heap_capacity tally.new.deadlines }
+    ensures kept { KeepsSize rows.old rows.new tally.old tally.new }
+    ensures deadlines { AddsForSettled rows.old.items rows.new.items tally.old tally.new }
     ensures pending_left { count_by is_unsettled rows.new.items
         ≤ count_by is_unsettled rows.old.items }
     ensures pending_capacity { vec_capacity pending.old ≤ vec_capacity pending.new }

@@ -1,5 +1,5 @@
 -- What the faults of single lines are for all lines.
-use Rattle.std.proofs.Common.{◌≡◌, ℕ, ◌<◌, ◌≤◌, List, length, take, None, subst, ap, arith, inl, inr}
+use Rattle.std.proofs.Common.{◌≡◌, ℕ, ◌<◌, ◌≤◌, List, length, take, None, subst, ap, ◌∙◌, arith, inl, inr}
 use Rattle.std.specs.Prelude.{Err}
 use Rattle.std.proofs.lemmas.Bool.{cases_lt}
 use Rattle.std.proofs.lemmas.Option.{slice_get_past}
@@ -17,7 +17,11 @@ abbrev pub FaultlessBelow : List ObjectLine → ℕ → Type 0
 FaultlessBelow lines i = (j : ℕ) → j < i → fault_at lines j ≡ None
 
 pub first_fault : (lines : List ObjectLine) (i : ℕ) (fault : TableFault) (builder : TableBuilder) → length lines ≤ 16384 → FaultlessBelow lines i → AddsOrRefuses lines i (Err fault) builder → IsFaultOf lines fault
-first_fault lines i faults.OutOfMemory builder few before is = tt
+first_fault lines i faults.OutOfMemory builder few before is = record {
+  index = i;
+  few = few;
+  faultless = λ j le. elim (cases_lt j i) [ inl lt ↦ before j lt | inr ge ↦ let same : j ≡ i = omega (arith, le, ge) in ap (fault_at lines) same ∙ is ];
+}
 first_fault lines i (faults.BadName n) builder few before is = inr (record { index = i; few = few; here = is; first = before })
 first_fault lines i (faults.NoSuchHost n) builder few before is = inr (record { index = i; few = few; here = is; first = before })
 first_fault lines i (faults.DuplicateHost n) builder few before is = inr (record { index = i; few = few; here = is; first = before })

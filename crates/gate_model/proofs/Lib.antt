@@ -1,4 +1,5 @@
 pub mod Lists
+pub mod EscapeSteps
 pub mod KeySteps
 pub mod BuilderSteps
 pub mod Hosts
@@ -14,3 +15,4 @@ pub mod DowntimeSteps
 pub mod DowntimeGone
 pub mod MeaningSteps
 pub mod OrderSteps
+pub mod SearchSteps

@@ -52,7 +52,13 @@ unless_removed later comment = if list_any (λ event. removes event comment) lat
 -- the comment that is made after a history, the first of all having this id
 abbrev pub comment_made : ℕ → List CommentEvent → ObjectId → Source → Bool → ℕ → Comment
 comment_made first before object source persistent log_index =
-    record { id = first + number_made before; object = object; source = source; persistent = persistent; log_index = log_index }
+    record {
+      id = first + number_made before;
+      object = object;
+      source = source;
+      persistent = persistent;
+      log_index = log_index;
+    }
 
 -- the comments that a history made and that neither it nor the events later than it removed, ids ascending
 abbrev pub comments_left : ℕ → List CommentEvent → List CommentEvent → List Comment

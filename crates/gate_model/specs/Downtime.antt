@@ -84,7 +84,8 @@ over_in [] id = None
 over_in (entry ∷ older) id =
     if entry.scheduled.id == id
     then Some (
-    over_by entry (begin_by entry (begin_in older entry.scheduled.plan.trigger)) (begin_in older entry.scheduled.plan.trigger)
+    over_by entry (begin_by entry (begin_in older entry.scheduled.plan.trigger))
+    (begin_in older entry.scheduled.plan.trigger)
     (over_in older entry.scheduled.plan.trigger)
     )
     else over_in older id
@@ -117,7 +118,8 @@ is_active_in entries moment id = is_live_in entries moment id && is_begun_by mom
 -- how many entries of the object at this place are active at this moment
 abbrev pub depth_in : List Entry → ℕ → ℕ → ℕ
 depth_in entries moment place =
-    count_by (λ (entry : Entry). (entry.scheduled.object.place == place) && is_active_in entries moment entry.scheduled.id) entries
+    count_by (λ (entry : Entry). (entry.scheduled.object.place == place)
+    && is_active_in entries moment entry.scheduled.id) entries
 
 -- ---- transitions and deletions
 
@@ -154,7 +156,8 @@ abbrev mutual
   transition_of (Delete moment id ∷ before) first scheduled = transition_of before first scheduled
   transition_of (Transition moment place ∷ before) first scheduled =
       or_else (transition_of before first scheduled)
-      (if nat_lt scheduled.id (first + length (scheduled_in first before)) && begins_at scheduled moment place && not (was_deleted before first scheduled.id)
+      (if nat_lt scheduled.id (first + length (scheduled_in first before)) && begins_at scheduled moment place
+      && not (was_deleted before first scheduled.id)
       then Some moment
       else None)
 
@@ -165,7 +168,8 @@ abbrev mutual
   was_deleted (Schedule moment object plan ∷ before) first id = was_deleted before first id
   was_deleted (Delete moment deleted ∷ before) first id =
       was_deleted before first id
-      || (let entries = entries_by (transition_of before first) (was_deleted before first) (scheduled_in first before) in
+      || (let entries =
+      entries_by (transition_of before first) (was_deleted before first) (scheduled_in first before) in
       is_chained (is_live_in entries moment.0) entries deleted id)
   was_deleted (Transition moment place ∷ before) first id = was_deleted before first id
 
@@ -173,7 +177,8 @@ abbrev mutual
 
 -- the entries with what came of them, newest first; the first of all has the id `first`
 abbrev pub entries_of : ℕ → List DowntimeEvent → List Entry
-entries_of first history = entries_by (transition_of history first) (was_deleted history first) (scheduled_in first history)
+entries_of first history =
+    entries_by (transition_of history first) (was_deleted history first) (scheduled_in first history)
 
 -- when the entry of this id begins, in seconds, if it does
 abbrev pub begin_of : ℕ → List DowntimeEvent → ℕ → Option ℕ

@@ -1,3 +1,4 @@
+pub mod Escaping
 pub mod Names
 pub mod Table
 pub mod Submission
@@ -7,4 +8,5 @@ pub mod Status
 pub mod Comments
 pub mod Downtime
 pub mod Meaning
+pub mod Search
 pub mod inner

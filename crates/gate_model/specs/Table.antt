@@ -141,7 +141,13 @@ pub record IsOverfull (lines : List ObjectLine) (fault : TableFault) : Type 0 wh
   pub many : 16384 < length lines
   pub line_0 : fault ≡ TooMany 0
 
--- why these lines are no table: too many, or the first faulty one; memory may run out at any
+-- memory ran out at the line of this index, of at most 16,384: neither it nor a line before it is faulty
+pub record RanOut (lines : List ObjectLine) : Type 0 where
+  pub index : ℕ
+  pub few : length lines ≤ 16384
+  pub faultless : (i : ℕ) → i ≤ index → fault_at lines i ≡ None
+
+-- why these lines are no table: there are too many, or the first faulty one; or memory ran out before a fault was found
 abbrev pub IsFaultOf : List ObjectLine → TableFault → Type 0
-IsFaultOf lines OutOfMemory = Unit {0}
+IsFaultOf lines OutOfMemory = RanOut lines
 IsFaultOf lines fault = IsOverfull lines fault ⊎ IsFirstFault lines fault

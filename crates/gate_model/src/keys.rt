@@ -8,7 +8,7 @@ ghost use Rattle.gate_model.specs.declared.object.ObjectLine.{ObjectLine};
 ghost use Rattle.gate_model.specs.Table.{place_of};
 ghost use Rattle.gate_model.specs.inner.Keys.{key_of, is_short, line_key, is_short_line};
 
-use crate::table::{HOST_NAME, SERVICE_NAME};
+use crate::limits::{HOST_NAME, SERVICE_NAME};
 use arrayvec::ArrayVec;
 use indexmap::IndexSet;
 use std::alloc::{AllocError, Global};

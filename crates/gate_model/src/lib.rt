@@ -4,10 +4,14 @@
 
 mod comments;
 mod downtime;
+mod escaping;
 mod keys;
+mod limits;
 mod names;
+mod numbers;
 mod object;
 mod record;
+mod search;
 mod service_lists;
 mod services;
 mod state;
@@ -20,8 +24,15 @@ mod text;
 
 pub use comments::{Comment, CommentEvent, Source};
 pub use downtime::{DowntimeEvent, Entry, Plan, Scheduled};
+pub use escaping::push_escaped;
+pub use limits::{
+    DOCUMENT_BYTES, GREATEST_AGE, LINE_LENGTH, MOST_CAPACITY, MOST_CLIENTS, MOST_ITEMS,
+    MOST_RECORDS, MOST_SESSIONS, MOST_WORKERS,
+};
+pub use numbers::{push_code, push_number};
 pub use object::{Kind, ObjectId, ObjectLine};
 pub use record::{Moment, Outcome, Record};
+pub use search::{HasId, find_by_id};
 pub use services::Services;
 pub use state::State;
 pub use status::{Acknowledgement, CheckResult, ObjectEvent};

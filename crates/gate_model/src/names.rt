@@ -5,8 +5,8 @@ ghost use Rattle.std.specs.List.{list_any};
 ghost use Rattle.gate_model.specs.Names.{is_barred, is_padded, is_name};
 ghost use Rattle.gate_model.specs.Table.{is_named};
 
+use crate::limits::{HOST_NAME, SERVICE_NAME};
 use crate::object::ObjectLine;
-use crate::table::{HOST_NAME, SERVICE_NAME};
 
 fn is_barred(byte: u8) -> bool
     ensures { result ≡ is_barred byte }

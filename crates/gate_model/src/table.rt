@@ -10,6 +10,7 @@ ghost use Rattle.gate_model.specs.Meaning.{outcome_for};
 ghost use Rattle.gate_model.specs.inner.Keys.{IsIndex};
 
 use crate::keys::Keys;
+use crate::limits::LINES;
 use crate::object::{Kind, ObjectId, ObjectLine};
 use crate::record::Outcome;
 use crate::service_lists::ServiceLists;
@@ -20,17 +21,6 @@ use std::alloc::Global;
 use std::error::Error;
 use std::fmt;
 use std::marker::Model;
-
-/// The most lines of a table.
-pub const LINES: usize = 16_384;
-/// The most hosts of a table.
-pub const HOSTS: usize = 1_024;
-/// The most services of one host.
-pub const SERVICES_OF_HOST: usize = 1_024;
-/// The most bytes of a host's name.
-pub const HOST_NAME: usize = 63;
-/// The most bytes of a service's name.
-pub const SERVICE_NAME: usize = 127;
 
 /// Why lines are no table: what is wrong with the first faulty line, which is given by its number,
 /// from 1. The faults of one line are tested in this order. Own rule.
@@ -50,6 +40,7 @@ pub enum TableFault {
     /// It is the 1,025th host, or the 1,025th service of its host. Line 0 stands for the whole
     /// list, which has more than 16,384 lines.
     TooMany(u32),
+    /// Memory ran out at a line. Neither it nor one before it is faulty.
     OutOfMemory,
 }
 
@@ -127,8 +118,8 @@ impl ObjectTable {
     /// Builds the table of these lines. A service may be anywhere after its host.
     ///
     /// More than 16,384 lines are refused as `TooMany(0)`. Otherwise the fault is that of the first
-    /// faulty line. `OutOfMemory` may be returned in place of any answer. Each refusal returns the
-    /// lines.
+    /// faulty line, or `OutOfMemory` where memory ran out at a line such that neither it nor one
+    /// before it is faulty. Each refusal returns the lines.
     pub fn build(alloc: Global, lines: Vec<ObjectLine>) -> Result<ObjectTable, BuildFault>
         ensures table { IfOk result (λ table. table ≡ lines.items) }
         ensures faultless { IfOk result (λ table. IsFaultless table) }

@@ -1,4 +1,3 @@
-pub mod EscapeSteps
 pub mod LineSteps
 pub mod FillingSteps
 mod StatusExamples

@@ -2,7 +2,7 @@
 use Rattle.std.proofs.Common.{◌≡◌, ℕ, List, [], ◌∷◌, ◌++◌, Result, Ok, Err, sym, ap, ◌∙◌, append-nil, append_assoc}
 use Rattle.std.specs.Prelude.{if◌then◌else◌, is_ok, OnOk, codes}
 use Rattle.gate_grammar.specs.Spelling.{joined}
-use Rattle.gate_pages.specs.StatusPage.{line_of}
+use Rattle.gate_pages.specs.StatusPage.{page_line}
 
 -- what is there, and then each field after a semicolon
 abbrev pub appended : List ℕ → List (List ℕ) → List ℕ
@@ -16,7 +16,7 @@ appended-joined out (field ∷ fields) =
 
 -- a word, the fields and LF are a line
 pub line-appended : (out word : List ℕ) (fields : List (List ℕ))
-    → appended (out ++ word) fields ++ codes "\n" ≡ out ++ line_of word fields
+    → appended (out ++ word) fields ++ codes "\n" ≡ out ++ page_line word fields
 line-appended out word fields =
     ap (λ front. front ++ codes "\n") (appended-joined (out ++ word) fields)
     ∙ append_assoc (out ++ word) (joined fields) (codes "\n")

@@ -8,7 +8,7 @@ use Rattle.gate_model.specs.declared.submission.Body.{Body}
 use Rattle.gate_model.specs.declared.submission.Body.TheVariants as body
 use Rattle.gate_model.specs.declared.record.Moment.{Moment}
 use Rattle.gate_model.specs.declared.record.Record.{Record}
-use Rattle.gate_pages.specs.Escaping.{escaped}
+use Rattle.gate_model.specs.Escaping.{escaped}
 use Rattle.gate_pages.specs.StatusPage.{status_text, status_text_at, board_at}
 
 abbrev table : List ObjectLine

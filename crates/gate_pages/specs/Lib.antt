@@ -1,4 +1,3 @@
-pub mod Escaping
 pub mod LogPage
 pub mod Rows
 pub mod StatusPage

@@ -17,7 +17,7 @@ use Rattle.gate_grammar.specs.Spelling.{joined}
 use Rattle.gate_pages.specs.declared.rows.ObjectRow.{ObjectRow}
 use Rattle.gate_pages.specs.declared.rows.CommentRow.{CommentRow}
 use Rattle.gate_pages.specs.declared.rows.DowntimeRow.{DowntimeRow}
-use Rattle.gate_pages.specs.Escaping.{escaped}
+use Rattle.gate_model.specs.Escaping.{escaped}
 use Rattle.gate_pages.specs.Rows.{object_rows, comment_rows, downtime_rows}
 
 -- what a status page shows: its moment, its rows, and the moment of the close where it is marked closing
@@ -41,8 +41,8 @@ board_at table opening records moment = record {
 -- ---- fields
 
 -- a line: its first word, then each field after a semicolon, and LF
-abbrev pub line_of : List ℕ → List (List ℕ) → List ℕ
-line_of word fields = word ++ joined fields ++ codes "\n"
+abbrev pub page_line : List ℕ → List (List ℕ) → List ℕ
+page_line word fields = word ++ joined fields ++ codes "\n"
 
 -- the name of a service; a host has none
 abbrev pub service_text : Option (List ℕ) → List ℕ
@@ -110,7 +110,7 @@ object_fields row =
 
 -- `object;HOST;SERVICE;STATE;LAST;FRESH;ACK;DEPTH;OUTPUT`
 abbrev pub object_line : ObjectRow → List ℕ
-object_line row = line_of (codes "object") (object_fields row)
+object_line row = page_line (codes "object") (object_fields row)
 
 -- the fields of the line of a comment
 abbrev pub comment_fields : CommentRow → List (List ℕ)
@@ -127,7 +127,7 @@ comment_fields row =
 
 -- `comment;ID;HOST;SERVICE;SOURCE;PERSISTENT;MOMENT;AUTHOR;TEXT`
 abbrev pub comment_line : CommentRow → List ℕ
-comment_line row = line_of (codes "comment") (comment_fields row)
+comment_line row = page_line (codes "comment") (comment_fields row)
 
 -- the fields of the line of a downtime entry
 abbrev pub downtime_fields : DowntimeRow → List (List ℕ)
@@ -147,12 +147,12 @@ downtime_fields row =
 
 -- `downtime;ID;HOST;SERVICE;KIND;TRIGGER;START;END;DURATION;BEGIN;AUTHOR;TEXT`
 abbrev pub downtime_line : DowntimeRow → List ℕ
-downtime_line row = line_of (codes "downtime") (downtime_fields row)
+downtime_line row = page_line (codes "downtime") (downtime_fields row)
 
 -- `closing;MOMENT`, where the board is marked closing
 abbrev pub closing_line : Option Moment → List ℕ
 closing_line None = []
-closing_line (Some moment) = line_of (codes "closing") (decimal moment.0 ∷ [])
+closing_line (Some moment) = page_line (codes "closing") (decimal moment.0 ∷ [])
 
 -- ---- the page
 

@@ -5,8 +5,7 @@ use crate::filling::{comment_rows, downtime_rows, object_rows};
 use crate::rows::{CommentRow, DowntimeRow, ObjectRow};
 use crate::status_lines::{push_closing, push_comments, push_downtimes, push_objects};
 use gate_applier::Applier;
-use gate_grammar::push_number;
-use gate_model::Moment;
+use gate_model::{Moment, push_number};
 use std::alloc::{AllocError, Global};
 use std::marker::Model;
 

@@ -2,12 +2,10 @@
 
 ghost use Rattle.std.specs.Prelude.{◌≡◌, ◌∷◌, ◌++◌, OnOk};
 ghost use Rattle.std.specs.Fmt.{decimal};
-ghost use Rattle.gate_pages.specs.Escaping.{escaped};
+ghost use Rattle.gate_model.specs.Escaping.{escaped};
 ghost use Rattle.gate_pages.specs.StatusPage.{service_text, optional_number};
 
-use crate::escaping::push_escaped;
-use gate_grammar::push_number;
-use gate_model::Text;
+use gate_model::{Text, push_escaped, push_number};
 use std::alloc::AllocError;
 
 /// Appends a field with a word of the page's own.

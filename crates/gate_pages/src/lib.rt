@@ -1,9 +1,8 @@
 //! The status page and the log page of a gateway. A board owns what its status page shows, and the
-//! page is the text of exactly these facts; texts inside pages are escaped in one way.
+//! page is the text of exactly these facts.
 #![tactic(auto)]
 
 mod board;
-mod escaping;
 mod fields;
 mod filling;
 mod log_lines;
@@ -11,5 +10,4 @@ mod rows;
 mod status_lines;
 
 pub use board::{Board, publish, status_page};
-pub use escaping::push_escaped;
 pub use log_lines::{log_page, outcome_name};

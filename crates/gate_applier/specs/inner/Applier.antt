@@ -42,7 +42,8 @@ pub record IsSound (applier : Inside) : Type 0 where
   pub outcomes_are : applier.outcomes.items ≡ outcomes_of applier.table applier.records.items
   pub of_table : IsOfTable applier.table applier.opening applier.books
   pub books_stand
-      : BooksStand (events_of applier.table (history_of applier.table applier.records.items)) applier.moment applier.books
+      : BooksStand (events_of applier.table
+      (history_of applier.table applier.records.items)) applier.moment applier.books
   pub records_modest
       : IsModest applier.limit (vec_len applier.records) (vec_capacity applier.records)
   pub outcomes_modest

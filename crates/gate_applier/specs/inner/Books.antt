@@ -104,16 +104,19 @@ pub record BooksStand (events : Events) (moment : Moment) (books : Books) : Type
 
 -- whatever happened before, the new books follow it with this change of the events, where the old ones do
 abbrev pub Follows : Moment → (Events → Events) → Books → Books → Type 0
-Follows moment change old new = (events : Events) → BooksFollow events moment old → BooksFollow (change events) moment new
+Follows moment change old new =
+    (events : Events) → BooksFollow events moment old → BooksFollow (change events) moment new
 
 -- the body of this outcome was judged after whichever records the old books stand after, and the new ones follow it
-pub record IsJudged (table : List ObjectLine) (before : List Judged) (moment : Moment) (log_index : ℕ) (body : Body) (outcome : Outcome) (new : Books) : Type 0 where
+pub record IsJudged (table : List ObjectLine) (before : List Judged) (moment : Moment) (log_index : ℕ) (body : Body)
+    (outcome : Outcome) (new : Books) : Type 0 where
   pub outcome_is : outcome ≡ outcome_at table before moment body
   pub follow : BooksFollow (events_with table moment log_index body outcome (events_of table before)) moment new
 
 abbrev pub Judges : List ObjectLine → Moment → ℕ → Body → Outcome → Books → Books → Type 0
 Judges table moment log_index body outcome old new =
-    (before : List Judged) → BooksStand (events_of table before) moment old → IsJudged table before moment log_index body outcome new
+    (before : List Judged) → BooksStand (events_of table before) moment old
+    → IsJudged table before moment log_index body outcome new
 
 -- a source that stands: no downtime entry, or one that was scheduled and not returned as gone
 pub record IsStandingSource (book : DowntimeView) (source : Source) : Type 0 where
@@ -160,7 +163,8 @@ entries_added moment plan objects events = record {
   objects = events.objects;
   downtimes = reverse (map (λ object. Schedule moment object plan) objects) ++ events.downtimes;
   comments =
-      reverse (map (addition_of_entry plan.log_index) (enumerate_from (1 + length (scheduled_in 1 events.downtimes)) objects))
+      reverse (map (addition_of_entry plan.log_index)
+      (enumerate_from (1 + length (scheduled_in 1 events.downtimes)) objects))
       ++ events.comments;
 }
 
@@ -168,8 +172,10 @@ entries_added moment plan objects events = record {
 abbrev pub outcome_of_plan : Plan → DowntimeView → Outcome
 outcome_of_plan plan book = outcome_of_window (is_live_now book) book.moment plan.starts plan.ends plan.trigger
 
--- where the plan is accepted, the new books follow the events with the entries of these objects, and would accept it again
-pub record SchedulesEach (moment : Moment) (plan : Plan) (objects : List ObjectId) (events : Events) (new : Books) : Type 0 where
+-- where the plan is accepted, the new books follow the events with the entries of these objects, and would accept it
+-- again
+pub record SchedulesEach (moment : Moment) (plan : Plan) (objects : List ObjectId) (events : Events) (new : Books)
+    : Type 0 where
   pub follow : BooksFollow (entries_added moment plan objects events) moment new
   pub again : outcome_of_plan plan new.downtime ≡ Accepted
 
@@ -181,7 +187,7 @@ Schedules plan objects old new =
 -- the objects are those of the table, at that opening
 pub record IsOfTable (table : List ObjectLine) (opening : Moment) (books : Books) : Type 0 where
   pub opening_is : books.objects.opening ≡ opening
-  pub rows : length books.objects.rows ≡ length table
+  pub rows : length books.objects.statuses ≡ length table
   pub thresholds : (place : ℕ) → shown_threshold books.objects place ≡ threshold_of_line (slice_get table place)
   pub places : books.downtime.objects ≡ length table
   pub per_record_is : books.per_record ≡ max 1 (most_services table)
@@ -205,9 +211,10 @@ pub record CanMake (count : ℕ) (books : Books) : Type 0 where
   pub comment_ids : books.comments.next_id + count ≤ 4294967296
   pub entry_ids : next_id books.downtime + count ≤ 4294967296
 
--- the books have a row for each object of the table, room and ids for all comments and entries that one more record makes
+-- the books have a row for each object of the table, room and ids for all comments and entries that one more record
+-- makes
 pub record CanTake (table : List ObjectLine) (books : Books) : Type 0 where
-  pub rows : length books.objects.rows ≡ length table
+  pub rows : length books.objects.statuses ≡ length table
   pub places : books.downtime.objects ≡ length table
   pub one : 1 ≤ books.per_record
   pub services : most_services table ≤ books.per_record
@@ -216,7 +223,7 @@ pub record CanTake (table : List ObjectLine) (books : Books) : Type 0 where
 -- the objects are those of the same table, at the same opening
 pub record SameTable (old new : Books) : Type 0 where
   pub opening : new.objects.opening ≡ old.objects.opening
-  pub rows : length new.objects.rows ≡ length old.objects.rows
+  pub rows : length new.objects.statuses ≡ length old.objects.statuses
   pub thresholds : (place : ℕ) → shown_threshold new.objects place ≡ shown_threshold old.objects place
   pub places : new.downtime.objects ≡ old.downtime.objects
   pub per_record : new.per_record ≡ old.per_record
@@ -247,4 +254,5 @@ pub record Gives (count : ℕ) (old new : Books) : Type 0 where
 pub record ReturnsGone (old new : DowntimeView) : Type 0 where
   pub same : new ≡ record old { returned = new.returned }
   pub kept : (id : ℕ) → was_returned old.returned id ≡ true → was_returned new.returned id ≡ true
-  pub gone : ((id : ℕ) → was_returned old.returned id ≡ true → IsGone old id) → (id : ℕ) → was_returned new.returned id ≡ true → IsGone new id
+  pub gone : ((id : ℕ) → was_returned old.returned id ≡ true → IsGone old id) → (id : ℕ)
+      → was_returned new.returned id ≡ true → IsGone new id

@@ -23,7 +23,7 @@ is_free m = not (m.listed || m.returned)
 abbrev pub is_returned : Mark → Bool
 is_returned m = m.returned
 
--- what holds of the list and its marks, of this many rows
+-- the list of indexes and the marks fit one another, and this many rows
 pub record IsKept (n : ℕ) (marks : List Mark) (listed : Listed) : Type 0 where
   pub len : length marks ≡ n
   pub order : IsHeap gone_cmp listed
@@ -32,28 +32,40 @@ pub record IsKept (n : ℕ) (marks : List Mark) (listed : Listed) : Type 0 where
 
 -- a row that isn't live, and wasn't returned, is listed
 abbrev pub Awaits : ℕ → List Mark → Listed → ℕ → Row → Type 0
-Awaits t marks listed k r = live_at t r ≡ false → ((m : Mark) → (slice_index_or marks k m).returned ≡ false) → Contains listed (record { 0 = k })
+Awaits t marks listed k r =
+    live_at t r ≡ false → ((m : Mark) → (slice_index_or marks k m).returned ≡ false)
+    → Contains listed (record { 0 = k })
 
 pub record AllGone (t : ℕ) (rows : List Row) (gone : Gone) : Type 0 where
   pub kept : IsKept (length rows) gone.marks.items (heap_items gone.heap)
   pub few : heap_len gone.heap + count_by is_free gone.marks.items ≤ length rows
   pub room : length rows ≤ heap_capacity gone.heap
-  pub awaits : (k : ℕ) (d : Row) → k < length rows → Awaits t gone.marks.items (heap_items gone.heap) k (slice_index_or rows k d)
+  pub awaits :
+      (k : ℕ) (d : Row) → k < length rows
+      → Awaits t gone.marks.items (heap_items gone.heap) k (slice_index_or rows k d)
 
 -- on the way to t: a row that isn't listed as it has to be has a deadline to come
 pub record GoneOrDue (t : ℕ) (rows : List Row) (deadlines : Deadlines) (gone : Gone) : Type 0 where
   pub kept : IsKept (length rows) gone.marks.items (heap_items gone.heap)
   pub few : heap_len gone.heap + count_by is_free gone.marks.items ≤ length rows
   pub room : length rows ≤ heap_capacity gone.heap
-  pub awaits : (k : ℕ) (d : Row) → k < length rows → Awaits t gone.marks.items (heap_items gone.heap) k (slice_index_or rows k d) ⊎ IsDue t deadlines k
+  pub awaits :
+      (k : ℕ) (d : Row) → k < length rows
+      → Awaits t gone.marks.items (heap_items gone.heap) k (slice_index_or rows k d) ⊎ IsDue t deadlines k
 
 -- the row at this index is listed, if it is to be
 pub record Lists (at : ℕ) (live : Bool) (old new : Gone) : Type 0 where
   pub kept : (n : ℕ) → IsKept n old.marks.items (heap_items old.heap) → IsKept n new.marks.items (heap_items new.heap)
-  pub few : (n : ℕ) → heap_len old.heap + count_by is_free old.marks.items ≤ n → heap_len new.heap + count_by is_free new.marks.items ≤ n
-  pub keeps : (k : ℕ) → Contains (heap_items old.heap) (record { 0 = k }) → Contains (heap_items new.heap) (record { 0 = k })
+  pub few :
+      (n : ℕ) → heap_len old.heap + count_by is_free old.marks.items ≤ n
+      → heap_len new.heap + count_by is_free new.marks.items ≤ n
+  pub keeps :
+      (k : ℕ) → Contains (heap_items old.heap) (record { 0 = k })
+      → Contains (heap_items new.heap) (record { 0 = k })
   pub same : map is_returned new.marks.items ≡ map is_returned old.marks.items
-  pub there : live ≡ false → ((m : Mark) → (slice_index_or old.marks.items at m).returned ≡ false) → Contains (heap_items new.heap) (record { 0 = at })
+  pub there :
+      live ≡ false → ((m : Mark) → (slice_index_or old.marks.items at m).returned ≡ false)
+      → Contains (heap_items new.heap) (record { 0 = at })
   pub capacity : heap_capacity old.heap ≤ heap_capacity new.heap
   pub marks_len : vec_len new.marks ≡ vec_len old.marks
   pub marks_capacity : vec_capacity old.marks ≤ vec_capacity new.marks
@@ -76,20 +88,30 @@ pub record MoreGone (old new : Gone) : Type 0 where
 pub record Pops (at : ℕ) (old new : Gone) : Type 0 where
   pub within : at < length old.marks.items
   pub kept : (n : ℕ) → IsKept n old.marks.items (heap_items old.heap) → IsKept n new.marks.items (heap_items new.heap)
-  pub few : (n : ℕ) → heap_len old.heap + count_by is_free old.marks.items ≤ n → heap_len new.heap + count_by is_free new.marks.items ≤ n
+  pub few :
+      (n : ℕ) → heap_len old.heap + count_by is_free old.marks.items ≤ n
+      → heap_len new.heap + count_by is_free new.marks.items ≤ n
   pub least : (k : ℕ) → Contains (heap_items old.heap) (record { 0 = k }) → at ≤ k
-  pub keeps : (k : ℕ) → (k ≡ at → ⊥) → Contains (heap_items old.heap) (record { 0 = k }) → Contains (heap_items new.heap) (record { 0 = k })
+  pub keeps :
+      (k : ℕ) → (k ≡ at → ⊥) → Contains (heap_items old.heap) (record { 0 = k })
+      → Contains (heap_items new.heap) (record { 0 = k })
 
 -- the row at this index was returned
 pub record Returns (at : ℕ) (old new : Gone) : Type 0 where
-  pub marks : (m : Mark) → new.marks.items ≡ slice_set old.marks.items at (record { listed = (slice_index_or old.marks.items at m).listed; returned = true })
+  pub marks :
+      (m : Mark)
+      → new.marks.items
+      ≡ slice_set old.marks.items at
+      (record { listed = (slice_index_or old.marks.items at m).listed; returned = true })
   pub heap : new.heap ≡ old.heap
   pub marks_len : vec_len new.marks ≡ vec_len old.marks
   pub marks_capacity : vec_capacity new.marks ≡ vec_capacity old.marks
 
 -- each of the first n rows is live or was returned
 abbrev pub AllPassed : ℕ → List Row → Gone → ℕ → Type 0
-AllPassed now rows gone n = (k : ℕ) (d : Row) (m : Mark) → k < n → (live_at now (slice_index_or rows k d) || (slice_index_or gone.marks.items k m).returned) ≡ true
+AllPassed now rows gone n =
+    (k : ℕ) (d : Row) (m : Mark) → k < n
+    → (live_at now (slice_index_or rows k d) || (slice_index_or gone.marks.items k m).returned) ≡ true
 
 -- the least row that isn't live and wasn't returned is returned
 pub record TakesGone (now : ℕ) (rows : List Row) (at : ℕ) (old new : Gone) : Type 0 where

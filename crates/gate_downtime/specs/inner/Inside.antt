@@ -30,7 +30,9 @@ pub record BookInvariant (b : Inside) : Type 0 where
   pub small : b.room < 2 ^ 32
   pub room_rows : vec_len b.rows + b.room ≤ vec_capacity b.rows
   pub room_links : vec_len b.links + b.room ≤ vec_capacity b.links
-  pub room_deadlines : heap_len b.tally.deadlines + 2 * count_by is_unsettled b.rows.items + 4 * b.room ≤ heap_capacity b.tally.deadlines
+  pub room_deadlines :
+      heap_len b.tally.deadlines + 2 * count_by is_unsettled b.rows.items + 4 * b.room
+      ≤ heap_capacity b.tally.deadlines
   pub room_pending : vec_len b.rows + b.room ≤ vec_capacity b.pending
   pub room_marks : vec_len b.tally.gone.marks + b.room ≤ vec_capacity b.tally.gone.marks
   pub live_is : b.tally.live.ids.items ≡ live_ids b.first b.moment.0 b.rows.items

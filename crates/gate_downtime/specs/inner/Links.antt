@@ -1,4 +1,5 @@
--- For proofs and private functions alone: lists of the rows that a row triggers, and the spreading of a beginning along them.
+-- For proofs and private functions alone: lists of the rows that a row triggers, and the spreading of a beginning
+-- along them.
 use Rattle.std.specs.Prelude.{◌≡◌, ℕ, ◌+◌, ◌-◌, ◌<◌, ◌≤◌, ◌⊎◌, Bool, true, false, List, [], ◌∷◌, ◌++◌, length, slice_index_or, slice_set, Option, Some, None, All, Contains}
 use Rattle.std.specs.List.{sum_by}
 use Rattle.gate_model.specs.declared.record.Moment.{Moment}
@@ -13,13 +14,19 @@ trig r = r.entry.scheduled.plan.trigger
 -- the newest row before n that x triggers, or that there is none
 abbrev pub Newest : List Row → ℕ → ℕ → Option ℕ → Type 0
 Newest rows x n None = (j : ℕ) (d : Row) → j < n → trig (slice_index_or rows j d) ≡ x → ⊥
-Newest rows x n (Some f) = (f < n) × ((d : Row) → trig (slice_index_or rows f d) ≡ x) × ((j : ℕ) (d : Row) → f < j → j < n → trig (slice_index_or rows j d) ≡ x → ⊥)
+Newest rows x n (Some f) =
+    (f < n) × ((d : Row) → trig (slice_index_or rows f d) ≡ x)
+    × ((j : ℕ) (d : Row) → f < j → j < n → trig (slice_index_or rows j d) ≡ x → ⊥)
 
 -- each row's newest child, and the next older child of the same trigger
 pub record Linked (first : ℕ) (rows : List Row) (links : List Link) : Type 0 where
   pub len : length links ≡ length rows
-  pub child : (k : ℕ) (l : Link) → k < length rows → Newest rows (first + k) (length rows) (slice_index_or links k l).child
-  pub sibling : (k : ℕ) (l : Link) (d : Row) → k < length rows → (trig (slice_index_or rows k d) ≡ 0 → ⊥) → Newest rows (trig (slice_index_or rows k d)) k (slice_index_or links k l).sibling
+  pub child :
+      (k : ℕ) (l : Link) → k < length rows
+      → Newest rows (first + k) (length rows) (slice_index_or links k l).child
+  pub sibling :
+      (k : ℕ) (l : Link) (d : Row) → k < length rows → (trig (slice_index_or rows k d) ≡ 0 → ⊥)
+      → Newest rows (trig (slice_index_or rows k d)) k (slice_index_or links k l).sibling
 
 -- a row's id follows from its index, and its trigger is an earlier row
 pub record PlacedAt (first : ℕ) (k : ℕ) (r : Row) : Type 0 where
@@ -27,7 +34,10 @@ pub record PlacedAt (first : ℕ) (k : ℕ) (r : Row) : Type 0 where
   pub linked : (trig r ≡ 0) ⊎ ((first ≤ trig r) × (trig r < first + k))
 
 abbrev pub FollowsAt : ℕ → List Row → Row → Type 0
-FollowsAt first rows r = (e : Row) → Follows r (slice_index_or rows (trig r - first) e).begun (Some (slice_index_or rows (trig r - first) e).over)
+FollowsAt first rows r =
+    (e : Row)
+    → Follows r (slice_index_or rows (trig r - first) e).begun
+    (Some (slice_index_or rows (trig r - first) e).over)
 
 -- the row is to come: it, or a newer child of its trigger, is pending
 pub record Covered (rows : List Row) (pending : List ℕ) (j : ℕ) : Type 0 where
@@ -50,9 +60,15 @@ pub record Spreading (first : ℕ) (rows : List Row) (links : List Link) (pendin
   pub from : 0 < first
   pub placed : (k : ℕ) (d : Row) → k < length rows → PlacedAt first k (slice_index_or rows k d)
   pub linked : Linked first rows links
-  pub chain : (j : ℕ) (d e : Row) → j < length rows → (slice_index_or rows j d).settled ≡ true → (trig (slice_index_or rows j d) ≡ 0 → ⊥) → (slice_index_or rows (trig (slice_index_or rows j d) - first) e).settled ≡ true
+  pub chain :
+      (j : ℕ) (d e : Row) → j < length rows → (slice_index_or rows j d).settled ≡ true
+      → (trig (slice_index_or rows j d) ≡ 0 → ⊥)
+      → (slice_index_or rows (trig (slice_index_or rows j d) - first) e).settled ≡ true
   pub roots : (j : ℕ) (d : Row) → j < length rows → IsRoot (slice_index_or rows j d)
-  pub follows : (j : ℕ) (d : Row) → j < length rows → FollowsAt first rows (slice_index_or rows j d) ⊎ (((slice_index_or rows j d).settled ≡ false) × Covered rows pending j)
+  pub follows :
+      (j : ℕ) (d : Row) → j < length rows
+      → FollowsAt first rows (slice_index_or rows j d)
+      ⊎ (((slice_index_or rows j d).settled ≡ false) × Covered rows pending j)
   pub ready : All (IsPending first rows) pending
 
 -- the row at k takes what follows from its trigger
@@ -98,6 +114,9 @@ triggered_links links at l = slice_set links at (with_child (length links) l) ++
 
 -- the links and the heads of the lists after a new row: one with a trigger, one that waits, or one in no list
 abbrev pub IsLinkedMore : List Link → List (Option ℕ) → Option ℕ → Bool → ℕ → List Link → List (Option ℕ) → Type 0
-IsLinkedMore links heads (Some at) fixed place links' heads' = ((d : Link) → links' ≡ triggered_links links at (slice_index_or links at d)) × (heads' ≡ heads)
+IsLinkedMore links heads (Some at) fixed place links' heads' =
+    ((d : Link) → links' ≡ triggered_links links at (slice_index_or links at d)) × (heads' ≡ heads)
 IsLinkedMore links heads None true place links' heads' = (links' ≡ links ++ lone_link ∷ []) × (heads' ≡ heads)
-IsLinkedMore links heads None false place links' heads' = (links' ≡ links ++ waiting_link (slice_index_or heads place None) ∷ []) × (heads' ≡ slice_set heads place (Some (length links)))
+IsLinkedMore links heads None false place links' heads' =
+    (links' ≡ links ++ waiting_link (slice_index_or heads place None) ∷ [])
+    × (heads' ≡ slice_set heads place (Some (length links)))

@@ -1,6 +1,6 @@
 -- For proofs and private functions alone: the ids of the live rows, and those that a call is still to remove.
-use Rattle.std.specs.Prelude.{◌≡◌, ℕ, ◌+◌, ◌-◌, ◌<◌, ◌≤◌, ◌⊎◌, ◌==◌, Bool, true, false, List, [], ◌∷◌, map, length, slice_index_or, Option, All, Contains}
-use Rattle.std.specs.List.{position_from}
+use Rattle.std.specs.Prelude.{◌≡◌, ℕ, ◌+◌, ◌-◌, ◌<◌, ◌≤◌, ◌⊎◌, Bool, true, false, List, [], ◌∷◌, map, filter, length, slice_index_or, Option, All, Contains}
+use Rattle.gate_model.specs.Search.{index_by}
 use Rattle.gate_model.specs.declared.downtime.Scheduled.{Scheduled}
 use Rattle.gate_downtime.specs.declared.row.Row.{Row}
 use Rattle.gate_downtime.specs.declared.live.LiveIds.{LiveIds}
@@ -18,7 +18,7 @@ AreAscending ids = AreFrom 0 ids
 
 -- the index of this id
 abbrev pub index_among : ℕ → List ℕ → Option ℕ
-index_among id ids = position_from (λ (other : ℕ). other == id) 0 ids
+index_among id ids = index_by (λ (other : ℕ). other) id ids
 
 -- the ids of the rows that are live at t, ascending
 abbrev pub live_ids : ℕ → ℕ → List Row → List ℕ
@@ -44,14 +44,16 @@ pub record Notes (id : ℕ) (ended : Bool) (old new : LiveIds) : Type 0 where
 
 -- a row that isn't live at t, and whose id is among the ids, is noted
 abbrev pub IsRowNoted : ℕ → LiveIds → Row → Type 0
-IsRowNoted t live r = live_at t r ≡ false → Contains live.ids.items r.entry.scheduled.id → IsNoted live r.entry.scheduled.id
+IsRowNoted t live r =
+    live_at t r ≡ false → Contains live.ids.items r.entry.scheduled.id → IsNoted live r.entry.scheduled.id
 
 abbrev pub AllNoted : ℕ → List Row → LiveIds → Type 0
 AllNoted t rows live = (k : ℕ) (d : Row) → k < length rows → IsRowNoted t live (slice_index_or rows k d)
 
 -- on the way to t: a row that isn't yet noted has a deadline to come
 abbrev pub NotedOrDue : ℕ → List Row → Deadlines → LiveIds → Type 0
-NotedOrDue t rows deadlines live = (k : ℕ) (d : Row) → k < length rows → IsRowNoted t live (slice_index_or rows k d) ⊎ IsDue t deadlines k
+NotedOrDue t rows deadlines live =
+    (k : ℕ) (d : Row) → k < length rows → IsRowNoted t live (slice_index_or rows k d) ⊎ IsDue t deadlines k
 
 -- the ids for which this isn't true are noted
 abbrev pub AreNoted : (ℕ → Bool) → LiveIds → Type 0
@@ -61,6 +63,12 @@ AreNoted is_live live = (id : ℕ) → Contains live.ids.items id → is_live id
 pub record IsIdle (live : LiveIds) : Type 0 where
   pub none : live.ended.items ≡ []
   pub few : live.many ≡ false
+
+-- the ids of live rows are left alone, and nothing is noted
+pub record DropsEnded (is_live : ℕ → Bool) (old new : LiveIds) : Type 0 where
+  pub ids : new.ids.items ≡ filter is_live old.ids.items
+  pub room : old.ids.room ≤ new.ids.room
+  pub idle : IsIdle new
 
 -- the id of the row isn't among the ids
 abbrev pub IsFresh : Row → LiveIds → Type 0

@@ -14,7 +14,9 @@ IsLastWithin (Some at) links = at < length links
 -- the row after the last one that was kept is this one, or the list of the object at this place begins with it
 abbrev pub SetsNext : Option ℕ → Option ℕ → ℕ → List Link → List (Option ℕ) → List Link → List (Option ℕ) → Type 0
 SetsNext None next place links heads links' heads' = (links' ≡ links) × (heads' ≡ slice_set heads place next)
-SetsNext (Some at) next place links heads links' heads' = ((l : Link) → links' ≡ slice_set links at (with_waiting next (slice_index_or links at l))) × (heads' ≡ heads)
+SetsNext (Some at) next place links heads links' heads' =
+    ((l : Link) → links' ≡ slice_set links at (with_waiting next (slice_index_or links at l)))
+    × (heads' ≡ heads)
 
 -- the cursor is after the last row that was kept, or at the first of the list
 abbrev pub IsAfter : List Link → List (Option ℕ) → ℕ → Option ℕ → Option ℕ → Type 0

@@ -29,6 +29,12 @@ here p r = (r.entry.scheduled.object.place == p) && r.active
 abbrev pub Counted : List Row → List ℕ → Type 0
 Counted rows depths = (p : ℕ) → p < length depths → slice_index_or depths p 0 ≡ count_by (here p) rows
 
+-- the counters are those of these rows, each row's object has one, and none of them can overflow
+pub record CanCount (rows : List Row) (depths : List ℕ) : Type 0 where
+  pub counted : Counted rows depths
+  pub placed : All (λ (r : Row). r.entry.scheduled.object.place < length depths) rows
+  pub few : length rows < 2 ^ 32
+
 -- a row keeps its beginning, its end and its deletion
 pub record IsCached (es : List Entry) (r : Row) : Type 0 where
   pub begun_is : r.begun ≡ begin_in es r.entry.scheduled.id
@@ -47,7 +53,7 @@ pub record Wakes (t : ℕ) (deadlines : List (Reverse (ℕ × ℕ))) (k : ℕ) (
 abbrev pub Deadlines : Type 0
 Deadlines = List (Reverse (ℕ × ℕ))
 
--- what holds of rows, counters and deadlines whatever the moment
+-- rows, counters and deadlines fit one another, whatever the moment
 pub record Fits (rows : List Row) (depths : List ℕ) (deadlines : Deadlines) : Type 0 where
   pub order : IsHeap deadline_cmp deadlines
   pub counted : Counted rows depths
@@ -82,7 +88,9 @@ SameButMarks xs ys = map (with_active true) ys ≡ map (with_active true) xs
 pub record Settling (t : ℕ) (before rows : List Row) (depths : List ℕ) (deadlines : Deadlines) : Type 0 where
   pub fits : Fits rows depths deadlines
   pub awake : Awake t rows deadlines
-  pub pending : (k : ℕ) (d : Row) → k < length rows → ((slice_index_or rows k d).active ≡ active_at t (slice_index_or rows k d)) ⊎ IsDue t deadlines k
+  pub pending :
+      (k : ℕ) (d : Row) → k < length rows
+      → ((slice_index_or rows k d).active ≡ active_at t (slice_index_or rows k d)) ⊎ IsDue t deadlines k
   pub same : SameButMarks before rows
 
 -- a row's beginning and end follow from its trigger's
@@ -93,8 +101,13 @@ pub record Follows (r : Row) (begun over : Option ℕ) : Type 0 where
 -- a row's id follows from its index, its trigger is an earlier row, and its beginning and end follow from the trigger's
 pub record Local (first : ℕ) (rows : List Row) (k : ℕ) (r : Row) : Type 0 where
   pub id_is : r.entry.scheduled.id ≡ first + k
-  pub linked : (r.entry.scheduled.plan.trigger ≡ 0) ⊎ ((first ≤ r.entry.scheduled.plan.trigger) × (r.entry.scheduled.plan.trigger < first + k))
-  pub follows : (e : Row) → Follows r (slice_index_or rows (r.entry.scheduled.plan.trigger - first) e).begun (Some (slice_index_or rows (r.entry.scheduled.plan.trigger - first) e).over)
+  pub linked :
+      (r.entry.scheduled.plan.trigger ≡ 0)
+      ⊎ ((first ≤ r.entry.scheduled.plan.trigger) × (r.entry.scheduled.plan.trigger < first + k))
+  pub follows :
+      (e : Row)
+      → Follows r (slice_index_or rows (r.entry.scheduled.plan.trigger - first) e).begun
+      (Some (slice_index_or rows (r.entry.scheduled.plan.trigger - first) e).over)
 
 abbrev pub Consistent : ℕ → List Row → Type 0
 Consistent first rows = (k : ℕ) (d : Row) → k < length rows → Local first rows k (slice_index_or rows k d)
@@ -106,13 +119,17 @@ is_unsettled r = not r.settled
 pub record Nearly (t : ℕ) (rows : List Row) (depths : List ℕ) (deadlines : Deadlines) (k : ℕ) : Type 0 where
   pub fits : Fits rows depths deadlines
   pub awake : Awake t rows deadlines
-  pub marked : (j : ℕ) (d : Row) → j < length rows → (j ≡ k → ⊥) → (slice_index_or rows j d).active ≡ active_at t (slice_index_or rows j d)
+  pub marked :
+      (j : ℕ) (d : Row) → j < length rows → (j ≡ k → ⊥)
+      → (slice_index_or rows j d).active ≡ active_at t (slice_index_or rows j d)
 
 -- new deadlines are those of the row at k
 pub record Adds (k : ℕ) (old new : Deadlines) : Type 0 where
   pub order : IsHeap deadline_cmp old → IsHeap deadline_cmp new
   pub keeps : (x : Reverse (ℕ × ℕ)) → Contains old x → Contains new x
-  pub only : (n : ℕ) → k < n → All (λ (d : Reverse (ℕ × ℕ)). d.0.1 < n) old → All (λ (d : Reverse (ℕ × ℕ)). d.0.1 < n) new
+  pub only :
+      (n : ℕ) → k < n → All (λ (d : Reverse (ℕ × ℕ)). d.0.1 < n) old
+      → All (λ (d : Reverse (ℕ × ℕ)). d.0.1 < n) new
 
 -- live at t, by what the row keeps
 abbrev pub live_at : ℕ → Row → Bool
@@ -120,12 +137,39 @@ live_at t r = not r.entry.deleted && nat_lt t r.over
 
 -- a row, where there is none
 abbrev pub some-row : Row
-some-row = record { entry = record { scheduled = record { id = 0; object = record { place = 0; kind = Host }; plan = record { starts = record { 0 = 0 }; ends = record { 0 = 0 }; fixed = false; trigger = 0; lasts = 0; log_index = 0 }; moment = record { 0 = 0 } }; transition = None; deleted = false }; begun = None; over = 0; active = false; settled = false }
+some-row =
+    record {
+      entry = record {
+        scheduled = record {
+          id = 0;
+          object = record { place = 0; kind = Host };
+          plan = record {
+            starts = record { 0 = 0 };
+            ends = record { 0 = 0 };
+            fixed = false;
+            trigger = 0;
+            lasts = 0;
+            log_index = 0;
+          };
+          moment = record { 0 = 0 };
+        };
+        transition = None;
+        deleted = false;
+      };
+      begun = None;
+      over = 0;
+      active = false;
+      settled = false;
+    }
 
 -- the row of this id is there, and live at t
 abbrev pub is_live_row : ℕ → List Row → ℕ → ℕ → Bool
-is_live_row first rows t x = (nat_le first x && nat_lt x (first + length rows)) && live_at t (slice_index_or rows (x - first) some-row)
+is_live_row first rows t x =
+    (nat_le first x && nat_lt x (first + length rows)) && live_at t (slice_index_or rows (x - first) some-row)
 
 -- when the row of this id begins, if it is there and does
 abbrev pub begin_of_row : ℕ → List Row → ℕ → Option ℕ
-begin_of_row first rows x = if nat_le first x && nat_lt x (first + length rows) then (slice_index_or rows (x - first) some-row).begun else None
+begin_of_row first rows x =
+    if nat_le first x && nat_lt x (first + length rows)
+    then (slice_index_or rows (x - first) some-row).begun
+    else None

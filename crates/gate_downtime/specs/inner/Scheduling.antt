@@ -5,7 +5,7 @@ use Rattle.gate_downtime.specs.declared.row.Row.{Row}
 use Rattle.gate_downtime.specs.inner.Rows.{live_at}
 use Rattle.gate_downtime.specs.declared.scheduling.Trigger.{Trigger}
 
--- what is known of the row that triggers
+-- the trigger found is the row of the id x, with its beginning, its end and its mark
 pub record IsTriggerRow (first : ℕ) (rows : List Row) (x : ℕ) (found : Trigger) : Type 0 where
   pub low : first ≤ x
   pub high : x < first + length rows
@@ -14,7 +14,7 @@ pub record IsTriggerRow (first : ℕ) (rows : List Row) (x : ℕ) (found : Trigg
   pub over : (e : Row) → found.over ≡ (slice_index_or rows (x - first) e).over
   pub settled : (e : Row) → found.settled ≡ (slice_index_or rows (x - first) e).settled
 
--- what is known of the trigger that a schedule names
+-- the trigger found is the one that a schedule names by x: none for 0, and else the row of that id
 abbrev pub IsTrigger : ℕ → List Row → ℕ → Trigger → Type 0
 IsTrigger first rows x found = ((x ≡ 0) × (found.at ≡ None)) ⊎ IsTriggerRow first rows x found
 

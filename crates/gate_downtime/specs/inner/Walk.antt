@@ -1,10 +1,15 @@
 -- For proofs and private functions alone: the walk over the rows of an object that wait for a transition.
-use Rattle.std.specs.Prelude.{◌≡◌, ℕ, ◌+◌, ◌<◌, ◌≤◌, Bool, false, not, ◌&&◌, nat_lt, is_none, List, length, map, slice_index_or, Option, Some, None}
+use Rattle.std.specs.Prelude.{◌≡◌, ℕ, ◌+◌, ◌*◌, ◌<◌, ◌≤◌, Bool, false, not, ◌&&◌, nat_lt, is_none, List, [], length, map, slice_index_or, count_by, vec_capacity, Option, Some, None}
+use Rattle.std.specs.Global.{Vec}
 use Rattle.gate_model.specs.declared.record.Moment.{Moment}
 use Rattle.gate_model.specs.declared.downtime.Entry.{Entry}
 use Rattle.gate_downtime.specs.Book.{after_transition}
 use Rattle.gate_downtime.specs.declared.row.Row.{Row}
 use Rattle.gate_downtime.specs.declared.links.Link.{Link}
+use Rattle.gate_downtime.specs.declared.tally.Tally.{Tally}
+use Rattle.gate_downtime.specs.inner.Rows.{is_unsettled}
+use Rattle.gate_downtime.specs.inner.Tally.{IsSound, HasRoom}
+use Rattle.gate_downtime.specs.inner.Links.{Spreading}
 
 -- an untriggered flexible entry of this object
 pub record IsFlex (p : ℕ) (e : Entry) : Type 0 where
@@ -26,12 +31,16 @@ may_begin t e = is_none e.transition && not e.deleted && nat_lt t e.scheduled.pl
 -- an untriggered flexible row of the object, and none between it and n waits
 abbrev pub NewestFlex : ℕ → List Row → ℕ → ℕ → Option ℕ → Type 0
 NewestFlex t rows p n None = (j : ℕ) (d : Row) → j < n → Waits t p (slice_index_or rows j d).entry → ⊥
-NewestFlex t rows p n (Some f) = (f < n) × ((d : Row) → IsFlex p (slice_index_or rows f d).entry) × ((j : ℕ) (d : Row) → f < j → j < n → Waits t p (slice_index_or rows j d).entry → ⊥)
+NewestFlex t rows p n (Some f) =
+    (f < n) × ((d : Row) → IsFlex p (slice_index_or rows f d).entry)
+    × ((j : ℕ) (d : Row) → f < j → j < n → Waits t p (slice_index_or rows j d).entry → ⊥)
 
 -- the list of an object's untriggered flexible rows, the newest first, with all that wait
 pub record FlexLinked (t : ℕ) (rows : List Row) (links : List Link) (p : ℕ) (head : Option ℕ) : Type 0 where
   pub head_is : NewestFlex t rows p (length rows) head
-  pub next_is : (k : ℕ) (l : Link) (d : Row) → k < length rows → IsFlex p (slice_index_or rows k d).entry → NewestFlex t rows p k (slice_index_or links k l).waiting
+  pub next_is :
+      (k : ℕ) (l : Link) (d : Row) → k < length rows → IsFlex p (slice_index_or rows k d).entry
+      → NewestFlex t rows p k (slice_index_or links k l).waiting
 
 -- each object has its list
 abbrev pub AllFlexLinked : ℕ → List Row → List Link → List (Option ℕ) → Type 0
@@ -56,5 +65,20 @@ IsCursor rows p (Some c) = (c < length rows) × ((d : Row) → IsFlex p (slice_i
 pub record Walked (m : Moment) (p : ℕ) (before rows : List Row) (cursor : Option ℕ) : Type 0 where
   pub len : length rows ≡ length before
   pub cursor_in : IsCursor before p cursor
-  pub ahead : (j : ℕ) (d : Row) → j < length before → Ahead cursor j → (slice_index_or rows j d).entry ≡ (slice_index_or before j d).entry
-  pub done : (j : ℕ) (d : Row) → j < length before → (Ahead cursor j → ⊥) → (slice_index_or rows j d).entry ≡ after_transition m p (slice_index_or before j d).entry
+  pub ahead :
+      (j : ℕ) (d : Row) → j < length before → Ahead cursor j
+      → (slice_index_or rows j d).entry ≡ (slice_index_or before j d).entry
+  pub done :
+      (j : ℕ) (d : Row) → j < length before → (Ahead cursor j → ⊥)
+      → (slice_index_or rows j d).entry ≡ after_transition m p (slice_index_or before j d).entry
+
+-- between two steps of the walk: rows and tally are those of this moment, no row is pending, and there is memory for
+-- what
+-- a transition can begin
+pub record IsReady
+    (now first : ℕ) (rows : List Row) (links : List Link) (pending : Vec ℕ) (tally : Tally) : Type 0 where
+  pub sound : IsSound now rows tally
+  pub spreading : Spreading first rows links []
+  pub idle : pending.items ≡ []
+  pub room_deadlines : HasRoom (2 * count_by is_unsettled rows) tally
+  pub room_pending : count_by is_unsettled rows ≤ vec_capacity pending

@@ -39,8 +39,8 @@ pub record AddsLine (lines : List ObjectLine) (i : ℕ) (builder : TableBuilder)
   pub faultless : fault_at lines i ≡ None
   pub tracks : TracksLines (take (i + 1) lines) builder
 
--- the line at index i was added, or its fault is returned, or memory ran out
+-- the line at index i was added, or its fault is returned, or memory ran out for a line that is not faulty
 abbrev pub AddsOrRefuses : List ObjectLine → ℕ → Result (Unit {0}) TableFault → TableBuilder → Type 0
 AddsOrRefuses lines i (Ok done) builder = AddsLine lines i builder
-AddsOrRefuses lines i (Err OutOfMemory) builder = Unit {0}
+AddsOrRefuses lines i (Err OutOfMemory) builder = fault_at lines i ≡ None
 AddsOrRefuses lines i (Err fault) builder = fault_at lines i ≡ Some fault

@@ -1,4 +1,4 @@
-use Rattle.std.proofs.Common.{◌∙◌, ap, arith, sym}
+use Rattle.std.proofs.Common.{◌∙◌, ap, arith, rules, sym}
 use Rattle.std.specs.Prelude.{filter}
 use Rattle.std.proofs.lemmas.Bool.{true≢false}
 use Rattle.gate_downtime.specs.inner.Rows.{is_live_row}
@@ -33,5 +33,9 @@ ended-preserved c = record {
   room = c.ended.invariant.room;
 }
 
-pub returns-clause-ids : goal.returns-clause-ids
-returns-clause-ids c = noted-none _ c.ended.live c.ended.invariant.few (omega (arith, c.in_default.ensures.cases.0, c.ended.live.ended.ok.0)) c.ended.invariant.noted ∙ c.ended.invariant.ids
+pub returns : goal.returns
+returns c = record {
+  ids = noted-none _ c.ended.live c.ended.invariant.few (omega (arith, c.in_default.ensures.cases.0, c.ended.live.ended.ok.0)) c.ended.invariant.noted ∙ c.ended.invariant.ids;
+  room = c.ended.invariant.room;
+  idle = search rules;
+}

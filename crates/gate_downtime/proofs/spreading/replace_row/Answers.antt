@@ -1,21 +1,16 @@
-use Rattle.std.proofs.Common.{◌≡◌, ◌&&◌, not, ◌<◌, ◌∙◌, ap, set, List, subst, sym, get_or, length}
-use Rattle.std.specs.Prelude.{All}
+use Rattle.std.proofs.Common.{◌≡◌, ◌&&◌, not, ◌∙◌, ap, set, List, subst, sym, get_or}
 use Rattle.gate_downtime.specs.declared.row.Row.{Row}
-use Rattle.gate_downtime.specs.inner.Rows.{with_active, Counted, live_at}
+use Rattle.gate_downtime.specs.inner.Rows.{with_active, CanCount, live_at}
 use Rattle.gate_downtime.proofs.GoneSteps.{gone-set}
 use Rattle.gate_downtime.proofs.NotedSteps.{noted-write}
 use Rattle.gate_downtime.proofs.Fresh.{replace-sound, nearly-set}
 use Rattle.gate_downtime.proofs.spreading.replace_row.Goals as goal
 
-pub mark_row-requires-clause-counted : goal.mark_row-requires-clause-counted
-mark_row-requires-clause-counted c =
-    let P : List Row → Type 0 = λ rows. Counted rows c.args.tally.now.depths.items in
-    subst P (sym c.write_row.ensures.items) (nearly-set _ _ _ _ _ _ c.args.row c.requires.within c.requires.sound.sound c.wake_row.ensures.adds c.wake_row.ensures.wakes c.requires.mark c.requires.place).fits.counted
-
-pub mark_row-requires-clause-placed : goal.mark_row-requires-clause-placed
-mark_row-requires-clause-placed c =
-    let P : List Row → Type 0 = λ rows. All (λ (r : Row). r.entry.scheduled.object.place < length c.args.tally.now.depths.items) rows in
-    subst P (sym c.write_row.ensures.items) (nearly-set _ _ _ _ _ _ c.args.row c.requires.within c.requires.sound.sound c.wake_row.ensures.adds c.wake_row.ensures.wakes c.requires.mark c.requires.place).fits.placed
+pub mark_row-requires-clause-counters : goal.mark_row-requires-clause-counters
+mark_row-requires-clause-counters c =
+    let P : List Row → Type 0 = λ rows. CanCount rows c.args.tally.now.depths.items in
+    let nearly = nearly-set _ _ _ _ _ _ c.args.row c.requires.within c.requires.sound.sound c.wake_row.ensures.adds c.wake_row.ensures.wakes c.requires.mark c.requires.place in
+    subst P (sym c.write_row.ensures.items) (record { counted = nearly.fits.counted; placed = nearly.fits.placed; few = nearly.fits.few })
 
 pub returns-clause-sound : goal.returns-clause-sound
 returns-clause-sound c = let row : c.row_at.result ≡ get_or c.args.rows.now.items c.args.at c.args.row = c.row_at.ensures c.args.row ∙ ap (λ rows. get_or rows c.args.at c.args.row) c.deref.ensures.value in record {

@@ -38,10 +38,13 @@ returns-clause-spreading c =
 pub returns-clause-entries : goal.returns-clause-entries
 returns-clause-entries c = entries-refreshes _ _ _ _ c.refresh_row.ensures.refreshes
 
-pub returns-clause-deadlines_left : goal.returns-clause-deadlines_left
-returns-clause-deadlines_left c =
+pub returns-clause-deadlines : goal.returns-clause-deadlines
+returns-clause-deadlines c =
     let row : (get_or c.args.rows.now.items c.args.at c.row_at-row.result).settled ≡ false = sym (ap (λ (r : Row). r.settled) (c.row_at-row.ensures c.row_at-row.result ∙ ap (λ rows. get_or rows c.args.at c.row_at-row.result) c.deref.ensures.value)) ∙ c.if-row.false in
-    omega (arith, c.refresh_row.ensures.deadlines_len, unsettled-refreshes _ _ _ c.args.at c.row_at-row.result (last-within _ _ _ _ _ c.requires.spreading).within row c.refresh_row.ensures.refreshes)
+    record {
+      left = omega (arith, c.refresh_row.ensures.deadlines.len, unsettled-refreshes _ _ _ c.args.at c.row_at-row.result (last-within _ _ _ _ _ c.requires.spreading).within row c.refresh_row.ensures.refreshes);
+      capacity = c.refresh_row.ensures.deadlines.capacity;
+    }
 
 pub returns-clause-pending_left : goal.returns-clause-pending_left
 returns-clause-pending_left c =

@@ -5,13 +5,13 @@ use Rattle.gate_comments.proofs.SearchSteps.{found_within, answered, unanswered,
 use Rattle.gate_comments.proofs.StandingSteps.{stands-delete}
 use Rattle.gate_comments.proofs.book.CommentBook.delete.Goals as goal
 
-pub index_of_id-requires : goal.index_of_id-requires
-index_of_id-requires c = rw c.deref.ensures.value (ascending 1 c.self.inside.next_id c.self.inside.comments.items c.self.invariant.ids)
+pub find_by_id-requires : goal.find_by_id-requires
+find_by_id-requires c = rw c.deref.ensures.value (ascending 1 c.self.inside.next_id c.self.inside.comments.items c.self.invariant.ids)
 
 pub returns-in_default-clause-answer : goal.returns-in_default-clause-answer
 returns-in_default-clause-answer c =
     rw (← c.self.view_is)
-    (unanswered c.args.kind c.args.id c.self.inside.comments.items (sym c.in_default.is ∙ (rw c.deref.ensures.value at c.index_of_id.ensures.index)))
+    (unanswered c.args.kind c.args.id c.self.inside.comments.items (sym c.in_default.is ∙ (rw c.deref.ensures.value at c.find_by_id.ensures.index)))
 
 pub index-comment-requires : goal.index-comment-requires
 index-comment-requires c = omega (arith, found_within c.args.id c.deref.result.now c.in-Some.index c.in-Some.ensures.index, c.deref.ensures.len)

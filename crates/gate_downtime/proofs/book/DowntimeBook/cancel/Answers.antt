@@ -37,13 +37,13 @@ returns-then-not-is_same_kind-clause-answer c =
 pub drop_ended-requires-clause-ascending : goal.drop_ended-requires-clause-ascending
 drop_ended-requires-clause-ascending c =
     (after-call c.self.inside.first c.self.inside.moment.0 c.self.inside.moment.0 c.self.inside.rows.items c.delete_from.new.rows.items c.self.inside.tally.live c.delete_from.new.tally.live
-    (spread-end _ _ _ (spreading-struck _ _ _ _ c.delete_from.ensures.struck c.self.invariant.spreading)) c.delete_from.ensures.struck.struck.len (live-struck-before _ _ _ c.delete_from.ensures.struck) c.self.invariant.live_is c.delete_from.ensures.ids_same c.delete_from.ensures.sound.noted).ascending
+    (spread-end _ _ _ (spreading-struck _ _ _ _ c.delete_from.ensures.struck c.self.invariant.spreading)) c.delete_from.ensures.struck.struck.len (live-struck-before _ _ _ c.delete_from.ensures.struck) c.self.invariant.live_is c.delete_from.ensures.kept.ids_same c.delete_from.ensures.sound.noted).ascending
 
 pub drop_ended-requires-clause-noted : goal.drop_ended-requires-clause-noted
 drop_ended-requires-clause-noted c =
     let P : List Row → Type 0 = λ rows. AreNoted (is_live_row c.self.inside.first rows c.self.inside.moment.0) c.delete_from.new.tally.live in
     subst P (sym c.deref-4.ensures.value) (after-call c.self.inside.first c.self.inside.moment.0 c.self.inside.moment.0 c.self.inside.rows.items c.delete_from.new.rows.items c.self.inside.tally.live c.delete_from.new.tally.live
-    (spread-end _ _ _ (spreading-struck _ _ _ _ c.delete_from.ensures.struck c.self.invariant.spreading)) c.delete_from.ensures.struck.struck.len (live-struck-before _ _ _ c.delete_from.ensures.struck) c.self.invariant.live_is c.delete_from.ensures.ids_same c.delete_from.ensures.sound.noted).noted
+    (spread-end _ _ _ (spreading-struck _ _ _ _ c.delete_from.ensures.struck c.self.invariant.spreading)) c.delete_from.ensures.struck.struck.len (live-struck-before _ _ _ c.delete_from.ensures.struck) c.self.invariant.live_is c.delete_from.ensures.kept.ids_same c.delete_from.ensures.sound.noted).noted
 
 pub invariant_of-self : goal.invariant_of-self
 invariant_of-self c =
@@ -51,7 +51,7 @@ invariant_of-self c =
     let is : c.drop_ended.new.live.ids.items ≡ live_ids c.self.inside.first c.self.inside.moment.0 c.delete_from.new.rows.items =
     c.drop_ended.ensures.ids ∙ ap (λ rows. filter (is_live_row c.self.inside.first rows c.self.inside.moment.0) c.delete_from.new.tally.live.ids.items) c.deref-4.ensures.value
     ∙ (after-call c.self.inside.first c.self.inside.moment.0 c.self.inside.moment.0 c.self.inside.rows.items c.delete_from.new.rows.items c.self.inside.tally.live c.delete_from.new.tally.live
-    (spread-end _ _ _ (spreading-struck _ _ _ _ c.delete_from.ensures.struck c.self.invariant.spreading)) c.delete_from.ensures.struck.struck.len (live-struck-before _ _ _ c.delete_from.ensures.struck) c.self.invariant.live_is c.delete_from.ensures.ids_same c.delete_from.ensures.sound.noted).left in
+    (spread-end _ _ _ (spreading-struck _ _ _ _ c.delete_from.ensures.struck c.self.invariant.spreading)) c.delete_from.ensures.struck.struck.len (live-struck-before _ _ _ c.delete_from.ensures.struck) c.self.invariant.live_is c.delete_from.ensures.kept.ids_same c.delete_from.ensures.sound.noted).left in
     record {
       sound = record {
         sound = c.delete_from.ensures.sound.sound;
@@ -61,18 +61,18 @@ invariant_of-self c =
       spreading = spreading-struck _ _ _ _ c.delete_from.ensures.struck c.self.invariant.spreading;
       waiting = waiting-struck _ _ _ _ _ c.delete_from.ensures.struck c.self.invariant.waiting;
       idle = c.delete_from.ensures.pending_empty;
-      objects = omega (arith, c.self.invariant.objects, c.delete_from.ensures.objects);
+      objects = omega (arith, c.self.invariant.objects, c.delete_from.ensures.kept.objects);
       ids = omega (arith, c.delete_from.ensures.struck.struck.len, c.self.invariant.ids);
       small = c.self.invariant.small;
-      room_rows = omega (arith, c.delete_from.ensures.len, c.delete_from.ensures.capacity, c.self.invariant.room_rows);
+      room_rows = omega (arith, c.delete_from.ensures.kept.len, c.delete_from.ensures.kept.capacity, c.self.invariant.room_rows);
       room_links = c.self.invariant.room_links;
-      room_deadlines = omega (arith, c.delete_from.ensures.unsettled, c.delete_from.ensures.deadlines_len, c.delete_from.ensures.deadlines_capacity, c.self.invariant.room_deadlines);
-      room_pending = omega (arith, c.delete_from.ensures.len, c.delete_from.ensures.pending_capacity, c.self.invariant.room_pending);
-      room_marks = omega (arith, c.delete_from.ensures.gone_same.marks_len, c.delete_from.ensures.gone_same.marks_capacity, c.self.invariant.room_marks);
+      room_deadlines = omega (arith, c.delete_from.ensures.unsettled, c.delete_from.ensures.deadlines.len, c.delete_from.ensures.deadlines.capacity, c.self.invariant.room_deadlines);
+      room_pending = omega (arith, c.delete_from.ensures.kept.len, c.delete_from.ensures.pending_capacity, c.self.invariant.room_pending);
+      room_marks = omega (arith, c.delete_from.ensures.kept.gone_same.marks_len, c.delete_from.ensures.kept.gone_same.marks_capacity, c.self.invariant.room_marks);
       live_is = is;
       live_idle = c.drop_ended.ensures.idle;
-      room_live = omega (arith, c.drop_ended.ensures.room, ap (λ ids. ids.room) c.delete_from.ensures.ids_same, c.self.invariant.room_live);
-      room_gone = omega (arith, c.delete_from.ensures.len, c.delete_from.ensures.gone_same.capacity, c.self.invariant.room_gone);
+      room_live = omega (arith, c.drop_ended.ensures.room, ap (λ ids. ids.room) c.delete_from.ensures.kept.ids_same, c.self.invariant.room_live);
+      room_gone = omega (arith, c.delete_from.ensures.kept.len, c.delete_from.ensures.kept.gone_same.capacity, c.self.invariant.room_gone);
     }
 
 pub returns-clause-stands : goal.returns-clause-stands

@@ -93,8 +93,8 @@ invariant_of-self c =
       room_deadlines =
           omega (
             arith,
-            c.add_row.ensures.deadlines_len,
-            c.add_row.ensures.deadlines_capacity,
+            c.add_row.ensures.deadlines.len,
+            c.add_row.ensures.deadlines.capacity,
             c.self.invariant.room_deadlines,
             c.requires.room,
             ap (λ v. v.room) c.self.view_is,

@@ -79,3 +79,18 @@ returns-in-Ok c =
       faultless = faultless_service c.args.lines.now c.args.i c.index-lines-i.result c.args.self.now.keys c.args.self.now.hosts c.args.self.now.services.items c.requires.tracks c.args.service.now c.in-Some.place is known free (omega (arith, c.if-count-ge-SERVICES_OF_HOST.false));
       tracks = rw (adds.keys_are, adds.services_are, adds.hosts_are, count) more;
     }
+
+pub returns-in-Err : goal.returns-in-Err
+returns-in-Err c =
+    let line = c.index-lines-i.result in
+    let is : IsServiceLine c.args.lines.now c.args.i line c.args.service.now = service_line c.args.lines.now c.args.i c.index-lines-i.result c.args.service.now c.requires.within c.index-lines-i.is c.requires.service in
+    let name = c.bytes-host.ensures ∙ ap (λ (l : ObjectLine). l.host) (sym c.index-lines-i.is) in
+    let known : place_of (take c.args.i c.args.lines.now) line.host None ≡ Some c.in-Some.place =
+    sym (c.in-Some.ensures (take c.args.i c.args.lines.now) c.requires.tracks.keys_are c.requires.tracks.short ∙ ap (λ (h : List ℕ). place_of (take c.args.i c.args.lines.now) h None) name) in
+    let key = c.deref.ensures.0 ∙ c.in-Some-key_of.ensures.value ∙ ap (λ (h : List ℕ). key_of h (Some c.args.service.now)) name in
+    let short = ap (λ (h : List ℕ). is_short h (Some c.args.service.now)) (sym name) ∙ sym c.in-Some-key_of.ensures.short in
+    let place = c.place.ensures ∙ place-key c.args.lines.now c.args.i c.index-lines-i.result c.args.self.now.keys c.args.self.now.hosts c.args.self.now.services.items c.requires.tracks (Some c.args.service.now) c.deref.result.now short key in
+    let free : place_of (take c.args.i c.args.lines.now) line.host (Some c.args.service.now) ≡ None = none_from_is_some _ (sym (ap is_some place) ∙ sym c.is_some.ensures ∙ c.if-is_some.false) in
+    let within : c.in-Some.place < length c.args.self.now.services.items = place-within c.args.lines.now c.args.i c.index-lines-i.result c.args.self.now.keys c.args.self.now.hosts c.args.self.now.services.items c.requires.tracks line.host c.in-Some.place known in
+    let count : c.index-count.result.now ≡ get_or c.args.self.now.services.items c.in-Some.place 0 = c.index-count.ensures ∙ get_or_default_zero c.args.self.now.services.items c.in-Some.place c.index-count.result.now within in
+    faultless_service c.args.lines.now c.args.i c.index-lines-i.result c.args.self.now.keys c.args.self.now.hosts c.args.self.now.services.items c.requires.tracks c.args.service.now c.in-Some.place is known free (omega (arith, c.if-count-ge-SERVICES_OF_HOST.false))

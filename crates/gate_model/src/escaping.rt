@@ -1,7 +1,7 @@
 //! How a page shows a text of any bytes.
 
 ghost use Rattle.std.specs.Prelude.{◌≡◌, ◌++◌, ◌<◌, length, position, IfSome, OnOk};
-ghost use Rattle.gate_pages.specs.Escaping.{is_escaped, escape_of, escaped};
+ghost use Rattle.gate_model.specs.Escaping.{is_escaped, escape_of, escaped};
 
 use std::alloc::AllocError;
 

@@ -1,6 +1,6 @@
 use Rattle.std.proofs.Common.{◌≡◌, ◌++◌, length}
-use Rattle.gate_pages.specs.Escaping.{escaped}
-use Rattle.gate_pages.proofs.escaping.push_escaped.Given as goal
+use Rattle.gate_model.specs.Escaping.{escaped}
+use Rattle.gate_model.proofs.escaping.push_escaped.Given as goal
 
 abbrev pub invariant-loop-run : goal.invariant-loop-run
 invariant-loop-run l = l.out.items ++ escaped l.rest ≡ l.fn.out.items ++ escaped l.fn.text

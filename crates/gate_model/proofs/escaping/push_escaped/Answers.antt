@@ -1,7 +1,7 @@
 use Rattle.std.proofs.Common.{sym, ◌∙◌, arith}
 use Rattle.std.proofs.lemmas.Grind.{common_steps}
-use Rattle.gate_pages.proofs.EscapeSteps.{run-escaped, rest-escaped}
-use Rattle.gate_pages.proofs.escaping.push_escaped.Goals as goal
+use Rattle.gate_model.proofs.EscapeSteps.{run-escaped, rest-escaped}
+use Rattle.gate_model.proofs.escaping.push_escaped.Goals as goal
 
 pub loop-run-preserved : goal.loop-run-preserved
 loop-run-preserved c =

@@ -5,7 +5,7 @@ use Rattle.std.specs.List.{position, position_or_len, flat_map}
 use Rattle.std.proofs.lemmas.List.{take_all, drop_all, take_rest}
 use Rattle.std.proofs.lemmas.List.Sums.{passes_at_first}
 use Rattle.std.proofs.lemmas.Bool.{ltb-false}
-use Rattle.gate_pages.specs.Escaping.{is_escaped, escape_of, escaped}
+use Rattle.gate_model.specs.Escaping.{is_escaped, escape_of, escaped}
 
 -- the bytes that pass are replaced
 abbrev replaced : (ℕ → Bool) → (ℕ → List ℕ) → List ℕ → List ℕ
