@@ -9,9 +9,11 @@ use Rattle.gate_core.specs.Legal.{Run, queued, taken, waiting, first_close, has_
 
 -- what was taken, followed by what waits, is a merge of what each client was answered is queued
 abbrev pub IsConserved : Limits → Run → Type 0
-IsConserved limits run = IsCoreState limits.clients limits.quota limits.capacity (λ client. queued client run) (taken run) (waiting run)
+IsConserved limits run =
+    IsCoreState limits.clients limits.quota limits.capacity (λ client. queued client run) (taken run) (waiting run)
 
--- the run has a look of the client, answered Open, which stands before every close, and no own event of the client since
+-- the run has a look of the client, answered Open, which stands before every close, and no own event of the client
+-- since
 pub record FollowsOpenLook (client : ℕ) (run : Run) : Type 0 where
   pub since : Run
   pub before : Run

@@ -117,11 +117,14 @@ close_reply (Some first) = AlreadyClosing first
 -- the reply to an event after a run
 abbrev pub reply_after : Limits → Run → Event → Reply
 reply_after limits run (Look client) = if is_open limits client run then look_reply (first_close run) else Ignored None
-reply_after limits run (Push client body) = if is_open limits client run && has_looked client run then push_reply limits client body run else Ignored (Some body)
+reply_after limits run (Push client body) =
+    if is_open limits client run && has_looked client run then push_reply limits client body run
+    else Ignored (Some body)
 reply_after limits run Take = take_reply (slice_get (all_queued run) (length (taken run)))
 reply_after limits run (Close moment) = close_reply (first_close run)
 reply_after limits run (End client) = if is_open limits client run then Ended else Ignored None
-reply_after limits run (TakeIn client) = if has_ended client run && not (has_joined client run) then Joined else Ignored None
+reply_after limits run (TakeIn client) =
+    if has_ended client run && not (has_joined client run) then Joined else Ignored None
 
 -- each reply of the run is the one that the run before it decides
 abbrev pub IsLegal : Limits → Run → Type 0

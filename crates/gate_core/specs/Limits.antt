@@ -1,4 +1,5 @@
--- With which limits a World is opened, and why it isn't. Own rules: 1 to 64 clients, room for 1 to 65,536 items, and a quota of 1 to 4,294,967,295 items for each client.
+-- With which limits a World is opened, and why it isn't. Own rules: 1 to 64 clients, room for 1 to 65,536 items, and a
+-- quota of 1 to 4,294,967,295 items for each client.
 use Rattle.std.specs.Prelude.{ℕ, ◌≡◌, ◌≤◌}
 use Rattle.gate_core.specs.declared.limits.OpenFault.{OpenFault}
 use Rattle.gate_core.specs.declared.limits.OpenFault.TheVariants.{BadCount, BadCapacity, BadQuota, OutOfMemory}

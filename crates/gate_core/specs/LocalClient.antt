@@ -1,4 +1,5 @@
--- A World as one of its clients uses it: what the calls of the client add to each run after which the World stands. Own rules.
+-- A World as one of its clients uses it: what the calls of the client add to each run after which the World stands. Own
+-- rules.
 use Rattle.std.specs.Prelude.{◌≡◌, ℕ, List, [], ◌∷◌, ◌++◌, Option, Result, Ok, Err}
 use Rattle.gate_model.specs.declared.record.Moment.{Moment}
 use Rattle.gate_model.specs.declared.submission.Body.{Body}

@@ -1,4 +1,5 @@
--- What clients queued, and lists that are a merge of it. Own rules: clients are numbered from 1, and so are the items of each client.
+-- What clients queued, and lists that are a merge of it. Own rules: clients are numbered from 1, and so are the items
+-- of each client.
 use Rattle.std.specs.Prelude.{◌≡◌, ℕ, ◌+◌, ◌≤◌, ◌==◌, List, ◌++◌, length, filter, All, Some, slice_get}
 use Rattle.gate_model.specs.declared.submission.Numbered.{Numbered}
 use Rattle.gate_model.specs.declared.submission.Body.{Body}

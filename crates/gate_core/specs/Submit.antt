@@ -9,7 +9,8 @@ use Rattle.gate_core.specs.declared.submit.CloseFault.TheVariants.{AlreadyClosin
 
 -- the body is returned; a client that is refused with Closing then knows the first close, and any other knows of none
 abbrev pub Refuses : Refused → Body → Option Moment → Option Moment → Type 0
-Refuses (Closing first returned) body knew knows = (returned ≡ body) × (knows ≡ Some first) × IfSome knew (λ known. known ≡ first)
+Refuses (Closing first returned) body knew knows =
+    (returned ≡ body) × (knows ≡ Some first) × IfSome knew (λ known. known ≡ first)
 Refuses (Spent returned) body knew knows = (returned ≡ body) × (knew ≡ None) × (knows ≡ None)
 Refuses (Full returned) body knew knows = (returned ≡ body) × (knew ≡ None) × (knows ≡ None)
 

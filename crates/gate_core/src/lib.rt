@@ -14,7 +14,7 @@ mod world;
 
 pub use event::{Event, Reply};
 pub use law::conservation;
-pub use limits::{MOST_CAPACITY, MOST_CLIENTS, OpenFault};
+pub use limits::OpenFault;
 pub use local_client::LocalClient;
 pub use playing::{RefusedRun, run};
 pub use submit::{CloseFault, Operator, Refused, Submit};

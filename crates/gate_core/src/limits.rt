@@ -4,13 +4,9 @@ ghost use Rattle.gate_core.specs.State.{StandsAfter};
 ghost use Rattle.gate_core.specs.Limits.{limits_of, default_quota, IsGoodCount, IsGoodCapacity, IsOpenFault};
 
 use crate::world::World;
+use gate_model::{MOST_CAPACITY, MOST_CLIENTS};
 use std::alloc::{AllocError, Global};
 use thiserror::Error;
-
-/// The most clients of a World.
-pub const MOST_CLIENTS: u32 = 64;
-/// The most items that a World's queue can be opened for.
-pub const MOST_CAPACITY: usize = 65_536;
 
 /// Why a World was not opened. The first that applies is reported. Own rules.
 #[derive(Clone, Copy, Debug, Error, PartialEq, Eq)]
@@ -72,7 +68,7 @@ impl World {
         if clients < 1 || clients > MOST_CLIENTS {
             return Err(OpenFault::BadCount);
         }
-        if capacity < 1 || capacity > MOST_CAPACITY {
+        if capacity < 1 || capacity > MOST_CAPACITY as usize {
             return Err(OpenFault::BadCapacity);
         }
         if quota < 1 {

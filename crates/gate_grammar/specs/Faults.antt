@@ -63,7 +63,8 @@ AreSplit [] = Unit {0}
 AreSplit (text ∷ texts) = (holds 59 text ≡ false) × AreSplit texts
 
 -- the arguments before this one are good; it is of this kind, others of these kinds follow, and this is left for them
-pub record IsAt (first : ℕ) (kinds : List ArgumentKind) (rest : List ℕ) (number : ℕ) (kind : ArgumentKind) (later : List ArgumentKind) (left : List ℕ) : Type 0 where
+pub record IsAt (first : ℕ) (kinds : List ArgumentKind) (rest : List ℕ) (number : ℕ) (kind : ArgumentKind)
+    (later : List ArgumentKind) (left : List ℕ) : Type 0 where
   pub texts : List (List ℕ)
   pub values : List ArgumentValue
   pub of_kinds : kinds ≡ map argument_kind values ++ kind ∷ later
@@ -79,7 +80,8 @@ pub record IsMissing (first : ℕ) (kinds : List ArgumentKind) (rest : List ℕ)
   pub at : IsAt first kinds rest number kind later []
 
 -- the argument of this number is there, and spells nothing of its kind
-pub record IsWrong (first : ℕ) (kinds : List ArgumentKind) (rest : List ℕ) (number : ℕ) (kind : ArgumentKind) : Type 0 where
+pub record IsWrong (first : ℕ) (kinds : List ArgumentKind) (rest : List ℕ) (number : ℕ) (kind : ArgumentKind)
+    : Type 0 where
   pub later : List ArgumentKind
   pub text : List ℕ
   pub after : List ℕ

@@ -11,7 +11,8 @@ is_number text = nat_lt 0 (length text) && nat_lt (length text) 11 && all_ascii_
 
 -- the number, below a limit, that a text of digits spells
 unfoldable pub number_below : ℕ → List ℕ → Option ℕ
-number_below limit text = if is_number text && nat_lt (digits_value 10 text) limit then Some (digits_value 10 text) else None
+number_below limit text =
+    if is_number text && nat_lt (digits_value 10 text) limit then Some (digits_value 10 text) else None
 
 -- the unsigned number, at most 4294967295, that a text spells; it may have leading zeros
 abbrev pub number_of : List ℕ → Option ℕ

@@ -8,8 +8,7 @@ ghost use Rattle.gate_grammar.specs.inner.Written.{written};
 
 use crate::arguments::Argument;
 use crate::commands::{Command, command_of};
-use crate::numbers::{push_code, push_number};
-use gate_model::Body;
+use gate_model::{Body, push_code, push_number};
 use std::alloc::{AllocError, Global};
 
 /// Writes the canonical line of a command, without an LF.

@@ -14,8 +14,8 @@ mod parsing;
 mod writability;
 
 pub use canonical::{push_body, round_trip, write_body, write_line};
-pub use commands::{Command, LINE_LENGTH};
+pub use commands::Command;
 pub use faults::LineFault;
-pub use numbers::{push_code, push_number, read_code, read_number};
+pub use numbers::{read_code, read_number};
 pub use parsing::read_line;
 pub use writability::writable;

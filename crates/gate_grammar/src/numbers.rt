@@ -1,9 +1,5 @@
-ghost use Rattle.std.specs.Prelude.{◌≡◌, ◌++◌, ◌≤◌, ◌<◌, ◌^◌, OnOk, OnErr, IfSome, pos, neg_ℤ};
-ghost use Rattle.std.specs.Fmt.{decimal, signed_decimal};
+ghost use Rattle.std.specs.Prelude.{◌≡◌, ◌≤◌, ◌<◌, ◌^◌, IfSome, pos, neg_ℤ};
 ghost use Rattle.gate_grammar.specs.Numbers.{number_below, number_of, code_of};
-
-use itoa::Buffer;
-use std::alloc::AllocError;
 
 /// The most digits of a number.
 const DIGITS: usize = 10;
@@ -71,26 +67,4 @@ fn negated(value: u32) -> i16
     ensures { result ≡ neg_ℤ (pos value) }
 {
     (-(value as i32)) as i16
-}
-
-/// Appends a number in decimal, without leading zeros.
-///
-/// The only error is out of memory, which leaves the buffer as it was.
-pub fn push_number(out: &mut Vec<u8>, number: u64) -> Result<(), AllocError>
-    ensures ok { OnOk result (out.new.items ≡ out.old.items ++ decimal number) }
-    ensures err { OnErr result (out.new.items ≡ out.old.items) }
-{
-    let mut digits = Buffer::new();
-    out.extend_from_slice(digits.format(number).as_bytes())
-}
-
-/// Appends a code in decimal, without leading zeros; a code 0 is `0`.
-///
-/// The only error is out of memory, which leaves the buffer as it was.
-pub fn push_code(out: &mut Vec<u8>, code: i16) -> Result<(), AllocError>
-    ensures ok { OnOk result (out.new.items ≡ out.old.items ++ signed_decimal code) }
-    ensures err { OnErr result (out.new.items ≡ out.old.items) }
-{
-    let mut digits = Buffer::new();
-    out.extend_from_slice(digits.format(code).as_bytes())
 }

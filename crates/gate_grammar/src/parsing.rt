@@ -12,11 +12,11 @@ ghost use Rattle.gate_grammar.specs.inner.Answers.{ParsesTo, Answers, answer_of}
 
 use crate::arguments::{Argument, ArgumentKind, Arguments};
 use crate::building::body;
-use crate::commands::{COMMAND_NAMES, Command, CommandName, LINE_LENGTH};
+use crate::commands::{COMMAND_NAMES, Command, CommandName};
 use crate::faults::LineFault;
 use crate::numbers::{read_code, read_number};
 use bstr::ByteSlice;
-use gate_model::Moment;
+use gate_model::{LINE_LENGTH, Moment};
 use std::alloc::Global;
 
 /// A line's time, command and arguments. The texts still lie in the line.

@@ -6,8 +6,9 @@ ghost use Rattle.gate_grammar.specs.Canonical.{shown};
 ghost use Rattle.gate_grammar.specs.Writability.{IsWritable, AreWritable, IsClean, HoldsNoSemicolon, EndsInNoBlank};
 
 use crate::arguments::Argument;
-use crate::commands::{Command, LINE_LENGTH, command_of};
+use crate::commands::{Command, command_of};
 use crate::parsing::is_barred_in;
+use gate_model::LINE_LENGTH;
 use itoa::Buffer;
 
 /// Whether a command has a line that reads as it.

@@ -41,7 +41,7 @@ output_size size = size - 208
 abbrev pub packet_version : List ℕ → ℕ
 packet_version bytes = integer_at bytes 0 2
 
--- the check word that the sender wrote
+-- the check word that the agent wrote
 abbrev pub crc32_value : List ℕ → ℕ
 crc32_value bytes = integer_at bytes 4 4
 

@@ -1,6 +1,5 @@
--- What a packet reports, `Content`, and which contents can be written, `IsContent`: the members of
--- `data_packet` in NSCA 2.9, common.h, that a sender chooses. A text ends at a NUL within its
--- field, so it is shorter than the field.
+-- What a packet reports, `Content`, and which contents can be written, `IsContent`: the members of `data_packet` in
+-- NSCA 2.9, common.h, that an agent chooses. A text ends at a NUL within its field, so it is shorter than the field.
 -- Own rules: a packet always names a host, and the order of the faults.
 use Rattle.std.specs.Prelude.{◌≡◌, ◌≤◌, ◌≢◌, ℕ, ℤ, Bool, false, nat_lt, nat_le, ◌==◌, if◌then◌else◌, List, [], length, Option, Some, None, is_some}
 use Rattle.std.specs.List.{list_any}

@@ -10,7 +10,8 @@ use Rattle.gate_core.specs.declared.submit.Refused.{Refused}
 use Rattle.gate_core.specs.declared.submit.Refused.TheVariants.{Closing, Spent, Full}
 use Rattle.gate_queue.specs.Gate.{GateId}
 
--- a client, or one that has ended: its gate, its number, what it was answered is queued, and the moment of the close, once it knows of it
+-- a client, or one that has ended: its gate, its number, what it was answered is queued, and the moment of the close,
+-- once it knows of it
 pub record ClientState : Type 0 where
   pub gate : GateId
   pub number : ℕ
@@ -18,9 +19,11 @@ pub record ClientState : Type 0 where
   pub known_close : Option Moment
 
 abbrev pub client_state : GateId → ℕ → List Numbered → Option Moment → ClientState
-client_state gate number queued known_close = record { gate = gate; number = number; queued = queued; known_close = known_close }
+client_state gate number queued known_close =
+    record { gate = gate; number = number; queued = queued; known_close = known_close }
 
--- the queue may hold these items where this was queued for client c: with some items taken and some queued for the others, nothing is lost, made or out of order
+-- the queue may hold these items where this was queued for client c: with some items taken and some queued for the
+-- others, nothing is lost, made or out of order
 abbrev pub AllowsBeside : Limits → ℕ → List Numbered → List Numbered → Type 0
 AllowsBeside limits c queued queue =
     (sent : ℕ → List Numbered) × (taken : List Numbered)
@@ -32,13 +35,17 @@ WasFull client = Held client.gate.limits.capacity (AllowsBeside client.gate.limi
 
 -- the items of this client and the others' quotas can fill the queue
 abbrev pub CanBeFull : ClientState → Type 0
-CanBeFull client = client.gate.limits.capacity ≤ length client.queued + (client.gate.limits.clients - 1) * client.gate.limits.quota
+CanBeFull client = client.gate.limits.capacity
+    ≤ length client.queued + (client.gate.limits.clients - 1) * client.gate.limits.quota
 
--- the body is returned and nothing was queued. Closing: the client knows of the close at that moment. Spent: as many items as the quota were queued for it. Full: fewer were, and the queue was full
+-- the body is returned and nothing was queued. Closing: the client knows of the close at that moment. Spent: as many
+-- items as the quota were queued for it. Full: fewer were, and the queue was full
 abbrev pub IsRefusal : Refused → Body → ClientState → ClientState → Type 0
 IsRefusal (Closing first returned) body old new =
-    (returned ≡ body) × (new ≡ client_state old.gate old.number old.queued (Some first)) × IfSome old.known_close (λ known. known ≡ first)
+    (returned ≡ body) × (new ≡ client_state old.gate old.number old.queued (Some first))
+    × IfSome old.known_close (λ known. known ≡ first)
 IsRefusal (Spent returned) body old new =
     (returned ≡ body) × (new ≡ old) × (old.known_close ≡ None) × (length old.queued ≡ old.gate.limits.quota)
 IsRefusal (Full returned) body old new =
-    (returned ≡ body) × (new ≡ old) × (old.known_close ≡ None) × (length old.queued < old.gate.limits.quota) × WasFull old × CanBeFull old
+    (returned ≡ body) × (new ≡ old) × (old.known_close ≡ None) × (length old.queued < old.gate.limits.quota)
+    × WasFull old × CanBeFull old

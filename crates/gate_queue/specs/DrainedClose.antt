@@ -54,7 +54,8 @@ abbrev pub moment_after : Moment → Moment → List Numbered → Moment
 moment_after old now [] = old
 moment_after old now (item ∷ items) = later old now
 
--- the old records come first, then one for each of some items, at the clock's moment or the applier's, whichever is later
+-- the old records come first, then one for each of some items, at the clock's moment or the applier's, whichever is
+-- later
 pub record AppliesMore (now : Moment) (old new : ApplierView) : Type 0 where
   pub items : List Numbered
   pub records : new.records ≡ old.records ++ records_at (later old.moment now) items
@@ -110,6 +111,8 @@ abbrev pub IsCloseAllFault : CloseAllCause → ℕ → Moment → CloseParts →
 IsCloseAllFault (Missing c) n now old new = IsLeastMissing n old.clients old.taker.ended c × (new ≡ old)
 IsCloseAllFault NotClosing n now old new = AreAllPresent n old.clients old.taker.ended × NobodyKnows old × (new ≡ old)
 IsCloseAllFault LogFull n now old new =
-    AreAllPresent n old.clients old.taker.ended × IsStopped n now old new × (length new.applier.records ≡ new.applier.limit)
+    AreAllPresent n old.clients old.taker.ended × IsStopped n now old new
+    × (length new.applier.records ≡ new.applier.limit)
 IsCloseAllFault OutOfMemory n now old new =
-    AreAllPresent n old.clients old.taker.ended × IsStopped n now old new × (length new.applier.records < new.applier.limit)
+    AreAllPresent n old.clients old.taker.ended × IsStopped n now old new
+    × (length new.applier.records < new.applier.limit)

@@ -16,7 +16,8 @@ pub record IsSameClient (old new : ClientState) : Type 0 where
   pub gate : new.gate ≡ old.gate
   pub number : new.number ≡ old.number
 
--- a submission that was answered so: an item with the next number was added within the quota, or none was and the body is returned
+-- a submission that was answered so: an item with the next number was added within the quota, or none was and the body
+-- is returned
 abbrev pub Submits : ClientState → Body → Result ℕ Refused → ClientState → Type 0
 Submits old body (Ok number) new =
     (number ≡ length old.queued + 1) × (old.known_close ≡ None) × (length old.queued < old.gate.limits.quota)

@@ -13,7 +13,8 @@ pub record Joins (client : ClientState) (closer : CloseKnowledge) (operator : Cl
   pub queued : operator.queued ≡ client.queued
   pub known_close : Learns closer.known_close client.known_close operator.known_close
 
--- a close that was answered so: of the first close the operator knows the moment; out of memory, it knows of none. All else stays
+-- a close that was answered so: of the first close the operator knows the moment; out of memory, it knows of none. All
+-- else stays
 abbrev pub Closes : ClientState → Moment → Result Moment CloseFault → ClientState → Type 0
 Closes old moment (Ok first) new =
     (first ≡ moment) × (old.known_close ≡ None) × (new ≡ client_state old.gate old.number old.queued (Some moment))

@@ -10,7 +10,8 @@ pub record CloseKnowledge : Type 0 where
 abbrev pub close_knowledge : ℕ → Option Moment → CloseKnowledge
 close_knowledge cell known_close = record { cell = cell; known_close = known_close }
 
--- a part that learns what another knows, knows afterwards what either knew; if both knew of the close, they knew the same moment
+-- a part that learns what another knows, knows afterwards what either knew; if both knew of the close, they knew the
+-- same moment
 abbrev pub Learns : Option Moment → Option Moment → Option Moment → Type 0
 Learns None old new = new ≡ old
 Learns (Some learned) None new = new ≡ Some learned

@@ -19,7 +19,8 @@ abbrev pub queued_of : ℕ → List EndedList → Option (List Numbered)
 queued_of c [] = None
 queued_of c (e ∷ es) = if e.client == c then Some e.queued else queued_of c es
 
--- the taker: its gate, what was taken, what was queued for the clients taken in, and the moment of the close, once it knows of it
+-- the taker: its gate, what was taken, what was queued for the clients taken in, and the moment of the close, once it
+-- knows of it
 pub record TakerState : Type 0 where
   pub gate : GateId
   pub taken : List Numbered
@@ -27,18 +28,22 @@ pub record TakerState : Type 0 where
   pub known_close : Option Moment
 
 abbrev pub taker_state : GateId → List Numbered → List EndedList → Option Moment → TakerState
-taker_state gate taken ended known_close = record { gate = gate; taken = taken; ended = ended; known_close = known_close }
+taker_state gate taken ended known_close =
+    record { gate = gate; taken = taken; ended = ended; known_close = known_close }
 
 -- these lists are those of the clients taken in
 abbrev pub AreListsOf : (ℕ → List Numbered) → List EndedList → Type 0
 AreListsOf sent ended = (c : ℕ) (queued : List Numbered) → queued_of c ended ≡ Some queued → sent c ≡ queued
 
--- the queue may hold these items after what was taken: with some items queued for the clients not taken in, nothing is lost, made or out of order
+-- the queue may hold these items after what was taken: with some items queued for the clients not taken in, nothing is
+-- lost, made or out of order
 abbrev pub AllowsAfter : Limits → List Numbered → List EndedList → List Numbered → Type 0
 AllowsAfter limits taken ended queue =
-    (sent : ℕ → List Numbered) × IsCoreState limits.clients limits.quota limits.capacity sent taken queue × AreListsOf sent ended
+    (sent : ℕ → List Numbered) × IsCoreState limits.clients limits.quota limits.capacity sent taken queue
+    × AreListsOf sent ended
 
--- what was taken, followed by what the queue may hold, is a merge of what was queued for the clients: nothing is lost, made or out of order
+-- what was taken, followed by what the queue may hold, is a merge of what was queued for the clients: nothing is lost,
+-- made or out of order
 abbrev pub IsConserved : TakerState → Type 0
 IsConserved taker = (queue : List Numbered) × AllowsAfter taker.gate.limits taker.taken taker.ended queue
 
@@ -55,7 +60,8 @@ pub record HasAll (taker : TakerState) : Type 0 where
 
 -- of each client taken in, what was taken is a prefix of what was queued
 abbrev pub BeginsEach : TakerState → Type 0
-BeginsEach taker = (c : ℕ) (queued : List Numbered) → queued_of c taker.ended ≡ Some queued → IsPrefix (of_client c taker.taken) queued
+BeginsEach taker = (c : ℕ) (queued : List Numbered) → queued_of c taker.ended ≡ Some queued
+    → IsPrefix (of_client c taker.taken) queued
 
 -- the client was taken in, and the taker learns what it knew of the close
 abbrev pub TakesIn : ClientState → TakerState → TakerState → Type 0

@@ -18,8 +18,8 @@ use crate::knowledge::Knowledge;
 use crate::rule::{Begin, MakeClient, PickedLimits, Ring, View};
 use crate::taker::Taker;
 use crossbeam_queue::Pass;
-use gate_core::{MOST_CAPACITY, MOST_CLIENTS, OpenFault};
-use gate_model::{Moment, Numbered};
+use gate_core::OpenFault;
+use gate_model::{MOST_CAPACITY, MOST_CLIENTS, Moment, Numbered};
 use once_cell::race::OnceBox;
 use std::alloc::{AllocError, Global};
 use std::marker::Brand;
@@ -78,7 +78,7 @@ pub fn open_with(
     if clients < 1 || clients > MOST_CLIENTS {
         return Err(OpenFault::BadCount);
     }
-    if capacity < 1 || capacity > MOST_CAPACITY {
+    if capacity < 1 || capacity > MOST_CAPACITY as usize {
         return Err(OpenFault::BadCapacity);
     }
     if quota < 1 {

@@ -174,7 +174,7 @@ fn greet<W: Sink>(writer: &mut W, now: Moment) -> io::Result<()>
     put_last(writer, &greeting_of(now))
 }
 
-/// Serves one connection of a sender: writes the greeting with the clock's moment, and then reads
+/// Serves one connection of an agent: writes the greeting with the clock's moment, and then reads
 /// packets and submits the result of each, one after the other.
 ///
 /// Each packet has one answer in the report: `Queued`, `Full`, `Spent` or `Closing` as the client

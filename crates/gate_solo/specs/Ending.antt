@@ -11,7 +11,8 @@ use Rattle.gate_solo.specs.Allowed.{IsAllowed}
 abbrev pub with_ends : Run → Run
 with_ends run = (TakeIn 2, Joined) ∷ (End 2, Ended) ∷ (TakeIn 1, Joined) ∷ (End 1, Ended) ∷ run
 
--- the run is allowed, both clients were taken in, and the taker has what was taken and the clients' lists as they are after it
+-- the run is allowed, both clients were taken in, and the taker has what was taken and the clients' lists as they are
+-- after it
 pub record IsGateAfter (taker : TakerState) (run : Run) : Type 0 where
   pub two_clients : taker.gate.limits.clients ≡ 2
   pub taken_is : taker.taken ≡ taken run

@@ -1,4 +1,5 @@
--- A gate of two clients as the queue of one thread: what contracts see of it, and after which runs it stands. Own rules.
+-- A gate of two clients as the queue of one thread: what contracts see of it, and after which runs it stands. Own
+-- rules.
 use Rattle.std.specs.Prelude.{◌≡◌, ℕ, ◌+◌, false, [], Option, Some, IfSome, Result}
 use Rattle.gate_model.specs.declared.record.Moment.{Moment}
 use Rattle.gate_model.specs.declared.submission.Body.{Body}
@@ -38,7 +39,8 @@ SoloLooks old result new = Looks old.client result new.client × KeepsRest old n
 abbrev pub SoloCloses : SoloState → Moment → Result Moment CloseFault → SoloState → Type 0
 SoloCloses old moment result new = Closes old.client moment result new.client × KeepsRest old new
 
--- the run is allowed, nobody has ended in it, and the parts are as they are after it: what was queued for each client, what was taken, and the close that it shows, of which the other client may not know yet
+-- the run is allowed, nobody has ended in it, and the parts are as they are after it: what was queued for each client,
+-- what was taken, and the close that it shows, of which the other client may not know yet
 pub record IsAfter (queue : SoloState) (run : Run) : Type 0 where
   pub gates : (queue.other.gate ≡ queue.client.gate) × (queue.taker.gate ≡ queue.client.gate)
   pub two_clients : queue.client.gate.limits.clients ≡ 2

@@ -23,8 +23,8 @@ pub(crate) struct Owed {
     pub(crate) left: Duration,
 }
 
-// What a sender owes once it is greeted: 720 bytes, the least packet that there is, within 8 seconds.
-pub(crate) fn owed_by_sender() -> Owed
+// What an agent owes once it is greeted: 720 bytes, the least packet that there is, within 8 seconds.
+pub(crate) fn owed_by_agent() -> Owed
     ensures due { result.due ≡ Bytes 720 }
     ensures left { as_nanos result.left ≡ 8_000_000_000 }
 {
@@ -66,7 +66,7 @@ impl Owed {
         }
     }
 
-    // What is owed after these bytes came, for which the peer was waited for. A sender that brought
+    // What is owed after these bytes came, for which the peer was waited for. An agent that brought
     // what it owed owes 720 bytes within 10 seconds, and an operator the end of the next line. Any
     // other has that much less time.
     pub(crate) fn after(self, piece: &[u8], waited: Duration) -> Owed

@@ -1,5 +1,5 @@
 use crate::connections::{Connections, Wake, Watch};
-use crate::owed::{Owed, owed_by_operator, owed_by_sender};
+use crate::owed::{Owed, owed_by_agent, owed_by_operator};
 use crate::pausing::pause;
 use crate::timed::{TimedInput, TimedOutput, sides};
 use crate::times::{ANSWER_MILLIS, GREETING_MILLIS, LAST_PAGE_MILLIS, PAGE_MILLIS};
@@ -75,7 +75,7 @@ impl<'a, R> Accepted<'a, R> {
         }
     }
 
-    /// Connections of senders. The greeting is to be taken within 10 seconds; within 8 more 720 bytes
+    /// Connections of agents. The greeting is to be taken within 10 seconds; within 8 more 720 bytes
     /// have to come, which is the least packet that there is, and from then on as many in each 10
     /// seconds. The listener is one whose `accept` waits for a turn.
     pub fn of_agents(rt: &'a R, listener: TcpListener, ending: &'a Ending) -> Accepted<'a, R> {
@@ -99,7 +99,7 @@ impl<'a, R> Accepted<'a, R> {
 // nothing, since it isn't read from until it has its page.
 fn times_of(peers: Peers, is_ending: bool) -> (Owed, Duration) {
     let (owed, millis) = match peers {
-        Peers::Agents => (owed_by_sender(), GREETING_MILLIS),
+        Peers::Agents => (owed_by_agent(), GREETING_MILLIS),
         Peers::Operators => (owed_by_operator(), ANSWER_MILLIS),
         Peers::Readers if is_ending => (owed_by_operator(), LAST_PAGE_MILLIS),
         Peers::Readers => (owed_by_operator(), PAGE_MILLIS),
@@ -133,7 +133,7 @@ impl<'a, R: Wait + Clock + Sync> Connections for Accepted<'a, R> {
         unreachable!()
     }
 
-    // A sender reads nothing after its greeting, so it loses nothing.
+    // An agent reads nothing after its greeting, so it loses nothing.
     fn part(&mut self, mut input: TimedInput<'a, R>, output: TimedOutput<'a, R>) {
         drop(output);
         let most = match self.peers {

@@ -8,20 +8,20 @@
 /// thread looks at its time and, but for a write, whether the daemon is to end.
 pub const TURN_MILLIS: u64 = 100;
 
-/// In what time a sender takes its greeting.
+/// In what time an agent takes its greeting.
 pub const GREETING_MILLIS: u64 = 10_000;
 
-/// In what time a sender brings its first 720 bytes, from its greeting on: the least packet that there
+/// In what time an agent brings its first 720 bytes, from its greeting on: the least packet that there
 /// is.
 pub const FIRST_BYTES_MILLIS: u64 = 8_000;
 
 /// How long a `send_nsca` waits for its greeting.
-const SENDER_MILLIS: u64 = 10_000;
+const SEND_NSCA_MILLIS: u64 = 10_000;
 
-// The sender that comes after a silent one is greeted before it gives up.
-const _: () = prove!(FIRST_BYTES_MILLIS + TURN_MILLIS < SENDER_MILLIS);
+// The agent that comes after a silent one is greeted before it gives up.
+const _: () = prove!(FIRST_BYTES_MILLIS + TURN_MILLIS < SEND_NSCA_MILLIS);
 
-/// In what time a sender brings each 720 bytes more.
+/// In what time an agent brings each 720 bytes more.
 pub const NEXT_BYTES_MILLIS: u64 = 10_000;
 
 /// In what time an operator ends a line, from the end of the one before on.

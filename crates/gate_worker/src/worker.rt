@@ -37,8 +37,8 @@ pub struct WorkerEnd {
     pub ghost counted: { reported_numbers reports.items ≡ numbers_after 0 (length ended.queued) },
 }
 
-// Serves one connection of a sender.
-fn serve_sender<R: Wait + Clock, I: Source + Drop, O: Sink + Drop, K: Watch>(
+// Serves one connection of an agent.
+fn serve_agent<R: Wait + Clock, I: Source + Drop, O: Sink + Drop, K: Watch>(
     rt: &R,
     alloc: Global,
     gate: &Gate,
@@ -123,7 +123,7 @@ fn serve_either<R: Wait + Clock, I: Source + Drop, O: Sink + Drop, K: Watch>(
             (client, Some(closer), report)
         }
         None => {
-            let (client, report) = serve_sender(rt, alloc, gate, client, connection, clock, limits);
+            let (client, report) = serve_agent(rt, alloc, gate, client, connection, clock, limits);
             (client, None, report)
         }
     }
@@ -180,7 +180,7 @@ fn end_of(client: Client, reports: Vec<Report>, cause: Cause) -> WorkerEnd
 }
 
 /// Serves connections one after another: as lines of an operator where there is a closer, else as
-/// packets of a sender.
+/// packets of an agent.
 ///
 /// It ends where the gate is closing, where `limits.sessions` connections were served, where memory
 /// for one more report is missing, and where there are no more connections. It looks at the gate

@@ -37,7 +37,8 @@ is_leaving_seat (Some seat) = seat.ended && not seat.joined
 
 -- the seat after its client's look
 abbrev pub after_look : Option Moment → Seat → Seat
-after_look closed seat = record { count = seat.count; looked = is_none closed; ended = seat.ended; joined = seat.joined }
+after_look closed seat =
+    record { count = seat.count; looked = is_none closed; ended = seat.ended; joined = seat.joined }
 
 -- the seat after its client's push, which was queued
 abbrev pub after_push : Seat → Seat
@@ -67,7 +68,12 @@ new_world limits = record { limits = limits; queue = []; closed = None; seats = 
 
 -- the World with this seat for the client
 abbrev pub with_seat : WorldState → ℕ → Seat → WorldState
-with_seat world client seat = record { limits = world.limits; queue = world.queue; closed = world.closed; seats = slice_set world.seats (client - 1) seat }
+with_seat world client seat = record {
+  limits = world.limits;
+  queue = world.queue;
+  closed = world.closed;
+  seats = slice_set world.seats (client - 1) seat;
+}
 
 -- the World with this queue
 abbrev pub with_queue : WorldState → List Numbered → WorldState
@@ -79,7 +85,8 @@ with_close world closed = record { limits = world.limits; queue = world.queue; c
 
 -- ---- pushes
 
--- the push of a client that may push: its item joins the queue, or the body is returned because the quota is used up or, if it isn't, because there is no room
+-- the push of a client that may push: its item joins the queue, or the body is returned because the quota is used up
+-- or, if it isn't, because there is no room
 abbrev pub AnswersPush : WorldState → ℕ → Seat → Body → Result ℕ PushFault → WorldState → Type 0
 AnswersPush world client seat body (Ok number) after =
     (number ≡ seat.count + 1) × (seat.count < world.limits.quota) × (length world.queue < world.limits.capacity)
@@ -87,7 +94,8 @@ AnswersPush world client seat body (Ok number) after =
 AnswersPush world client seat body (Err (Spent returned)) after =
     (returned ≡ body) × (world.limits.quota ≤ seat.count) × (after ≡ with_seat world client (after_refusal seat))
 AnswersPush world client seat body (Err (Full returned)) after =
-    (returned ≡ body) × (seat.count < world.limits.quota) × (world.limits.capacity ≤ length world.queue) × (after ≡ with_seat world client (after_refusal seat))
+    (returned ≡ body) × (seat.count < world.limits.quota) × (world.limits.capacity ≤ length world.queue)
+    × (after ≡ with_seat world client (after_refusal seat))
 
 -- the reply to a push
 abbrev pub reply_of_push : Result ℕ PushFault → Reply

@@ -16,9 +16,11 @@ played limits run [] = run
 played limits run (event ∷ events) = played limits ((event, reply_after limits run event) ∷ run) events
 
 -- it is legal
-played_is_legal : (limits : Limits) (run : Run) (events : List Event) → IsLegal limits run → IsLegal limits (played limits run events)
+played_is_legal : (limits : Limits) (run : Run) (events : List Event) → IsLegal limits run
+    → IsLegal limits (played limits run events)
 played_is_legal limits run [] h = h
-played_is_legal limits run (event ∷ events) h = played_is_legal limits ((event, reply_after limits run event) ∷ run) events (refl, h)
+played_is_legal limits run (event ∷ events) h =
+    played_is_legal limits ((event, reply_after limits run event) ∷ run) events (refl, h)
 
 -- the replies to these events where nothing came before, in the order of the events
 abbrev replies_to : Limits → List Event → List Reply
@@ -30,7 +32,8 @@ moment seconds = record { 0 = seconds }
 
 -- a queue of one item is full until it is taken
 full_until_it_is_taken : (a b : Body) →
-    replies_to (limits_of 2 default_quota 1) (Look 1 ∷ Push 1 a ∷ Look 2 ∷ Push 2 b ∷ Take ∷ Look 2 ∷ Push 2 b ∷ Take ∷ Take ∷ [])
+    replies_to (limits_of 2 default_quota 1)
+    (Look 1 ∷ Push 1 a ∷ Look 2 ∷ Push 2 b ∷ Take ∷ Look 2 ∷ Push 2 b ∷ Take ∷ Take ∷ [])
     ≡ Open ∷ Queued 1 ∷ Open ∷ Full b ∷ Taken (numbered 1 1 a) ∷ Open ∷ Queued 1 ∷ Taken (numbered 2 1 b) ∷ Empty ∷ []
 full_until_it_is_taken a b = refl
 
@@ -42,8 +45,10 @@ spent_by_the_first a b = refl
 -- a client that looked before the close may push once after it, and is then taken in
 one_push_after_the_close : (a b : Body) →
     replies_to (limits_of 1 default_quota 4)
-    (Look 1 ∷ Close (moment 1500) ∷ Push 1 a ∷ Look 1 ∷ Push 1 b ∷ Take ∷ Take ∷ End 1 ∷ TakeIn 1 ∷ Look 1 ∷ Close (moment 1600) ∷ [])
-    ≡ Open ∷ Begun ∷ Queued 1 ∷ Closing (moment 1500) ∷ Ignored (Some b) ∷ Taken (numbered 1 1 a) ∷ Empty ∷ Ended ∷ Joined ∷ Ignored None ∷ AlreadyClosing (moment 1500) ∷ []
+    (Look 1 ∷ Close (moment 1500) ∷ Push 1 a ∷ Look 1 ∷ Push 1 b ∷ Take ∷ Take ∷ End 1 ∷ TakeIn 1 ∷ Look 1
+    ∷ Close (moment 1600) ∷ [])
+    ≡ Open ∷ Begun ∷ Queued 1 ∷ Closing (moment 1500) ∷ Ignored (Some b) ∷ Taken (numbered 1 1 a) ∷ Empty ∷ Ended
+    ∷ Joined ∷ Ignored None ∷ AlreadyClosing (moment 1500) ∷ []
 one_push_after_the_close a b = refl
 
 -- ---- a close among the events of two clients
@@ -59,7 +64,9 @@ two_clients a b c = Look 1 ∷ Push 1 a ∷ Look 2 ∷ Push 2 b ∷ Take ∷ Loo
 
 -- how many pushes are queued where a close comes after this many of the events
 abbrev queued_with_close_after : List Event → ℕ → ℕ
-queued_with_close_after events count = count_by is_queued (replies_to (limits_of 2 default_quota 4) (take count events ++ Close (moment 1500) ∷ drop count events))
+queued_with_close_after events count =
+    count_by is_queued
+    (replies_to (limits_of 2 default_quota 4) (take count events ++ Close (moment 1500) ∷ drop count events))
 
 -- only those are queued whose client looked before the close
 queued_by_the_close : (a b c : Body) →

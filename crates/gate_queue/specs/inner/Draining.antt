@@ -1,4 +1,5 @@
--- Only proofs and private functions use this: how many items were queued for the clients taken in, and what taking in and draining come to.
+-- Only proofs and private functions use this: how many items were queued for the clients taken in, and what taking in
+-- and draining come to.
 use Rattle.std.specs.Prelude.{◌≡◌, ℕ, zero, suc, ◌+◌, List, [], length, Option, Some, None, All, IfSome, IsSome, is_some, unwrap_or, slice_index_or, Bool, ◌||◌}
 use Rattle.std.specs.List.{list_any}
 use Rattle.gate_model.specs.declared.record.Moment.{Moment}

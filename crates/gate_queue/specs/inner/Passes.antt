@@ -23,7 +23,8 @@ IsTakerPass v = v ≡ taker v.clients v.quota v.capacity v.clients v.taken v.end
 pub record CountsEnded (v : View) (counts : List (Option ℕ)) : Type 0 where
   pub few : v.clients ≤ 64
   pub long : length counts ≡ v.clients
-  pub each : (index : ℕ) → index < v.clients → slice_get counts index ≡ Some (option_map length (queued_of (index + 1) v.ended))
+  pub each : (index : ℕ) → index < v.clients
+      → slice_get counts index ≡ Some (option_map length (queued_of (index + 1) v.ended))
   pub clients : (c : ℕ) → IsSome (queued_of c v.ended) → IsClient v.clients c
 
 -- the queue may hold some items after those taken

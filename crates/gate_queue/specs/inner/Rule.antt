@@ -21,7 +21,18 @@ taker n quota capacity made taken ended = record { clients = n; quota = quota; c
 
 -- the view of a pass that knows nothing
 abbrev pub blank : View
-blank = record { clients = 0; quota = 0; capacity = 0; sends = false; number = 0; queued = []; takes = false; made = 0; taken = []; ended = [] }
+blank = record {
+  clients = 0;
+  quota = 0;
+  capacity = 0;
+  sends = false;
+  number = 0;
+  queued = [];
+  takes = false;
+  made = 0;
+  taken = [];
+  ended = [];
+}
 
 -- the view of the first pass, before it gets the limits
 abbrev pub opener : View
@@ -36,19 +47,23 @@ pub record HasLimits (n quota capacity : ℕ) (v : View) : Type 0 where
   pub capacity_is : v.capacity ≡ capacity
 
 -- a client's view has what was queued for it, and the pass at this index owns its list
-pub record FitsClient (n quota capacity : ℕ) (sent : ℕ → List Numbered) (owner : ℕ → ℕ) (index : ℕ) (v : View) : Type 0 where
+pub record FitsClient (n quota capacity : ℕ) (sent : ℕ → List Numbered) (owner : ℕ → ℕ) (index : ℕ) (v : View)
+    : Type 0 where
   pub limits : HasLimits n quota capacity v
   pub number : IsClient n v.number
   pub owns : owner v.number ≡ index
   pub queued_is : sent v.number ≡ v.queued
 
--- the taker's view has what was taken, and its pass, at this index, owns the list of each client that has no pass yet or was taken in
-pub record FitsTaker (n quota capacity : ℕ) (sent : ℕ → List Numbered) (owner : ℕ → ℕ) (taken : List Numbered) (reader index : ℕ) (v : View) : Type 0 where
+-- the taker's view has what was taken, and its pass, at this index, owns the list of each client that has no pass yet
+-- or was taken in
+pub record FitsTaker (n quota capacity : ℕ) (sent : ℕ → List Numbered) (owner : ℕ → ℕ) (taken : List Numbered)
+    (reader index : ℕ) (v : View) : Type 0 where
   pub limits : HasLimits n quota capacity v
   pub index_is : index ≡ reader
   pub taken_is : v.taken ≡ taken
   pub unmade : (c : ℕ) → v.made < c → (owner c ≡ reader) × (sent c ≡ [])
-  pub ended : (c : ℕ) (queued : List Numbered) → queued_of c v.ended ≡ Some queued → (c ≤ v.made) × (owner c ≡ reader) × (sent c ≡ queued)
+  pub ended : (c : ℕ) (queued : List Numbered) → queued_of c v.ended ≡ Some queued
+      → (c ≤ v.made) × (owner c ≡ reader) × (sent c ≡ queued)
 
 -- nothing is lost, made or out of order, and each view fits it
 pub record IsRuled (items : List Numbered) (views : List View) : Type 0 where
@@ -60,8 +75,10 @@ pub record IsRuled (items : List Numbered) (views : List View) : Type 0 where
   pub taken : List Numbered
   pub reader : ℕ
   pub core : IsCoreState n quota capacity sent taken items
-  pub of_clients : (index : ℕ) (v : View) → get_elem? views index ≡ some v → v.sends ≡ true → FitsClient n quota capacity sent owner index v
-  pub of_taker : (index : ℕ) (v : View) → get_elem? views index ≡ some v → v.takes ≡ true → FitsTaker n quota capacity sent owner taken reader index v
+  pub of_clients : (index : ℕ) (v : View) → get_elem? views index ≡ some v → v.sends ≡ true
+      → FitsClient n quota capacity sent owner index v
+  pub of_taker : (index : ℕ) (v : View) → get_elem? views index ≡ some v → v.takes ≡ true
+      → FitsTaker n quota capacity sent owner taken reader index v
 
 -- the item was taken, it is the next of its client, and the queue may hold some items after it
 abbrev pub TakesNext : View → Numbered → View → Type 0

@@ -1,6 +1,6 @@
 use Rattle.std.proofs.Common.{ap, ◌∙◌}
 use Rattle.gate_worker.proofs.Sessions.{packets_grow}
-use Rattle.gate_worker.proofs.worker.serve_sender.Goals as goal
+use Rattle.gate_worker.proofs.worker.serve_agent.Goals as goal
 
 pub returns-clause-queued : goal.returns-clause-queued
 returns-clause-queued g c =
