@@ -3,3 +3,4 @@ pub mod Check
 pub mod Values
 pub mod Document
 pub mod Config
+pub mod Fault

@@ -4,6 +4,7 @@
 
 mod config;
 mod fault;
+mod fault_text;
 mod key;
 mod limits;
 mod objects;
@@ -14,4 +15,4 @@ pub use config::{Address, Config};
 pub use fault::{ConfigFault, KeyText};
 pub use key::Key;
 pub use limits::Limits;
-pub use reading::{CONFIG_BYTES, read_config};
+pub use reading::read_config;

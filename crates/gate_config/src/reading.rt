@@ -15,13 +15,13 @@ use crate::fault::ConfigFault;
 use crate::key::Key;
 use crate::limits::Limits;
 use crate::{objects, values};
-use gate_model::{BuildFault, ObjectLine, ObjectTable, TableFault, Text};
+use gate_model::{
+    BuildFault, DOCUMENT_BYTES, GREATEST_AGE, MOST_CAPACITY, MOST_ITEMS, MOST_RECORDS,
+    MOST_SESSIONS, MOST_WORKERS, ObjectLine, ObjectTable, TableFault, Text,
+};
 use std::alloc::{AllocError, Global};
 use std::net::SocketAddr;
 use toml::Table;
-
-/// The most bytes of a configuration.
-pub const CONFIG_BYTES: usize = 1_048_576;
 
 const DOCUMENT_KEYS: [Key; 11] = [
     Key::Agents,
@@ -104,12 +104,12 @@ fn read_limits(document: &Table) -> Result<Limits, ConfigFault>
     ensures failed { IfErr result (FirstFails (map (key_check (table_view document.now))
         (Key.Capacity ∷ Key.GreatestAge ∷ Key.Items ∷ Key.Limit ∷ Key.Reads ∷ Key.Sessions ∷ []))) }
 {
-    let capacity = values::number(document, Key::Capacity, 1, 65_536, 256)?;
-    let greatest_age = values::number(document, Key::GreatestAge, 0, 900, 30)?;
-    let items = values::number(document, Key::Items, 1, 1_000_000, 10_000)?;
-    let limit = values::number(document, Key::Limit, 1, 1_000_000, 100_000)?;
+    let capacity = values::number(document, Key::Capacity, 1, MOST_CAPACITY, 256)?;
+    let greatest_age = values::number(document, Key::GreatestAge, 0, GREATEST_AGE, 30)?;
+    let items = values::number(document, Key::Items, 1, MOST_ITEMS, 10_000)?;
+    let limit = values::number(document, Key::Limit, 1, MOST_RECORDS, 100_000)?;
     let reads = values::number(document, Key::Reads, 1, u32::MAX, 1_000_000)?;
-    let sessions = values::number(document, Key::Sessions, 1, 1_000_000, 100_000)?;
+    let sessions = values::number(document, Key::Sessions, 1, MOST_SESSIONS, 100_000)?;
     Ok(Limits {
         capacity,
         greatest_age,
@@ -149,7 +149,7 @@ fn config_of(alloc: Global, document: &Table) -> Result<Config, ConfigFault>
     let pages = read_address(document, Key::Pages, "127.0.0.1:5669")?;
     let limits = read_limits(document)?;
     let hosts = values::tables(document, Key::Host)?;
-    let workers = values::number(document, Key::Workers, 1, 63, 1)?;
+    let workers = values::number(document, Key::Workers, 1, MOST_WORKERS, 1)?;
     let table = build_table(alloc, objects::read_hosts(alloc, hosts)?)?;
     match copied_addresses(alloc, agents, operators, pages) {
         Ok((agents, operators, pages)) => Ok(Config {
@@ -180,7 +180,7 @@ pub fn read_config(alloc: Global, text: &[u8]) -> Result<Config, ConfigFault>
     ensures document { (document : Members) → IsDocument text.now document
         → MatchResult result (IsConfigOf document) (IsFirstFault (document_checks document)) }
 {
-    if text.len() > CONFIG_BYTES {
+    if text.len() > DOCUMENT_BYTES {
         return Err(ConfigFault::TooLarge);
     }
     let document = match toml::table_from_slice(alloc, text) {

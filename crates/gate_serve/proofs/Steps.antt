@@ -20,7 +20,7 @@ use Rattle.gate_daemon.specs.declared.gateway.GatewayFault.{GatewayFault}
 use Rattle.gate_daemon.specs.declared.gateway.GatewayFault.TheVariants as gateway_fault
 use Rattle.gate_serve.specs.declared.fault.ServeFault.{ServeFault}
 use Rattle.gate_serve.specs.declared.fault.ServeFault.TheVariants as fault
-use Rattle.gate_serve.specs.Setup.{Configures, AreBoundAs, IsAddressIn, IsBindEnd, IsConfigEnd, IsWriteEnd, address_lines}
+use Rattle.gate_serve.specs.BeforeServing.{Configures, AreBoundAs, IsAddressIn, IsBindEnd, IsConfigEnd, IsWriteEnd, address_lines}
 use Rattle.gate_serve.specs.Serve.{ServeEnds, FollowsAddresses, IsRun, page_of}
 use Rattle.gate_serve.specs.inner.Serving.{HasStopped, IsStopCause, IsFaultOf, IsPageGiven, IsCloseEnd, IsLoglessEnd, IsWholeEnd, IsRunEnd, RunsOn, fault_after, queued_after}
 

@@ -1,4 +1,4 @@
 pub mod Fault
 pub mod Serve
-pub mod Setup
+pub mod BeforeServing
 pub mod inner

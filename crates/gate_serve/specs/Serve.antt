@@ -15,7 +15,7 @@ use Rattle.gate_config.specs.declared.config.Config.{Config}
 use Rattle.gate_serve.specs.declared.fault.ServeFault.{ServeFault}
 use Rattle.gate_serve.specs.declared.fault.ServeFault.TheVariants as fault
 use Rattle.gate_serve.specs.Fault.{status_of, message_of}
-use Rattle.gate_serve.specs.Setup.{Configures, IsFaulty, IsAddress, AreBoundAs, address_lines}
+use Rattle.gate_serve.specs.BeforeServing.{Configures, IsFaulty, IsAddress, AreBoundAs, address_lines}
 
 -- the output grew by the addresses of this configuration, as the daemon is bound to them, and then by this
 pub record FollowsAddresses (config : Config) (before after : SinkState) (rest : List ℕ) : Type 0 where
@@ -29,8 +29,8 @@ pub record FollowsAddresses (config : Config) (before after : SinkState) (rest :
 abbrev pub page_of : List ObjectLine → List Record → List ℕ
 page_of table records = log_text records (outcomes_of table records)
 
--- a daemon of this configuration, whose clients were answered that these numbers are queued, ran until it was closed: its
--- addresses were printed, and then the log page of records that hold all of this
+-- a daemon of this configuration, whose clients were answered that these numbers are queued, ran until it was closed:
+-- its addresses were printed, and then the log page of records that hold all of this
 pub record IsRun (config : Config) (queued : List (ℕ × List ℕ)) (before after : SinkState) : Type 0 where
   pub records : List Record
   pub holds : HoldsAll config.workers queued (items_of_records records)
@@ -38,9 +38,10 @@ pub record IsRun (config : Config) (queued : List (ℕ × List ℕ)) (before aft
   pub printed : FollowsAddresses config before after (page_of config.table records)
 
 -- a daemon of this configuration, whose clients were answered that these numbers are queued, was closed, and not all
--- could be applied: with items that are left, its records hold all of it. Of how many records there are, this holds. Its
--- addresses were printed, and then the log page of these records
-pub record IsUnfinished (Count : ℕ → Type 0) (config : Config) (queued : List (ℕ × List ℕ)) (before after : SinkState) : Type 0 where
+-- could be applied: with items that are left, its records hold all of it. Of how many records there are, this holds.
+-- Its addresses were printed, and then the log page of these records
+pub record IsUnfinished (Count : ℕ → Type 0) (config : Config) (queued : List (ℕ × List ℕ))
+    (before after : SinkState) : Type 0 where
   pub records : List Record
   pub none_lost : LosesNothing config.workers queued (items_of_records records)
   pub count : Count (length records)
@@ -66,8 +67,8 @@ pub record IsServed (Ran : Config → Type 0) : Type 0 where
   pub ran : Ran config
 
 -- what is true of how the output grew, where a daemon, whose clients were answered that these numbers are queued, ends
--- without a fault or with this one. At OutOfMemory nothing was printed, or a call of the output failed, or the daemon had
--- printed its addresses
+-- without a fault or with this one. At OutOfMemory nothing was printed, or a call of the output failed, or the daemon
+-- had printed its addresses
 abbrev pub ServeEnds : SinkState → SinkState → List (ℕ × List ℕ) → Option ServeFault → Type 0
 ServeEnds before after queued None = IsServed (λ config. IsRun config queued before after)
 ServeEnds before after queued (Some fault.Unreadable) = after ≡ before

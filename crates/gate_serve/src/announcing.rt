@@ -1,6 +1,6 @@
 ghost use Rattle.std.specs.Prelude.{◌≡◌, ◌⊎◌, ◌++◌, IfOk, IfErr, OnOk};
 ghost use Rattle.gate_reader.specs.Sink.{sink_state, Delivers};
-ghost use Rattle.gate_serve.specs.Setup.{address_line, address_lines, IsWriteEnd};
+ghost use Rattle.gate_serve.specs.BeforeServing.{address_line, address_lines, IsWriteEnd};
 
 use crate::fault::ServeFault;
 use gate_reader::{Sink, put_last};

@@ -1,7 +1,7 @@
 ghost use Rattle.std.specs.Prelude.{◌≡◌, ◌≤◌, length, IfErr, IfOk, IfSome, IsOk, None, OnOk};
 ghost use Rattle.gate_reader.specs.Sink.{SinkState, sink_state, Delivers};
 ghost use Rattle.gate_daemon.specs.Answered.{queued_by_each};
-ghost use Rattle.gate_serve.specs.Setup.{IsWriteEnd};
+ghost use Rattle.gate_serve.specs.BeforeServing.{IsWriteEnd};
 ghost use Rattle.gate_serve.specs.Serve.{page_of};
 ghost use Rattle.gate_serve.specs.inner.Serving.{HasStopped, IsCloseEnd, IsFaultOf, IsPageGiven, IsRunEnd, IsStopCause, IsWholeEnd, fault_after, queued_after};
 

@@ -1,5 +1,5 @@
 ghost use Rattle.std.specs.Prelude.{◌≡◌, ◌≤◌, IfErr, IfOk, IsTrue, vec_len};
-ghost use Rattle.gate_serve.specs.Setup.{AreBoundAs, IsAddressIn, IsBindEnd, IsBoundAs};
+ghost use Rattle.gate_serve.specs.BeforeServing.{AreBoundAs, IsAddressIn, IsBindEnd, IsBoundAs};
 
 use crate::fault::ServeFault;
 use gate_config::{Address, Config};
@@ -25,7 +25,7 @@ pub(crate) struct Shared {
     pub(crate) address: SocketAddr,
 }
 
-/// The daemon's listeners: of agents one for each worker of packets, of operators and of pages one.
+/// The daemon's listeners: of agents one for each agents' worker, of operators and of pages one.
 #[derive(Drop)]
 pub(crate) struct Listeners {
     pub(crate) agents: Shared,

@@ -3,7 +3,7 @@ ghost use Rattle.gate_queue.specs.DrainedClose.{items_of_records};
 ghost use Rattle.gate_reader.specs.Sink.{sink_state};
 ghost use Rattle.gate_daemon.specs.Answered.{queued_by_each, HoldsAll};
 ghost use Rattle.gate_daemon.specs.Faults.{IsGatewayFault};
-ghost use Rattle.gate_serve.specs.Setup.{AreBoundAs, Configures};
+ghost use Rattle.gate_serve.specs.BeforeServing.{AreBoundAs, Configures};
 ghost use Rattle.gate_serve.specs.Serve.{ServeEnds, IsServeRun};
 ghost use Rattle.gate_serve.specs.inner.Serving.{RunsOn};
 
@@ -13,7 +13,7 @@ use crate::ending::end;
 use crate::listening::{Listeners, listen};
 use crate::served::{Served, without_reports};
 use gate_config::{Config, Limits};
-use gate_daemon::{Endpoint, Endpoints, Finished, GatewayFault, run_gateway};
+use gate_daemon::{Endpoint, Endpoints, Finished, GatewayFault, GatewaySettings, run_gateway};
 use gate_model::ObjectTable;
 use gate_reader::{SessionLimits, Sink, end_with};
 use gate_worker::{Accepted, Ending, NoHold, SystemWatch, WorkerLimits};
@@ -25,7 +25,7 @@ use std::thread::Threads;
 use std::time::Clock;
 
 // What a gateway is run with.
-fn gateway_config(workers: u32, limits: Limits, table: ObjectTable) -> gate_daemon::Config
+fn gateway_settings(workers: u32, limits: Limits, table: ObjectTable) -> GatewaySettings
     ensures workers { result.workers ≡ workers }
     ensures capacity { result.capacity ≡ limits.capacity }
     ensures limit { result.limit ≡ limits.limit }
@@ -35,7 +35,7 @@ fn gateway_config(workers: u32, limits: Limits, table: ObjectTable) -> gate_daem
     ensures greatest_age { result.worker.greatest_age ≡ limits.greatest_age }
     ensures table { result.table ≡ table }
 {
-    gate_daemon::Config {
+    GatewaySettings {
         workers,
         capacity: limits.capacity as usize,
         limit: limits.limit,
@@ -58,7 +58,7 @@ fn endpoint<C>(connections: C) -> Endpoint<C, NoHold> {
     }
 }
 
-// An endpoint for each of these listeners, of workers of packets.
+// An endpoint for each of these listeners, of agents' workers.
 fn endpoints_of<'a, R>(
     rt: &'a R,
     alloc: Global,
@@ -102,8 +102,8 @@ fn run<R: Net<Listener = TcpListener, Stream = TcpStream> + Threads + Wait + Clo
         pages: Accepted::of_readers(rt, pages.listener, &ending),
         applier: NoHold,
     };
-    let config = gateway_config(config.workers, config.limits, config.table);
-    run_gateway(rt, alloc, config, endpoints, &SystemWatch { rt }, &ending)
+    let settings = gateway_settings(config.workers, config.limits, config.table);
+    run_gateway(rt, alloc, settings, endpoints, &SystemWatch { rt }, &ending)
 }
 
 // Prints the addresses of these listeners, runs a gateway on them and prints its log page.

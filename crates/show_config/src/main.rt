@@ -53,10 +53,19 @@ fn show_config(config: &Config, output: &mut impl Write) -> io::Result<()> {
     show_objects(config, output)
 }
 
-fn show(read: &Result<Config, ConfigFault>, output: &mut impl Write) -> io::Result<()> {
-    match read {
-        Ok(config) => show_config(config, output),
-        Err(fault) => writeln!(output, "{fault}"),
+fn show_fault(alloc: Global, fault: &ConfigFault, output: &mut impl Write) -> io::Result<()> {
+    match fault.text(alloc) {
+        Ok(text) => output.write_all(&text)?,
+        Err(_) => output.write_all(b"OutOfMemory")?,
+    }
+    output.write_all(b"\n")
+}
+
+// Reads a configuration and shows it.
+fn show(alloc: Global, text: &[u8], output: &mut impl Write) -> io::Result<()> {
+    match read_config(alloc, text) {
+        Ok(config) => show_config(&config, output),
+        Err(fault) => show_fault(alloc, &fault, output),
     }
 }
 
@@ -78,7 +87,7 @@ fn show_all(alloc: Global, input: &mut impl BufRead, output: &mut impl Write) ->
     let mut text = Vec::new(alloc);
     for _ in 0..u64::MAX {
         let is_followed = read_next(input, &mut text)?;
-        show(&read_config(alloc, &text), output)?;
+        show(alloc, &text, output)?;
         if !is_followed {
             break;
         }

@@ -8,7 +8,7 @@ use Rattle.gate_config.specs.Config.{IsDocument}
 use Rattle.gate_config.specs.Document.{document_checks}
 use Rattle.gate_serve.specs.declared.fault.ServeFault.{ServeFault}
 use Rattle.gate_serve.specs.declared.fault.ServeFault.TheVariants.{Unreadable, Config, OutOfMemory}
-use Rattle.gate_serve.specs.Setup.{IsNoDocument, IsFaulty}
+use Rattle.gate_serve.specs.BeforeServing.{IsNoDocument, IsFaulty}
 
 -- a file can't be read
 abbrev pub IsFileEnd : ServeFault → Type 0

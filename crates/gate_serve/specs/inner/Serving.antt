@@ -13,7 +13,7 @@ use Rattle.gate_daemon.specs.declared.gateway.GatewayFault.TheVariants as gatewa
 use Rattle.gate_config.specs.declared.config.Config.{Config}
 use Rattle.gate_serve.specs.declared.fault.ServeFault.{ServeFault}
 use Rattle.gate_serve.specs.declared.fault.ServeFault.TheVariants.{LogFull, OutOfMemory, Spawn, WriteFault}
-use Rattle.gate_serve.specs.Setup.{IsWriteEnd}
+use Rattle.gate_serve.specs.BeforeServing.{IsWriteEnd}
 use Rattle.gate_serve.specs.Serve.{page_of, FollowsAddresses, IsRun, IsFull, IsStarved}
 
 -- why a gateway may not have applied all
@@ -79,8 +79,8 @@ IsRunEnd (Err (gateway_fault.CloseAll gate drain reports)) before after found =
     IsCloseEnd drain.cause drain.applier before after found
 IsRunEnd (Err _) before after found = IsLoglessEnd before after found
 
--- a daemon of this configuration, whose clients were answered that these numbers are queued, ended without a fault or with
--- this one
+-- a daemon of this configuration, whose clients were answered that these numbers are queued, ended without a fault or
+-- with this one
 abbrev pub RunsOn : Config → SinkState → SinkState → List (ℕ × List ℕ) → Option ServeFault → Type 0
 RunsOn config before after queued None = IsRun config queued before after
 RunsOn config before after queued (Some LogFull) = IsFull config queued before after

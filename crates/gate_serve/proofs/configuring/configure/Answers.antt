@@ -1,4 +1,4 @@
-use Rattle.gate_serve.proofs.SetupSteps.{configures_of, read_fault_of}
+use Rattle.gate_serve.proofs.ConfiguringSteps.{configures_of, read_fault_of}
 use Rattle.gate_serve.proofs.configuring.configure.Goals as goal
 
 pub returns-in-Ok-clause-ok : goal.returns-in-Ok-clause-ok

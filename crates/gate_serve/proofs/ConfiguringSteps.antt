@@ -11,7 +11,7 @@ use Rattle.gate_config.specs.Document.{document_checks}
 use Rattle.gate_reader.specs.Sink.{SinkState, FailsOnce}
 use Rattle.gate_serve.specs.declared.fault.ServeFault.{ServeFault}
 use Rattle.gate_serve.specs.declared.fault.ServeFault.TheVariants as fault
-use Rattle.gate_serve.specs.Setup.{Configures, IsNoDocument, IsWriteEnd}
+use Rattle.gate_serve.specs.BeforeServing.{Configures, IsNoDocument, IsWriteEnd}
 use Rattle.gate_serve.specs.inner.Reading.{IsReadFault}
 
 -- a failed write, or no memory for it

@@ -1,5 +1,5 @@
--- What is known of a configuration, of addresses, and of a step that fails before a daemon serves. Of its file and of its
--- sockets nothing is known: a file holds some bytes, and a socket reports an address of its own.
+-- What is known of a configuration, of addresses, and of a step that fails before a daemon serves. Of its file and of
+-- its sockets nothing is known: a file holds some bytes, and a socket reports an address of its own.
 use Rattle.std.specs.Prelude.{◌≡◌, ◌≢◌, ◌⊎◌, ◌<◌, ◌≤◌, ℕ, List, ◌++◌, codes, length}
 use Rattle.std.specs.declared.net.socket_addr.SocketAddr.{SocketAddr}
 use Rattle.std.specs.Net.Socket.{socket_ip, socket_port}
@@ -10,12 +10,12 @@ use Rattle.gate_config.specs.declared.config.Config.{Config}
 use Rattle.gate_config.specs.declared.fault.ConfigFault.{ConfigFault}
 use Rattle.gate_config.specs.declared.fault.ConfigFault.TheVariants as config_fault
 use Rattle.gate_config.specs.Check.{IsFirstFault}
+use Rattle.gate_config.specs.Fault.{text_of}
 use Rattle.gate_config.specs.Config.{IsDocument, IsConfigOf}
 use Rattle.gate_config.specs.Document.{document_checks}
 use Rattle.gate_serve.specs.declared.fault.ServeFault.{ServeFault}
 use Rattle.gate_serve.specs.declared.fault.ServeFault.TheVariants.{Unreadable, Bind, OutOfMemory, WriteFault}
 use Rattle.gate_serve.specs.declared.fault.ServeFault.TheVariants as fault
-use Rattle.gate_serve.specs.Fault.{text_of}
 
 -- no document of TOML is this text
 abbrev pub IsNoDocument : List ℕ → Type 0
