@@ -1,6 +1,6 @@
 ghost use Rattle.std.specs.Prelude.{◌≡◌, [], IfSome};
 
-use gate_daemon::Config;
+use gate_daemon::GatewaySettings;
 use gate_model::{Moment, ObjectTable};
 use gate_packet::{PACKET_SIZE, Packet, encode};
 use gate_queue::{Client, Gate, Taker, open};
@@ -96,11 +96,11 @@ pub fn limits() -> WorkerLimits {
 }
 
 // No objects, so each record is refused as one of an object that isn't known.
-pub fn config(alloc: Global, workers: u32) -> Option<Config>
-    ensures { IfSome result (λ config. config.workers ≡ workers) }
+pub fn settings(alloc: Global, workers: u32) -> Option<GatewaySettings>
+    ensures { IfSome result (λ settings. settings.workers ≡ workers) }
 {
     let table = ObjectTable::build(alloc, Vec::new(alloc)).ok()?;
-    Some(Config {
+    Some(GatewaySettings {
         workers,
         capacity: 16,
         limit: 1000,
@@ -121,7 +121,7 @@ pub fn one_client(alloc: Global) -> Option<(Gate, Taker, Client)>
     Some((gate, taker, client))
 }
 
-// A packet that a sender may send.
+// A packet that an agent may send.
 pub fn packet(alloc: Global) -> Option<[u8; PACKET_SIZE]> {
     let host = b"web1".to_vec(alloc).ok()?;
     let service = b"HTTP".to_vec(alloc).ok()?;

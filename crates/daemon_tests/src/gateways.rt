@@ -1,7 +1,7 @@
 ghost use Rattle.std.specs.Prelude.{◌≡◌};
 
-use crate::fakes::{AlwaysAt, Keeping, NoWake, Sending, config, packet};
-use gate_daemon::{Config, Endpoint, Endpoints, Finished, GatewayFault, run_gateway};
+use crate::fakes::{AlwaysAt, Keeping, NoWake, Sending, packet, settings};
+use gate_daemon::{Endpoint, Endpoints, Finished, GatewayFault, GatewaySettings, run_gateway};
 use gate_reader::{Answer, Report};
 use gate_worker::Point;
 use std::alloc::Global;
@@ -68,7 +68,7 @@ pub fn left_by(finished: Result<Finished, GatewayFault>) -> Option<Left> {
     Some(left)
 }
 
-// Two records, the first of them of the worker of packets.
+// Two records, the first of them of the agents' worker.
 const BOTH_IN_TURN: Left = Left {
     records: 2,
     clients: 2,
@@ -76,25 +76,25 @@ const BOTH_IN_TURN: Left = Left {
     queued: 1,
 };
 
-// Runs one worker of packets and an operator, each with its connections and its hold.
+// Runs one agents' worker and an operator, each with its connections and its hold.
 fn run_both<'a, R: Threads + Wait + Clock + Sync>(
     rt: &R,
     alloc: Global,
-    config: Config,
+    settings: GatewaySettings,
     packets: Sending<'a>,
     lines: Sending<'a>,
     holds: (Keeping<'a>, Keeping<'a>, Keeping<'a>),
 ) -> Option<Left>
-    requires { config.workers ≡ 1 }
+    requires { settings.workers ≡ 1 }
 {
     let (worker, operator, applier) = holds;
-    let mut senders = Vec::with_capacity(alloc, 1).ok()?;
-    senders.push_reserved(Endpoint {
+    let mut agents = Vec::with_capacity(alloc, 1).ok()?;
+    agents.push_reserved(Endpoint {
         connections: packets,
         hold: worker,
     });
     let endpoints = Endpoints {
-        agents: senders,
+        agents,
         operator: Endpoint {
             connections: lines,
             hold: operator,
@@ -102,7 +102,7 @@ fn run_both<'a, R: Threads + Wait + Clock + Sync>(
         pages: none(alloc),
         applier,
     };
-    left_by(run_gateway(rt, alloc, config, endpoints, &AlwaysAt(1000), &NoWake))
+    left_by(run_gateway(rt, alloc, settings, endpoints, &AlwaysAt(1000), &NoWake))
 }
 
 // No connections.
@@ -114,7 +114,7 @@ fn none<'a>(alloc: Global) -> Sending<'a> {
     }
 }
 
-// A sender that connects once.
+// An agent that connects once.
 fn once<'a>(alloc: Global, bytes: &'a [u8]) -> Sending<'a> {
     Sending {
         alloc,
@@ -172,7 +172,7 @@ fn is_applied<R: Threads + Wait + Clock + Sync>(rt: &R, alloc: Global) -> Option
     let left = run_both(
         rt,
         alloc,
-        config(alloc, 1)?,
+        settings(alloc, 1)?,
         once(alloc, &bytes),
         once(alloc, SHUTDOWN),
         (worker, operator, free(&counts)),
@@ -202,7 +202,7 @@ fn run_at_once<R: Threads + Wait + Clock + Sync>(rt: &R, alloc: Global) -> Optio
     run_both(
         rt,
         alloc,
-        config(alloc, 1)?,
+        settings(alloc, 1)?,
         once(alloc, &bytes),
         once(alloc, SHUTDOWN),
         (worker, operator, free(&counts)),
@@ -233,7 +233,7 @@ fn applies_beside_workers<R: Threads + Wait + Clock + Sync>(rt: &R, alloc: Globa
     let left = run_both(
         rt,
         alloc,
-        config(alloc, 1)?,
+        settings(alloc, 1)?,
         once(alloc, &bytes),
         once(alloc, SHUTDOWN),
         (free(&counts), operator, applier),
@@ -246,11 +246,11 @@ fn a_line_is_answered_while_an_item_is_applied(rt: HostRuntime) {
     assert!(rt; applies_beside_workers(&rt, rt.alloc()).unwrap_or(false));
 }
 
-// One connection is served for each worker of packets, and the operator connects twice.
+// One connection is served for each agents' worker, and the operator connects twice.
 fn serves_each_operator<R: Threads + Wait + Clock + Sync>(rt: &R, alloc: Global) -> Option<Left> {
     let counts = no_counts();
-    let mut config = config(alloc, 1)?;
-    config.worker.sessions = 1;
+    let mut settings = settings(alloc, 1)?;
+    settings.worker.sessions = 1;
     let lines = Sending {
         alloc,
         connections: 2,
@@ -260,7 +260,7 @@ fn serves_each_operator<R: Threads + Wait + Clock + Sync>(rt: &R, alloc: Global)
     run_both(
         rt,
         alloc,
-        config,
+        settings,
         nothing,
         lines,
         (free(&counts), free(&counts), free(&counts)),
@@ -278,7 +278,7 @@ fn an_operator_is_served_beyond_the_sessions_of_a_worker(rt: HostRuntime) {
     assert!(rt; serves_each_operator(&rt, rt.alloc()) == Some(left));
 }
 
-// The operator never connects, so its worker ends at once. The worker of packets is kept at its
+// The operator never connects, so its worker ends at once. The agents' worker is kept at its
 // session for all of its turns.
 fn serves_on<R: Threads + Wait + Clock + Sync>(rt: &R, alloc: Global) -> Option<Left> {
     let counts = no_counts();
@@ -296,7 +296,7 @@ fn serves_on<R: Threads + Wait + Clock + Sync>(rt: &R, alloc: Global) -> Option<
     run_both(
         rt,
         alloc,
-        config(alloc, 1)?,
+        settings(alloc, 1)?,
         once(alloc, &bytes),
         lines,
         (worker, free(&counts), free(&counts)),
@@ -324,9 +324,9 @@ fn queues_a_burst<R: Threads + Wait + Clock + Sync>(rt: &R, alloc: Global) -> Op
     for _ in 0..BURST {
         bytes.extend_from_slice(&one).ok()?;
     }
-    let mut config = config(alloc, 1)?;
-    config.capacity = 1;
-    config.worker.session.items = 100;
+    let mut settings = settings(alloc, 1)?;
+    settings.capacity = 1;
+    settings.worker.session.items = 100;
     let worker = keeping(
         (Point::Answered, &counts.first),
         (Point::Answered, &counts.first),
@@ -340,7 +340,7 @@ fn queues_a_burst<R: Threads + Wait + Clock + Sync>(rt: &R, alloc: Global) -> Op
     run_both(
         rt,
         alloc,
-        config,
+        settings,
         once(alloc, &bytes),
         once(alloc, b"[1] SHUTDOWN_PROGRAM\n"),
         (worker, operator, free(&counts)),

@@ -1,6 +1,6 @@
 ghost use Rattle.std.specs.Prelude.{◌≤◌};
 
-use crate::fakes::{AlwaysAt, NoWake, Sending, config, is_reached, packet};
+use crate::fakes::{AlwaysAt, NoWake, Sending, is_reached, packet, settings};
 use gate_daemon::{Endpoint, Endpoints, Finished, run_gateway};
 use gate_worker::{Hold, Point};
 use std::alloc::Global;
@@ -19,7 +19,7 @@ struct Met {
 }
 
 // Keeps a worker at its session until so many workers have come to theirs, and so many have
-// answered. One that is counted is a worker of packets.
+// answered. One that is counted is an agents' worker.
 #[derive(Clone, Copy)]
 struct Meeting<'a> {
     met: &'a Met,
@@ -61,7 +61,7 @@ fn sending<'a>(alloc: Global, connections: u32, bytes: &'a [u8]) -> Sending<'a> 
     }
 }
 
-// Runs so many workers of packets, each with a connection that sends these packets if there are any,
+// Runs so many agents' workers, each with a connection that sends these packets if there are any,
 // beside an operator who sends these lines if there are any.
 fn run_many<'a, R: Threads + Wait + Clock + Sync>(
     rt: &R,
@@ -86,20 +86,20 @@ fn run_many<'a, R: Threads + Wait + Clock + Sync>(
         sessions: 0,
         answered: count,
     };
-    let mut senders = Vec::new(alloc);
+    let mut agents = Vec::new(alloc);
     for _ in 0..workers {
-        senders
+        agents
             .push(Endpoint {
                 connections: sending(alloc, u32::from(!packets.is_empty()), packets),
                 hold: worker,
             })
             .ok()?;
     }
-    if senders.len() != workers as usize {
+    if agents.len() != workers as usize {
         return None;
     }
     let endpoints = Endpoints {
-        agents: senders,
+        agents,
         operator: Endpoint {
             connections: sending(alloc, u32::from(!lines.is_empty()), lines),
             hold: operator,
@@ -107,8 +107,8 @@ fn run_many<'a, R: Threads + Wait + Clock + Sync>(
         pages: sending(alloc, 0, &[]),
         applier: operator,
     };
-    let config = config(alloc, workers)?;
-    run_gateway(rt, alloc, config, endpoints, &AlwaysAt(1000), &NoWake).ok()
+    let settings = settings(alloc, workers)?;
+    run_gateway(rt, alloc, settings, endpoints, &AlwaysAt(1000), &NoWake).ok()
 }
 
 fn nobody_met() -> Met {
@@ -147,7 +147,7 @@ fn meet<R: Threads + Wait + Clock + Sync>(rt: &R, alloc: Global) -> Option<(usiz
 
 #[test]
 fn three_workers_serve_at_once(rt: HostRuntime) {
-    // Of each worker of packets item 1 and then item 2, of the operator none.
+    // Of each agents' worker item 1 and then item 2, of the operator none.
     assert!(rt; meet(&rt, rt.alloc()) == Some((6, [12, 12, 12, 0], 0)));
 }
 

@@ -1,4 +1,4 @@
-use crate::fakes::{config, packet};
+use crate::fakes::{packet, settings};
 use crate::gateways::left_by;
 use gate_daemon::{Endpoint, Endpoints, run_gateway};
 use gate_worker::{Accepted, Ending, NoHold, SystemWatch, by_turns};
@@ -10,8 +10,8 @@ use std::thread::Threads;
 use std::time::Clock;
 use std::{io, thread};
 
-// Sends these bytes, reads the beginning of the answer, and waits for what comes after it, since a
-// sender's connection ends once its packet is queued.
+// Sends these bytes, reads the beginning of the answer, and waits for what comes after it, since an
+// agent's connection ends once its packet is queued.
 fn exchange<R: Net<Listener = TcpListener, Stream = TcpStream>>(
     rt: &R,
     address: SocketAddr,
@@ -26,7 +26,7 @@ fn exchange<R: Net<Listener = TcpListener, Stream = TcpStream>>(
     Ok(())
 }
 
-// A sender's packet, an operator's comment, a page, and then the shutdown.
+// An agent's packet, an operator's comment, a page, and then the shutdown.
 fn talk<R: Net<Listener = TcpListener, Stream = TcpStream>>(
     rt: &R,
     addresses: (SocketAddr, SocketAddr, SocketAddr),
@@ -57,14 +57,14 @@ fn serve<R: Net<Listener = TcpListener, Stream = TcpStream> + Threads + Wait + C
     pages: TcpListener,
 ) -> Option<usize> {
     let ending = Ending::new();
-    let config = config(alloc, 1)?;
-    let mut senders = Vec::with_capacity(alloc, 1).ok()?;
-    senders.push_reserved(Endpoint {
+    let settings = settings(alloc, 1)?;
+    let mut of_agents = Vec::with_capacity(alloc, 1).ok()?;
+    of_agents.push_reserved(Endpoint {
         connections: Accepted::of_agents(rt, agents, &ending),
         hold: NoHold,
     });
     let endpoints = Endpoints {
-        agents: senders,
+        agents: of_agents,
         operator: Endpoint {
             connections: Accepted::of_operators(rt, operators, &ending),
             hold: NoHold,
@@ -73,7 +73,7 @@ fn serve<R: Net<Listener = TcpListener, Stream = TcpStream> + Threads + Wait + C
         applier: NoHold,
     };
     let watch = SystemWatch { rt };
-    let left = left_by(run_gateway(rt, alloc, config, endpoints, &watch, &ending))?;
+    let left = left_by(run_gateway(rt, alloc, settings, endpoints, &watch, &ending))?;
     Some(left.records)
 }
 

@@ -1,4 +1,4 @@
-use crate::fakes::{AlwaysAt, config, is_reached, packet};
+use crate::fakes::{AlwaysAt, is_reached, packet, settings};
 use gate_daemon::{Endpoint, Endpoints, run_gateway};
 use gate_worker::{Connections, Hold, Point, Wake};
 use std::alloc::Global;
@@ -124,14 +124,14 @@ impl<'a> Hold for Served<'a> {
     }
 }
 
-// Runs a worker of packets, whose sender comes once it is woken, and a reader of a page who comes
+// Runs an agents' worker, whose agent comes once it is woken, and a reader of a page who comes
 // once the pages are woken, beside an operator who shuts down. How many packets, lines and pages
 // were served, and how many of these were the last page.
 fn close_on<R: Threads + Wait + Clock + Sync>(rt: &R, alloc: Global) -> Option<[u64; 4]> {
     let bytes = packet(alloc)?;
     let seen = nothing_seen();
-    let mut senders = Vec::with_capacity(alloc, 1).ok()?;
-    senders.push_reserved(Endpoint {
+    let mut agents = Vec::with_capacity(alloc, 1).ok()?;
+    agents.push_reserved(Endpoint {
         connections: one_that_sends(alloc, &bytes, Some(&seen.agents), &seen),
         hold: Served {
             count: &seen.packets,
@@ -139,7 +139,7 @@ fn close_on<R: Threads + Wait + Clock + Sync>(rt: &R, alloc: Global) -> Option<[
     });
     let operators = Served { count: &seen.lines };
     let endpoints = Endpoints {
-        agents: senders,
+        agents,
         operator: Endpoint {
             connections: one_that_sends(alloc, b"[1] SHUTDOWN_PROGRAM\n", None, &seen),
             hold: operators,
@@ -147,14 +147,14 @@ fn close_on<R: Threads + Wait + Clock + Sync>(rt: &R, alloc: Global) -> Option<[
         pages: one_that_sends(alloc, b"", Some(&seen.pages), &seen),
         applier: operators,
     };
-    let config = config(alloc, 1)?;
-    let finished = run_gateway(rt, alloc, config, endpoints, &AlwaysAt(1000), &seen).ok()?;
+    let settings = settings(alloc, 1)?;
+    let finished = run_gateway(rt, alloc, settings, endpoints, &AlwaysAt(1000), &seen).ok()?;
     drop(finished);
     let counts = [&seen.packets, &seen.lines, &seen.shown, &seen.last_pages];
     Some(counts.map(|count| count.load(Ordering::SeqCst)))
 }
 
-// Woken before the gate is closed, the worker would serve its sender; woken before the board is
+// Woken before the gate is closed, the worker would serve its agent; woken before the board is
 // marked closing, the pages would show an earlier one.
 #[test]
 fn threads_are_woken_once_there_is_nothing_more_to_wait_for(rt: HostRuntime) {

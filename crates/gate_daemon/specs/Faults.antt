@@ -29,17 +29,20 @@ IsDrainFault workers cause.LogFull queued applier =
 IsDrainFault workers cause.OutOfMemory queued applier =
     LosesNothing workers queued (items_of_records applier.records) × (length applier.records < applier.limit)
 
--- a gateway's queue couldn't be drained for this cause, and these parts are returned, of a log of these objects and this
--- limit. `close_all` may be called with them again: where it then applies all, the log holds what the clients were
+-- a gateway's queue couldn't be drained for this cause, and these parts are returned, of a log of these objects and
+-- this limit. `close_all` may be called with them again: where it then applies all, the log holds what the clients were
 -- answered is queued, and where it stops once more, again nothing is lost
-pub record IsUndrained (workers limit : ℕ) (table : List ObjectLine) (gate : GateId) (why : CloseAllCause) (parts : CloseParts) (queued : List (ℕ × List ℕ)) : Type 0 where
+pub record IsUndrained (workers limit : ℕ) (table : List ObjectLine) (gate : GateId) (why : CloseAllCause)
+    (parts : CloseParts) (queued : List (ℕ × List ℕ)) : Type 0 where
   pub clients : gate.limits.clients ≡ workers + 1
   pub can_close : CanClose gate parts
   pub of_table : parts.applier.table ≡ table
   pub of_limit : parts.applier.limit ≡ limit
   pub fault : IsDrainFault workers why queued parts.applier
-  pub again : (log : List Numbered) → IsMerge gate.limits.clients (queued_by parts.clients parts.taker.ended) log → HoldsAll workers queued log
-  pub later : (log : List Numbered) → LeavesSome gate.limits.clients (queued_by parts.clients parts.taker.ended) log → LosesNothing workers queued log
+  pub again : (log : List Numbered) → IsMerge gate.limits.clients (queued_by parts.clients parts.taker.ended) log
+      → HoldsAll workers queued log
+  pub later : (log : List Numbered) → LeavesSome gate.limits.clients (queued_by parts.clients parts.taker.ended) log
+      → LosesNothing workers queued log
 
 -- of a gateway with so many workers, this capacity, this limit and these objects: the queue's own fault; that the
 -- limit isn't 1 to 1,000,000; or, with the reports of every client, why the queue couldn't be drained

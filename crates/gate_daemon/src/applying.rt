@@ -5,7 +5,7 @@ ghost use Rattle.gate_reader.specs.Clock.{Reads};
 ghost use Rattle.gate_queue.specs.DrainedClose.{items_of_records};
 ghost use Rattle.gate_daemon.specs.declared.applying.ApplierStop.TheVariants.{Closing, LogFull};
 ghost use Rattle.gate_daemon.specs.Applying.{GoesByClock, IsSameLog};
-ghost use Rattle.gate_daemon.specs.declared.applying.Step.TheVariants as step;
+ghost use Rattle.gate_daemon.specs.declared.applying.Attempt.TheVariants as attempt;
 ghost use Rattle.gate_daemon.specs.declared.boards.Found.TheVariants.{Item, Nothing};
 
 use crate::boards::{Found, LastBoard, show, show_last};
@@ -30,19 +30,19 @@ pub enum ApplierStop {
 
 // What one turn of the applier did.
 #[derive(Clone, Copy, Debug, PartialEq, Eq)]
-pub(crate) enum Step {
+pub(crate) enum Attempt {
     Took(Found),
     LogFull,
     OutOfMemory,
 }
 
 // Why the applier can't apply one more record.
-fn step_of(cause: PrepareCause) -> Step
-    ensures { result ≡ step.LogFull → cause ≡ PrepareCause.LogFull }
+fn refused_attempt(cause: PrepareCause) -> Attempt
+    ensures { result ≡ attempt.LogFull → cause ≡ PrepareCause.LogFull }
 {
     match cause {
-        PrepareCause::LogFull => Step::LogFull,
-        PrepareCause::OutOfMemory => Step::OutOfMemory,
+        PrepareCause::LogFull => Attempt::LogFull,
+        PrepareCause::OutOfMemory => Attempt::OutOfMemory,
     }
 }
 
@@ -67,7 +67,7 @@ fn apply_next<R: Wait, K: Clock, H: Hold>(
     ready: Ready,
     clock: &mut K,
     hold: &mut H,
-) -> (Applier, Step)
+) -> (Applier, Attempt)
     requires gate { taker.old.gate ≡ gate.now }
     requires applied { items_of_records ready.records ≡ taker.old.taken }
     ensures gate { taker.new.gate ≡ taker.old.gate }
@@ -75,17 +75,17 @@ fn apply_next<R: Wait, K: Clock, H: Hold>(
     ensures applied { items_of_records result.0.records ≡ taker.new.taken }
     ensures same { IsSameLog ready result.0 }
     ensures clock { GoesByClock (K.readings clock.old) (K.readings clock.new) ready result.0 }
-    ensures not_full { result.1 ≢ step.LogFull }
+    ensures not_full { result.1 ≢ attempt.LogFull }
 {
     match taker.take(rt, gate) {
         Some(item) => {
             hold.pass(Point::BeforeApply);
             (
                 apply_item(ready, item, clock.now()),
-                Step::Took(Found::Item),
+                Attempt::Took(Found::Item),
             )
         }
-        None => (ready.give_back(), Step::Took(Found::Nothing)),
+        None => (ready.give_back(), Attempt::Took(Found::Nothing)),
     }
 }
 
@@ -97,7 +97,7 @@ fn turn<R: Wait, K: Clock, H: Hold>(
     applier: Applier,
     clock: &mut K,
     hold: &mut H,
-) -> (Applier, Step)
+) -> (Applier, Attempt)
     requires gate { taker.old.gate ≡ gate.now }
     requires applied { items_of_records applier.records ≡ taker.old.taken }
     ensures gate { taker.new.gate ≡ taker.old.gate }
@@ -105,12 +105,12 @@ fn turn<R: Wait, K: Clock, H: Hold>(
     ensures applied { items_of_records result.0.records ≡ taker.new.taken }
     ensures same { IsSameLog applier result.0 }
     ensures clock { GoesByClock (K.readings clock.old) (K.readings clock.new) applier result.0 }
-    ensures log_full { result.1 ≡ step.LogFull
+    ensures log_full { result.1 ≡ attempt.LogFull
         → length result.0.records ≡ result.0.limit }
 {
     match applier.prepare() {
         Ok(ready) => apply_next(rt, gate, taker, ready, clock, hold),
-        Err(PrepareFault { cause, applier }) => (applier, step_of(cause)),
+        Err(PrepareFault { cause, applier }) => (applier, refused_attempt(cause)),
     }
 }
 
@@ -203,17 +203,17 @@ pub fn run_applier<R: Wait + time::Clock, K: Clock, H: Hold + Drop>(
         pauses_left: 0,
     };
     for _ in rt.forever() {
-        let (next, step) = turn(rt, gate, &mut taker, applier, clock, &mut hold);
+        let (next, attempt) = turn(rt, gate, &mut taker, applier, clock, &mut hold);
         applier = next;
-        let found = match step {
-            Step::LogFull => {
+        let found = match attempt {
+            Attempt::LogFull => {
                 gate.stop_taking();
                 show_last(rt, alloc, &applier, board);
                 return (taker, applier, ApplierStop::LogFull);
             }
-            Step::OutOfMemory => Found::Nothing,
-            Step::Took(Found::Item) => Found::Item,
-            Step::Took(Found::Nothing) => {
+            Attempt::OutOfMemory => Found::Nothing,
+            Attempt::Took(Found::Item) => Found::Item,
+            Attempt::Took(Found::Nothing) => {
                 if taker.look(gate).is_some() {
                     return (taker, applier, ApplierStop::Closing);
                 }

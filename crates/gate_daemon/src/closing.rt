@@ -29,7 +29,7 @@ pub(crate) fn close_gate<R: Wait + Clock, K: Watch, W>(
     unreachable!()
 }
 
-// Closes the gate where nobody has, and wakes the workers of packets.
+// Closes the gate where nobody has, and wakes the agents' workers.
 pub(crate) fn close_and_wake<R: Wait + Clock, K: Watch, W: Wake>(
     shared: &Shared<'_, R, K, W>,
     closer: &mut Closer,
@@ -41,7 +41,7 @@ pub(crate) fn close_and_wake<R: Wait + Clock, K: Watch, W: Wake>(
     wake_agents(shared.wake, &notice);
 }
 
-// Wakes the workers of packets. Woken before the close, they would end while senders still come.
+// Wakes the agents' workers. Woken before the close, they would end while agents still come.
 fn wake_agents<W: Wake>(wake: &W, _closing: &Notice) {
     wake.agents();
 }

@@ -8,7 +8,7 @@ pub struct Endpoint<C, H> {
 /// What the threads of a gateway serve, and their holds.
 #[derive(Drop)]
 pub struct Endpoints<C, H> {
-    /// Of each worker of packets: clients 1, 2 and so on.
+    /// Of each agents' worker: clients 1, 2 and so on.
     pub agents: Vec<Endpoint<C, H>>,
     /// Of the operator's worker, who is the last client.
     pub operator: Endpoint<C, H>,

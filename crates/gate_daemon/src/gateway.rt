@@ -13,7 +13,7 @@ use crate::collected::Collected;
 use crate::endpoints::Endpoints;
 use crate::joined::Joined;
 use crate::opening::{Opening, Parts, Unopened, open_parts};
-use crate::settings::Config;
+use crate::settings::GatewaySettings;
 use crate::shared::Shared;
 use crate::starting::Unstarted;
 use crate::threads::{Start, run_scoped};
@@ -35,7 +35,7 @@ use thiserror::Error;
 pub struct Finished {
     pub closed: Closed,
     /// Each client's number with the reports of its connections: the operator's first, and then
-    /// those of the workers of packets, from 1.
+    /// those of the agents' workers, from 1.
     pub reports: Vec<(u32, Vec<Report>)>,
     /// Why the operator's worker ended. At OutOfMemory no operator could close the gate any more, so
     /// the gateway closed it.
@@ -103,7 +103,7 @@ fn fault_of(unopened: Unopened) -> GatewayFault
     }
 }
 
-// Drains the gate of so many workers of packets, once all threads are joined.
+// Drains the gate of so many agents' workers, once all threads are joined.
 fn finish<R: Wait, K: gate_reader::Clock>(
     rt: &R,
     workers: u32,
@@ -216,12 +216,12 @@ fn run_opened<
     }
 }
 
-/// Runs a gateway until it is closed: a thread for each worker of packets, one for the operator's
-/// lines, one that applies and one that serves pages, around one queue. Of the workers of packets,
+/// Runs a gateway until it is closed: a thread for each agents' worker, one for the operator's
+/// lines, one that applies and one that serves pages, around one queue. Of the agents' workers,
 /// which are clients 1, 2 and so on, `endpoints` has as many as the configuration; the operator is the
 /// last client.
 ///
-/// Once the operator's worker has ended, the workers of packets are woken where it closed the gate,
+/// Once the operator's worker has ended, the agents' workers are woken where it closed the gate,
 /// and joined; the gate is closed where nobody has; the applier is joined, the pages end with a
 /// board that is marked closing, and what is left in the queue is applied. A close or a board for
 /// which memory is missing is tried again. Where memory for one more report of the operator's worker
@@ -241,33 +241,33 @@ pub fn run_gateway<
 >(
     rt: &R,
     alloc: Global,
-    config: Config,
+    settings: GatewaySettings,
     endpoints: Endpoints<C, H>,
     clock: &K,
     wake: &W,
 ) -> Result<Finished, GatewayFault>
-    requires workers { config.workers ≤ 63 }
-    requires endpoints { vec_len endpoints.agents ≡ config.workers }
+    requires workers { settings.workers ≤ 63 }
+    requires endpoints { vec_len endpoints.agents ≡ settings.workers }
 
     // Every client was joined, and the log holds for each of them the items that its reports answer
     // with Queued, numbered from 1, in that order, and no others.
-    ensures holds { IfOk result (λ finished. HoldsAll config.workers
+    ensures holds { IfOk result (λ finished. HoldsAll settings.workers
         (queued_by_each finished.reports.items)
         (items_of_records finished.closed.applier.records)) }
     // State and pages are what these records mean for the objects of the configuration.
-    ensures table { IfOk result (λ finished. finished.closed.applier.table ≡ config.table) }
-    ensures limit { IfOk result (λ finished. finished.closed.applier.limit ≡ config.limit) }
+    ensures table { IfOk result (λ finished. finished.closed.applier.table ≡ settings.table) }
+    ensures limit { IfOk result (λ finished. finished.closed.applier.limit ≡ settings.limit) }
 
     ensures fault { IfErr result (λ fault.
-        IsGatewayFault config.workers config.capacity config.limit config.table fault) }
+        IsGatewayFault settings.workers settings.capacity settings.limit settings.table fault) }
 {
-    let Config {
+    let GatewaySettings {
         workers,
         capacity,
         limit,
         worker,
         table,
-    } = config;
+    } = settings;
     match open_parts(alloc, workers, capacity, limit, table, clock.read()) {
         Ok(parts) => run_opened(rt, alloc, parts, endpoints, clock, wake, worker, workers),
         Err(unopened) => Err(fault_of(unopened)),

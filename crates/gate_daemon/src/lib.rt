@@ -21,5 +21,5 @@ mod workers;
 pub use applying::{ApplierStop, run_applier};
 pub use endpoints::{Endpoint, Endpoints};
 pub use gateway::{Finished, GatewayFault, run_gateway};
-pub use settings::Config;
+pub use settings::GatewaySettings;
 pub use showing::run_pages;

@@ -3,7 +3,7 @@ use gate_worker::WorkerLimits;
 
 /// What a gateway is run with.
 #[derive(Drop)]
-pub struct Config {
+pub struct GatewaySettings {
     /// How many workers serve packets: 1 to 63.
     pub workers: u32,
     /// How many items the queue holds at most: 1 to 65,536.

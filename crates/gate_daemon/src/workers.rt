@@ -87,7 +87,7 @@ fn run_operator<
     }
 }
 
-// Starts a worker of packets, goes on to the next one, and then joins it; the last of them goes on
+// Starts an agents' worker, goes on to the next one, and then joins it; the last of them goes on
 // to the operator's. What they returned, and why the operator's ended, if all were started. Where
 // one can't be started, the gate is closed.
 pub(crate) fn run_workers<

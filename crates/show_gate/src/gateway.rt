@@ -4,7 +4,7 @@ ghost use Rattle.std.specs.Prelude.{◌≡◌, IfSome};
 use crate::fakes::{AlwaysAt, NoWake, Sending, limits};
 use crate::parts::no_objects;
 use crate::printing::{show_records, show_reports};
-use gate_daemon::{Config, Endpoint, Endpoints, Finished, GatewayFault, run_gateway};
+use gate_daemon::{Endpoint, Endpoints, Finished, GatewayFault, GatewaySettings, run_gateway};
 use gate_model::Record;
 use gate_reader::Report;
 use gate_worker::NoHold;
@@ -16,10 +16,10 @@ use std::time::Clock;
 
 const LINES: &[u8] = b"[1] ADD_HOST_COMMENT;web1;0;ann;hi\n[1] SHUTDOWN_PROGRAM\n";
 
-fn config(alloc: Global, shown: &mut Vec<u8>) -> Option<Config>
-    ensures { IfSome result (λ config. config.workers ≡ 1) }
+fn settings(alloc: Global, shown: &mut Vec<u8>) -> Option<GatewaySettings>
+    ensures { IfSome result (λ settings. settings.workers ≡ 1) }
 {
-    Some(Config {
+    Some(GatewaySettings {
         workers: 1,
         capacity: 16,
         limit: 1000,
@@ -73,7 +73,7 @@ pub fn play_gateway<R: Threads + Wait + Clock + Sync>(
         return false;
     };
     packets.push_reserved(endpoint(1, bytes));
-    let Some(config) = config(alloc, shown) else {
+    let Some(settings) = settings(alloc, shown) else {
         return false;
     };
     let endpoints = Endpoints {
@@ -85,7 +85,7 @@ pub fn play_gateway<R: Threads + Wait + Clock + Sync>(
         },
         applier: NoHold,
     };
-    let ran = run_gateway(rt, alloc, config, endpoints, &AlwaysAt(1500), &NoWake);
+    let ran = run_gateway(rt, alloc, settings, endpoints, &AlwaysAt(1500), &NoWake);
     show_gateway(ran, shown);
     true
 }

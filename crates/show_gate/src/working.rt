@@ -58,7 +58,7 @@ fn show_items<R: Wait>(rt: &R, gate: &Gate, taker: Taker, shown: &mut Vec<u8>)
     }
 }
 
-/// Plays a worker of packets that may serve two connections, over a queue with room: whether its gate could be opened.
+/// Plays a agents' worker that may serve two connections, over a queue with room: whether its gate could be opened.
 pub fn play_worker<R: Wait + Clock>(
     rt: &R,
     alloc: Global,

@@ -26,9 +26,10 @@ pub record AreNew (gate : GateId) (clients : List ClientState) (endpoints : ℕ)
   pub operators : operator.gate ≡ gate
   pub fresh : operator.queued ≡ []
 
--- the ends of at most so many workers of packets and of the operator's are collected; where the operator's ended for a
+-- the ends of at most so many agents' workers and of the operator's are collected; where the operator's ended for a
 -- cause that is known, all were started, and it is the ends of all
-pub record AreCollected (gate : GateId) (count operator : ℕ) (before after : Collected) (cause : Option Cause) : Type 0 where
+pub record AreCollected (gate : GateId) (count operator : ℕ) (before after : Collected) (cause : Option Cause)
+    : Type 0 where
   pub all : IsSome cause → numbers_of after.ended.items ≡ operator ∷ numbers_after 0 count
   pub few : length after.ended.items ≤ count + 1
   pub gates : AreOf gate after.ended.items
@@ -41,7 +42,7 @@ pub record IsApplied (gate : GateId) (taker : TakerState) (applier : ApplierView
   pub none_in : taker.ended ≡ []
   pub applied : items_of_records applier.records ≡ taker.taken
 
--- the threads of a gate with so many workers of packets are joined, and its taker knows of the close
+-- the threads of a gate with so many agents' workers are joined, and its taker knows of the close
 pub record AreJoined (gate : GateId) (workers : ℕ) (before : ApplierView) (joined : Joined) : Type 0 where
   pub applied : IsApplied gate joined.taker joined.applier
   pub known_close : IsSome joined.taker.known_close

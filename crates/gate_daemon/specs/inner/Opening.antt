@@ -11,7 +11,7 @@ use Rattle.gate_daemon.specs.declared.opening.Unopened.{Unopened}
 use Rattle.gate_daemon.specs.declared.opening.Unopened.TheVariants as unopened
 use Rattle.gate_daemon.specs.inner.Joining.{HasRoom}
 
--- the parts of a new gate, with a client for each of so many workers of packets and one more, the operator's
+-- the parts of a new gate, with a client for each of so many agents' workers and one more, the operator's
 pub record IsOpening (workers : ℕ) (opening : Opening) : Type 0 where
   pub count : opening.gate.limits.clients ≡ workers + 1
   pub taker : opening.taker.gate ≡ opening.gate

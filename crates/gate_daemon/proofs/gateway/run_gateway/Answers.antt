@@ -6,11 +6,11 @@ use Rattle.gate_daemon.proofs.gateway.run_gateway.Goals as goal
 
 pub returns-in-Ok-clause-fault : goal.returns-in-Ok-clause-fault
 returns-in-Ok-clause-fault g c =
-    let config = c.args.config in
+    let settings = c.args.settings in
     IfErr-weaker c.run_opened.result _ _
-    (λ fault known. subst (λ (a : ApplierView). IsGatewayFault config.workers config.capacity a.limit a.table fault) c.in-Ok.ensures.applier (known config.capacity))
+    (λ fault known. subst (λ (a : ApplierView). IsGatewayFault settings.workers settings.capacity a.limit a.table fault) c.in-Ok.ensures.applier (known settings.capacity))
     c.run_opened.ensures.fault
 
 pub returns-in-Err-clause-fault : goal.returns-in-Err-clause-fault
 returns-in-Err-clause-fault g c =
-    c.fault_of.ensures c.args.config.workers c.args.config.capacity c.args.config.limit c.args.config.table c.in-Err.ensures.fault
+    c.fault_of.ensures c.args.settings.workers c.args.settings.capacity c.args.settings.limit c.args.settings.table c.in-Err.ensures.fault
