@@ -13,7 +13,7 @@ use Rattle.gate_replay.specs.declared.player.Player.{Player}
 use Rattle.gate_replay.specs.declared.player.Stopped.{Stopped}
 use Rattle.gate_replay.specs.declared.player.Stopped.TheVariants as stopped
 use Rattle.gate_replay.specs.ReplayState.{ReplayState, records_item, drains, number_queued, Finishes, BeginsDrain}
-use Rattle.gate_replay.specs.inner.Playing.{SoloView, Extends, IsEnded, Setting, Shows, FindsFull, Takes, TakesItem, TakesNothing, Drains, DrainsFull, DrainsPart, Stays, Ends, StopsBy}
+use Rattle.gate_replay.specs.inner.Playing.{SoloView, Extends, IsEnded, Setting, Shows, FindsFull, Takes, TakesItem, TakesNothing, Drains, DrainsFull, DrainsPart, Stays, Ends, StopsPreparing, StopsTaking, StopsDraining}
 
 -- whatever is so of a drain from g is so of one from start
 abbrev pub Leads : (List (Option Numbered) → ReplayState → Type 0) → ReplayState → ReplayState → Type 0
@@ -220,8 +220,9 @@ pub takes_false : {D : Type 0} (view : SoloView D) (was now : Player D) (found :
 takes_false {D} view was now found e t = subst (λ (b : Bool). Takes view was now b) e t
 
 -- memory ran out for a take
-drains_part : {D : Type 0} (view : SoloView D) (was now : Player D) (kept : ApplierView) → kept ≡ now.applier → DrainsOn view was now → (s : Setting) (output : SinkState) (g : ReplayState) → Shows view s was output g → DrainsPart view s kept output g
-drains_part {D} view was now kept is on s output g h =
+drains_part : {D : Type 0} (view : SoloView D) (was now : Player D) (kept : ApplierView) → kept ≡ now.applier → length now.applier.records ≤ now.applier.limit → length now.applier.records ≢ now.applier.limit → DrainsOn view was now
+    → (s : Setting) (output : SinkState) (g : ReplayState) → Shows view s was output g → DrainsPart view s kept output g
+drains_part {D} view was now kept is few room on s output g h =
     let r : Reaches view s now output g = on s output g h in
     let more = r.begins [] tt in
     record {
@@ -236,19 +237,20 @@ drains_part {D} view was now kept is on s output g h =
           records = ap (λ (a : ApplierView). a.records) is ∙ r.shows.applier.records;
         };
         printed = r.shows.printed;
+        room = λ _. below_limit view s now output r.g r.shows few room;
       });
     }
 
 -- a take that found no room met a full log, or memory ran out
-pub take_stopped : {D E : Type 0} (view : SoloView D) (ended : SoloView E) (player : Player D) (stop : Stopped) → IsEnded view ended player.queue → StopsBy (λ kept. (kept ≡ player.applier) × (length player.applier.records ≡ player.applier.limit)) (λ kept. kept ≡ player.applier) (λ _. ⊥) stop
-    → StopsBy (FindsFull view ended player) (λ kept. kept ≡ player.applier) (λ _. ⊥) stop
+pub take_stopped : {D E : Type 0} (view : SoloView D) (ended : SoloView E) (player : Player D) (stop : Stopped) → IsEnded view ended player.queue → StopsPreparing player.applier stop
+    → StopsTaking view ended player stop
 take_stopped view ended player (stopped.Full kept) is_ended h = record { applier = h.0; full = h.1; is_ended = is_ended }
 take_stopped view ended player (stopped.OutOfMemory kept) is_ended h = h
 take_stopped view ended player (stopped.Unwritten fault) is_ended h = absurd h
 
 -- a drain that stops met a full log, or memory ran out
-pub drain_stopped : {D E : Type 0} (view : SoloView D) (ended : SoloView E) (was now : Player D) (stop : Stopped) → length now.applier.records < now.queued → DrainsOn view was now → StopsBy (FindsFull view ended now) (λ kept. kept ≡ now.applier) (λ _. ⊥) stop
-    → StopsBy (λ kept. (s : Setting) (output : SinkState) (g : ReplayState) → Shows view s was output g → DrainsFull ended s kept output g) (λ kept. (s : Setting) (output : SinkState) (g : ReplayState) → Shows view s was output g → DrainsPart view s kept output g) (λ _. ⊥) stop
-drain_stopped view ended was now (stopped.Full kept) some on h = drains_full view ended was now kept some h on
-drain_stopped view ended was now (stopped.OutOfMemory kept) some on h = drains_part view was now kept h on
-drain_stopped view ended was now (stopped.Unwritten fault) some on h = absurd h
+pub drain_stopped : {D E : Type 0} (view : SoloView D) (ended : SoloView E) (was now : Player D) (stop : Stopped) → length now.applier.records < now.queued → length now.applier.records ≤ now.applier.limit → DrainsOn view was now → StopsTaking view ended now stop
+    → StopsDraining view ended was stop
+drain_stopped view ended was now (stopped.Full kept) some few on h = drains_full view ended was now kept some h on
+drain_stopped view ended was now (stopped.OutOfMemory kept) some few on h = drains_part view was now kept h.0 few h.1 on
+drain_stopped view ended was now (stopped.Unwritten fault) some few on h = absurd h

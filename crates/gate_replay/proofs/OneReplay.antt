@@ -29,7 +29,7 @@ use Rattle.gate_reader.specs.declared.report.Answer.TheVariants as answer
 use Rattle.gate_reader.specs.Report.{answer_line}
 use Rattle.gate_replay.specs.declared.script.Step.{Step}
 use Rattle.gate_replay.specs.declared.script.Step.TheVariants as step
-use Rattle.gate_replay.specs.declared.script.Setup.{Setup}
+use Rattle.gate_replay.specs.declared.setup.Setup.{Setup}
 use Rattle.gate_replay.specs.declared.script.Script.{Script}
 use Rattle.gate_replay.specs.ReplayState.{ReplayState, Heard, prints, submits, shuts_down, body_of_line, is_shutdown, carries_out, records_item, drains, is_session, serves, plays, state_after, Finishes, IsWhole, IsWholeStep, steps_of, IsPlayed}
 

@@ -1,6 +1,7 @@
 -- The steps of a replay.
 use Rattle.std.proofs.Common.{◌≡◌, ◌⊎◌, inl, inr, ⊎_elim, ℕ, ◌+◌, ◌^◌, ◌<◌, List, [], ◌∷◌, ◌++◌, length, take, drop, get_or, Option, Some, None, Result, Ok, Err, Bool, true, false, cond, refl, sym, ap, ◌∙◌, subst, arith, append_assoc}
 use Rattle.std.specs.Prelude.{IfOk, IfErr, reverse}
+use Rattle.std.proofs.lemmas.Bool.{true≢false}
 use Rattle.std.proofs.lemmas.List.{reverse-append, take-append-drop, take_more}
 use Rattle.gate_model.specs.declared.record.Moment.{Moment}
 use Rattle.gate_model.specs.declared.submission.Numbered.{Numbered}
@@ -23,10 +24,10 @@ use Rattle.gate_replay.specs.declared.player.Stopped.{Stopped}
 use Rattle.gate_replay.specs.declared.player.Stopped.TheVariants as stopped
 use Rattle.gate_replay.specs.declared.script.Step.{Step}
 use Rattle.gate_replay.specs.declared.script.Step.TheVariants as step
-use Rattle.gate_replay.specs.declared.script.Setup.{Setup}
+use Rattle.gate_replay.specs.declared.setup.Setup.{Setup}
 use Rattle.gate_replay.specs.ReplayState.{ReplayState, Heard, body_of_line, carries_out, is_session, serves, drains, plays, state_after, steps_of, records_item, Finishes, IsWhole, BeginsDrain, IsWholeSoFar}
 use Rattle.gate_replay.specs.inner.Sessions.{queued_in, Answers, AnswersStep}
-use Rattle.gate_replay.specs.inner.Playing.{SoloView, Setting, setting, Shows, IsNew, IsUnderWay, IsReady, Serves, Drains, DrainsFull, Ends, Stays, DrainsPart, Plays, PlaysFull, PlaysPart, PlayedTo, PlayedFull, PlayedPart, IsWriteEnd, StopsBy}
+use Rattle.gate_replay.specs.inner.Playing.{SoloView, Setting, setting, Shows, IsNew, IsUnderWay, IsReady, Serves, Drains, DrainsFull, Ends, Stays, DrainsPart, Plays, PlaysFull, PlaysPart, PlayedTo, PlayedFull, PlayedPart, IsWriteEnd, StopsBy, ServesFrom, StopsServing, StopsDraining}
 use Rattle.gate_reader.proofs.Outputs.{fails_then, writes_none, writes_on}
 use Rattle.gate_replay.proofs.SoloSteps.{queued_few, holds_same}
 
@@ -188,6 +189,7 @@ stays_as {D} view was kept before after table opening limit records same s g h =
     records = records ∙ h.applier.records;
   };
   printed = subst (λ (v : SinkState). Writes s.base v g.printed) (sym same) h.printed;
+  room = λ full. absurd (true≢false (sym full ∙ h.running));
 }
 
 pub stays_same : {D : Type 0} (view : SoloView D) (was : Player D) (before : SinkState) (s : Setting) (g : ReplayState) → Shows view s was before g → Stays view s was.applier before g
@@ -203,7 +205,7 @@ PartAt view was step before after kept = (s : Setting) (g : ReplayState) → Sho
 
 -- the service of a session stopped
 pub served_stops : {D E : Type 0} (view : SoloView D) (ended : SoloView E) (stop : Stopped) (was : Player D) (step : Step) (before after : SinkState)
-    → StopsBy (λ _. ⊥) (λ kept. (s : Setting) (g : ReplayState) → Shows view s was before g → Stays view s kept after g) (IsWriteEnd before after) stop
+    → StopsServing view was before after stop
     → StopsBy (FullAt view ended was step before after) (PartAt view was step before after) (IsWriteEnd before after) stop
 served_stops {D} view ended stop was step before after h =
     stops stop (λ _. ⊥) (FullAt view ended was step before after) (λ kept. (s : Setting) (g : ReplayState) → Shows view s was before g → Stays view s kept after g) (PartAt view was step before after) (IsWriteEnd before after) (IsWriteEnd before after)
@@ -221,8 +223,8 @@ drains_plays_part {D} view s kept step after g heard running session d =
     }
 
 -- the drain of a session stopped
-pub drain_stops : {D E : Type 0} (view : SoloView D) (ended : SoloView E) (r : Result (Player D) Stopped) (was mid : Player D) (step : Step) (before after : SinkState) → ((s : Setting) (g : ReplayState) → Shows view s was before g → Serves view s mid after step g) → is_session step ≡ true
-    → IfErr r (StopsBy (λ kept. (s : Setting) (output : SinkState) (g : ReplayState) → Shows view s mid output g → DrainsFull ended s kept output g) (λ kept. (s : Setting) (output : SinkState) (g : ReplayState) → Shows view s mid output g → DrainsPart view s kept output g) (λ _. ⊥))
+pub drain_stops : {D E : Type 0} (view : SoloView D) (ended : SoloView E) (r : Result (Player D) Stopped) (was mid : Player D) (step : Step) (before after : SinkState) → ServesFrom view was before step mid after → is_session step ≡ true
+    → IfErr r (StopsDraining view ended mid)
     → IfErr r (StopsBy (FullAt view ended was step before after) (PartAt view was step before after) (IsWriteEnd before after))
 drain_stops view ended (Ok now) was mid step before after served session h = tt
 drain_stops {D} view ended (Err stop) was mid step before after served session h =

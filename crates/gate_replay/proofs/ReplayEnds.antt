@@ -67,7 +67,7 @@ finished_part {D} view so_far script kept b m a h played printed =
     record {
       replayed = g;
       played = played;
-      printed = inr (delivers_on b m a g.printed _ h.stays.printed (subst (λ (t : List ℕ). Delivers m a t) page printed));
+      printed = inr (h.stays.room, delivers_on b m a g.printed _ h.stays.printed (subst (λ (t : List ℕ). Delivers m a t) page printed));
     }
 
 -- ---- what was played so far

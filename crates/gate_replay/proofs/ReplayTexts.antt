@@ -9,7 +9,7 @@ use Rattle.gate_replay.specs.declared.fault.ReplayFault.TheVariants.{TooLong, Li
 use Rattle.gate_replay.specs.declared.script.Script.{Script}
 use Rattle.gate_replay.specs.declared.script.ScriptFault.{ScriptFault}
 use Rattle.gate_replay.specs.declared.script.ScriptFault.TheVariants as script
-use Rattle.gate_replay.specs.Script.{parsed_lines, IsScript, IsFaultOf}
+use Rattle.gate_replay.specs.Script.{parsed_script_lines, IsScript, IsFaultOf}
 use Rattle.gate_reader.specs.Sink.{SinkState, FailsOnce}
 use Rattle.gate_replay.specs.Fault.{replay_fault}
 use Rattle.gate_replay.specs.Replay.{IsWholeInput, EndsWith}
@@ -24,7 +24,7 @@ whole_text (Some bytes) front items most e h few =
     k ∙ take_all most bytes short
 
 -- an input that was read and is a script
-pub played_input : (rules : Limits → Run → Type 0) (input : Option (List ℕ)) (text : List ℕ) (played : Script) (fault : Option ReplayFault) (b a : SinkState) → IsWholeInput input text → length text ≤ 1048576 → IsScript (parsed_lines text) played → EndsPlaying rules rules played b a fault → EndsWith rules input b a fault
+pub played_input : (rules : Limits → Run → Type 0) (input : Option (List ℕ)) (text : List ℕ) (played : Script) (fault : Option ReplayFault) (b a : SinkState) → IsWholeInput input text → length text ≤ 1048576 → IsScript (parsed_script_lines text) played → EndsPlaying rules rules played b a fault → EndsWith rules input b a fault
 played_input rules input text played None b a whole short parsed h = record { text = text; whole = whole; short = short; script = played; parsed = parsed; replayed = h.replayed; played = h.played; full_is = h.full_is; printed = h.printed }
 played_input rules input text played (Some TooLong) b a whole short parsed h = absurd h
 played_input rules input text played (Some (Line number)) b a whole short parsed h = absurd h
@@ -40,7 +40,7 @@ played_input rules input text played (Some ReadFault) b a whole short parsed h =
 played_input rules input text played (Some WriteFault) b a whole short parsed h = h
 
 -- an input that was read and is no script
-pub faulty_input : (rules : Limits → Run → Type 0) (input : Option (List ℕ)) (text : List ℕ) (fault : ScriptFault) (a : SinkState) → IsWholeInput input text → length text ≤ 1048576 → IsFaultOf (parsed_lines text) fault → EndsWith rules input a a (Some (replay_fault fault))
+pub faulty_input : (rules : Limits → Run → Type 0) (input : Option (List ℕ)) (text : List ℕ) (fault : ScriptFault) (a : SinkState) → IsWholeInput input text → length text ≤ 1048576 → IsFaultOf (parsed_script_lines text) fault → EndsWith rules input a a (Some (replay_fault fault))
 faulty_input rules input text (script.Line number) a whole short h = (record { text = text; whole = whole; short = short; faulty = h }, refl)
 faulty_input rules input text script.OutOfMemory a whole short h = inl refl
 

@@ -31,7 +31,7 @@ use Rattle.gate_reader.specs.Session.{ClientView}
 use Rattle.gate_reader.specs.Lines.{OperatorView, first_close}
 use Rattle.gate_replay.specs.declared.script.Step.{Step}
 use Rattle.gate_replay.specs.declared.script.Step.TheVariants as step
-use Rattle.gate_replay.specs.declared.script.Setup.{Setup}
+use Rattle.gate_replay.specs.declared.setup.Setup.{Setup}
 use Rattle.gate_replay.specs.ReplayState.{ReplayState, Heard, prints, submits, shuts_down, body_of_line, is_shutdown, carries_out, number_queued, serves}
 use Rattle.gate_replay.specs.inner.Playing.{SoloView, HoldsRun}
 use Rattle.gate_replay.specs.inner.Sessions.{AnswersPacket, SubmitsBody, ShutsDown, CarriesOut, queued_in, Answers, AnswersStep}

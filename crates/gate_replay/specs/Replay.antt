@@ -12,7 +12,7 @@ use Rattle.gate_pages.specs.LogPage.{log_text}
 use Rattle.gate_replay.specs.declared.script.Script.{Script}
 use Rattle.gate_replay.specs.declared.fault.ReplayFault.{ReplayFault}
 use Rattle.gate_replay.specs.declared.fault.ReplayFault.TheVariants.{TooLong, Line, LogFull, OutOfMemory, ReadFault, WriteFault}
-use Rattle.gate_replay.specs.Script.{parsed_lines, IsScript, IsFirstFaultyLine}
+use Rattle.gate_replay.specs.Script.{parsed_script_lines, IsScript, IsFirstFaultyLine}
 use Rattle.gate_replay.specs.ReplayState.{ReplayState, IsPlayed, IsPlayedSoFar}
 use Rattle.gate_replay.specs.Fault.{status_of, message_of}
 
@@ -26,28 +26,36 @@ IsWholeInput input text = IfSome input (λ bytes. text ≡ bytes)
 
 -- the input is a script, a gateway played it whole, and the output grew by what that prints. The last
 -- is whether the log was full with an item left
-pub record IsReplay (rules : Limits → Run → Type 0) (input : Option (List ℕ)) (before after : SinkState) (full : Bool) : Type 0 where
+pub record IsReplay (rules : Limits → Run → Type 0) (input : Option (List ℕ)) (before after : SinkState)
+    (full : Bool) : Type 0 where
   pub text : List ℕ
   pub whole : IsWholeInput input text
   pub short : length text ≤ 1048576
   pub script : Script
-  pub parsed : IsScript (parsed_lines text) script
+  pub parsed : IsScript (parsed_script_lines text) script
   pub replayed : ReplayState
   pub played : IsPlayed rules script replayed
   pub full_is : replayed.full ≡ full
   pub printed : Delivers before after (printed_by script replayed)
 
--- these first steps were printed and delivered, with the log page after them or without it
+-- where a drain was cut short with an item left, the log has room for it
+abbrev pub HasRoomLeft : Script → ReplayState → Type 0
+HasRoomLeft script g = g.full ≡ true → length g.records < script.setup.limit
+
+-- these first steps were printed and delivered, without the log page after them; or with it, where the log isn't full
+-- with an item left
 abbrev pub PrintsSoFar : Script → ReplayState → SinkState → SinkState → Type 0
-PrintsSoFar script g before after = Delivers before after g.printed ⊎ Delivers before after (printed_by script g)
+PrintsSoFar script g before after =
+    Delivers before after g.printed ⊎ (HasRoomLeft script g × Delivers before after (printed_by script g))
 
 -- the input is a script, a gateway played the first of its steps, and the output grew by what these print
-pub record IsCutShort (rules : Limits → Run → Type 0) (input : Option (List ℕ)) (before after : SinkState) : Type 0 where
+pub record IsCutShort (rules : Limits → Run → Type 0) (input : Option (List ℕ)) (before after : SinkState)
+    : Type 0 where
   pub text : List ℕ
   pub whole : IsWholeInput input text
   pub short : length text ≤ 1048576
   pub script : Script
-  pub parsed : IsScript (parsed_lines text) script
+  pub parsed : IsScript (parsed_script_lines text) script
   pub replayed : ReplayState
   pub played : IsPlayedSoFar rules script replayed
   pub printed : PrintsSoFar script replayed before after
@@ -57,7 +65,7 @@ pub record HasFaultyLine (input : Option (List ℕ)) (number : ℕ) : Type 0 whe
   pub text : List ℕ
   pub whole : IsWholeInput input text
   pub short : length text ≤ 1048576
-  pub faulty : IsFirstFaultyLine (parsed_lines text) number
+  pub faulty : IsFirstFaultyLine (parsed_script_lines text) number
 
 -- the input is longer than a script may be
 abbrev pub IsTooLong : Option (List ℕ) → Type 0
@@ -77,7 +85,8 @@ EndsWith rules input before after (Some WriteFault) = FailsOnce before after
 
 -- the replay of this input, with what is known of the output and of the errors before and after it, ends
 -- with this exit status
-pub record IsReplayRun (rules : Limits → Run → Type 0) (input : Option (List ℕ)) (output output_after errors errors_after : SinkState) (status : ℕ) : Type 0 where
+pub record IsReplayRun (rules : Limits → Run → Type 0) (input : Option (List ℕ))
+    (output output_after errors errors_after : SinkState) (status : ℕ) : Type 0 where
   pub fault : Option ReplayFault
   pub status_is : status ≡ status_at_end status_of fault
   pub ended : EndsWith rules input output output_after fault

@@ -28,13 +28,13 @@ use Rattle.gate_pages.specs.StatusPage.{status_text_at}
 use Rattle.gate_replay.specs.SentPacket.{received}
 use Rattle.gate_replay.specs.declared.script.Step.{Step}
 use Rattle.gate_replay.specs.declared.script.Step.TheVariants as step
-use Rattle.gate_replay.specs.declared.script.Setup.{Setup}
+use Rattle.gate_replay.specs.declared.setup.Setup.{Setup}
 use Rattle.gate_replay.specs.declared.script.Script.{Script}
 
 -- ---- the state
 
--- a gateway after some steps: the clock's moment and the applier's, what its queue was asked with its answers (the newest
--- first), the records, what was printed, and whether the log was full with an item left
+-- a gateway after some steps: the clock's moment and the applier's, what its queue was asked with its answers (the
+-- newest first), the records, what was printed, and whether the log was full with an item left
 pub record ReplayState : Type 0 where
   pub clock : Moment
   pub moment : Moment
@@ -43,8 +43,8 @@ pub record ReplayState : Type 0 where
   pub printed : List ℕ
   pub full : Bool
 
--- what a step was answered: a submission; a close, by the first one's moment where it wasn't the first; and the takes of
--- the drain, in order. A step that asks less leaves the others unread
+-- what a step was answered: a submission; a close, by the first one's moment where it wasn't the first; and the takes
+-- of the drain, in order. A step that asks less leaves the others unread
 pub record Heard : Type 0 where
   pub reply : Result ℕ Refused
   pub closed : Option Moment
@@ -52,7 +52,8 @@ pub record Heard : Type 0 where
 
 -- a gateway that has opened
 abbrev pub opened : Setup → ReplayState
-opened setup = record { clock = setup.moment; moment = setup.moment; run = []; records = []; printed = []; full = false }
+opened setup =
+    record { clock = setup.moment; moment = setup.moment; run = []; records = []; printed = []; full = false }
 
 -- it prints this too
 abbrev pub prints : List ℕ → ReplayState → ReplayState
@@ -121,7 +122,8 @@ drains [] g = record g { full = nat_lt (length g.records) (number_queued g.run) 
 drains (Some item ∷ takes) g = drains takes (records_item item g)
 drains (None ∷ takes) g = asks ((Take, Empty) ∷ []) g
 
--- the answers are those of one whole drain: it goes on while an item is left and the log isn't full, until a take finds nothing
+-- the answers are those of one whole drain: it goes on while an item is left and the log isn't full, until a take finds
+-- nothing
 abbrev pub Finishes : ℕ → List (Option Numbered) → ReplayState → Type 0
 Finishes limit [] g = length g.records < number_queued g.run → limit ≤ length g.records
 Finishes limit (Some item ∷ takes) g =
@@ -177,8 +179,9 @@ IsWhole setup ((step, heard) ∷ before) = IsWholeStep setup step heard (state_a
 abbrev pub steps_of : List (Step × Heard) → List Step
 steps_of done = map (λ pair. pair.0) done
 
--- the gateway played the whole script, over a queue of two clients, which then ended and were taken in. The queue's answers
--- keep these rules: those of the machine of all interleavings, or those that a gate keeps whatever other threads do
+-- the gateway played the whole script, over a queue of two clients, which then ended and were taken in. The queue's
+-- answers keep these rules: those of the machine of all interleavings, or those that a gate keeps whatever other
+-- threads do
 pub record IsPlayed (rules : Limits → Run → Type 0) (script : Script) (g : ReplayState) : Type 0 where
   pub done : List (Step × Heard)
   pub steps_are : steps_of done ≡ reverse script.steps.items
@@ -192,8 +195,10 @@ pub record IsPlayed (rules : Limits → Run → Type 0) (script : Script) (g : R
 abbrev pub BeginsDrain : ℕ → List (Option Numbered) → ReplayState → Type 0
 BeginsDrain limit [] g = Unit {0}
 BeginsDrain limit (Some item ∷ takes) g =
-    (length g.records < number_queued g.run) × (length g.records < limit) × BeginsDrain limit takes (records_item item g)
-BeginsDrain limit (None ∷ takes) g = (length g.records < number_queued g.run) × (length g.records < limit) × (takes ≡ [])
+    (length g.records < number_queued g.run) × (length g.records < limit)
+    × BeginsDrain limit takes (records_item item g)
+BeginsDrain limit (None ∷ takes) g =
+    (length g.records < number_queued g.run) × (length g.records < limit) × (takes ≡ [])
 
 -- the step's drain has begun, if it has one
 abbrev pub IsBegunStep : Setup → Step → Heard → ReplayState → Type 0
@@ -203,10 +208,12 @@ IsBegunStep setup step heard g =
 -- each step's drain is whole, but for the newest one's, which has begun
 abbrev pub IsWholeSoFar : Setup → List (Step × Heard) → Type 0
 IsWholeSoFar setup [] = Unit {0}
-IsWholeSoFar setup ((step, heard) ∷ before) = IsBegunStep setup step heard (state_after setup before) × IsWhole setup before
+IsWholeSoFar setup ((step, heard) ∷ before) =
+    IsBegunStep setup step heard (state_after setup before) × IsWhole setup before
 
--- the gateway played the first steps of the script, the last of them perhaps without the rest of its drain, over a queue of
--- two clients whose answers keep these rules. (Where the drain was cut short, `full` is true if an item was left.)
+-- the gateway played the first steps of the script, the last of them perhaps without the rest of its drain, over a
+-- queue of two clients whose answers keep these rules. (Where the drain was cut short, `full` is true if an item was
+-- left.)
 pub record IsPlayedSoFar (rules : Limits → Run → Type 0) (script : Script) (g : ReplayState) : Type 0 where
   pub steps : List Step
   pub steps_begin : IsPrefix steps script.steps.items

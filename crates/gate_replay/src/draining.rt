@@ -2,7 +2,7 @@ ghost use Rattle.std.specs.Prelude.{◌≡◌, ◌≢◌, length, IfOk, IfErr, O
 ghost use Rattle.gate_core.specs.Legal.{Run};
 ghost use Rattle.gate_reader.specs.Sink.{SinkState};
 ghost use Rattle.gate_replay.specs.ReplayState.{ReplayState};
-ghost use Rattle.gate_replay.specs.inner.Playing.{solo_view, Setting, Shows, IsUnderWay, Takes, Drains, DrainsFull, DrainsPart, FindsFull, StopsBy};
+ghost use Rattle.gate_replay.specs.inner.Playing.{solo_view, Setting, Shows, IsUnderWay, Takes, Drains, StopsPreparing, StopsTaking, StopsDraining};
 
 use crate::player::{Player, Stopped};
 use gate_applier::{Applier, PrepareCause, PrepareFault, Ready};
@@ -11,9 +11,7 @@ use gate_solo::SoloQueue;
 // Makes room for a record, or stops.
 fn prepare(applier: Applier) -> Result<Ready, Stopped>
     ensures ready { IfOk result (λ ready. ready ≡ record applier { room = ready.room }) }
-    ensures stopped { IfErr result (StopsBy
-        (λ kept. (kept ≡ applier) × (length applier.records ≡ applier.limit))
-        (λ kept. kept ≡ applier) (λ _. ⊥)) }
+    ensures stopped { IfErr result (StopsPreparing applier) }
     ensures room { OnOk result (length applier.records ≢ applier.limit) }
 {
     match applier.prepare() {
@@ -43,10 +41,8 @@ where
         requires { (run : Run) × D.after self.queue run }
         ensures taken { IfOk result (λ turn.
             Takes (solo_view D.after D.limits) self turn.0 turn.1) }
-        ensures stopped { let view = solo_view D.after D.limits in
-            let ended = solo_view D.Ended.after D.Ended.limits in
-            IfErr result (StopsBy (FindsFull view ended self) (λ kept. kept ≡ self.applier)
-            (λ _. ⊥)) }
+        ensures stopped { IfErr result (StopsTaking (solo_view D.after D.limits)
+            (solo_view D.Ended.after D.Ended.limits) self) }
     {
         let Player {
             queue,
@@ -95,13 +91,8 @@ where
         ensures drained { let view = solo_view D.after D.limits in
             IfOk result (λ now. (s : Setting) (output : SinkState) (g : ReplayState)
             → Shows view s self output g → Drains view s now output g) }
-        ensures stopped { let view = solo_view D.after D.limits in
-            let ended = solo_view D.Ended.after D.Ended.limits in
-            IfErr result (StopsBy (λ kept. (s : Setting) (output : SinkState)
-            (g : ReplayState) → Shows view s self output g → DrainsFull ended s kept output g)
-            (λ kept. (s : Setting) (output : SinkState) (g : ReplayState)
-            → Shows view s self output g → DrainsPart view s kept output g)
-            (λ _. ⊥)) }
+        ensures stopped { IfErr result (StopsDraining (solo_view D.after D.limits)
+            (solo_view D.Ended.after D.Ended.limits) self) }
     {
         let mut player = self;
         while (player.applier.records().len() as u64) < player.queued {

@@ -5,7 +5,7 @@ ghost use Rattle.gate_core.specs.Merge.{IsClient, of_client};
 ghost use Rattle.gate_core.specs.Legal.{taken, queued, IsLegal};
 ghost use Rattle.gate_solo.specs.Allowed.{IsAllowed};
 ghost use Rattle.gate_replay.specs.declared.script.Step.{Step};
-ghost use Rattle.gate_replay.specs.declared.script.Setup.{Setup};
+ghost use Rattle.gate_replay.specs.declared.setup.Setup.{Setup};
 ghost use Rattle.gate_replay.specs.declared.script.Script.{Script};
 ghost use Rattle.gate_replay.specs.ReplayState.{ReplayState, Heard, state_after, steps_of, IsWhole, IsPlayed};
 

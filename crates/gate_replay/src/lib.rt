@@ -17,10 +17,12 @@ mod script;
 mod script_line;
 mod sent_packet;
 mod sessions;
+mod setup;
 
 pub use fault::ReplayFault;
 pub use laws::replay_laws;
-pub use replay::{SCRIPT_BYTES, replay_over_world, replay_script, run_replay};
-pub use script::{Script, ScriptFault, Setup, Step, read_script};
+pub use replay::{replay_over_world, replay_script, run_replay};
+pub use script::{Script, ScriptFault, Step, read_script};
 pub use script_line::{PacketForm, ScriptLine, read_script_line};
 pub use sent_packet::SentPacket;
+pub use setup::Setup;

@@ -4,17 +4,18 @@ ghost use Rattle.gate_core.specs.Legal.{Run};
 ghost use Rattle.gate_reader.specs.Sink.{SinkState, sink_state, Fails};
 ghost use Rattle.gate_pages.specs.StatusPage.{status_text_at};
 ghost use Rattle.gate_replay.specs.declared.script.Step.TheVariants as step;
-ghost use Rattle.gate_replay.specs.declared.script.Setup.{Setup};
+ghost use Rattle.gate_replay.specs.declared.setup.Setup.{Setup};
 ghost use Rattle.gate_replay.specs.ReplayState.{ReplayState, is_session};
 ghost use Rattle.gate_replay.specs.inner.Sessions.{queued_in};
-ghost use Rattle.gate_replay.specs.inner.Playing.{solo_view, Setting, setting, Shows, IsNew, IsUnderWay, IsReady, Takes, Serves, Drains, DrainsFull, DrainsPart, Plays, PlaysFull, PlaysPart, PlayedTo, PlayedFull, PlayedPart, Stays, IsEnded, FindsFull, IsWriteEnd, StopsBy};
+ghost use Rattle.gate_replay.specs.inner.Playing.{solo_view, Setting, setting, Shows, IsNew, IsReady, Plays, PlaysFull, PlaysPart, PlayedTo, PlayedFull, PlayedPart, Stays, IsEnded, IsWriteEnd, StopsBy, ServesFrom, StopsServing};
 
 use crate::fault::ReplayFault;
 use crate::printing::{print, print_answer};
-use crate::script::{Setup, Step};
+use crate::script::Step;
 use crate::sent_packet::SentPacket;
 use crate::sessions::{only_answer, serve_line, serve_packet};
-use gate_applier::Applier;
+use crate::setup::Setup;
+use gate_applier::{Applier, OpenCause, OpenFault};
 use gate_model::{Moment, Text};
 use gate_pages::{Board, status_page};
 use gate_reader::{Answer, Sink};
@@ -102,7 +103,18 @@ where
                 age,
                 queued: 0,
             }),
-            Err(_) => Err(ReplayFault::OutOfMemory),
+            Err(
+                OpenFault {
+                    cause: OpenCause::BadLimit,
+                    table: _,
+                },
+            ) => unreachable!(),
+            Err(
+                OpenFault {
+                    cause: OpenCause::OutOfMemory,
+                    table: _,
+                },
+            ) => Err(ReplayFault::OutOfMemory),
         }
     }
 
@@ -126,17 +138,14 @@ where
     ) -> Result<Player<D>, Stopped>
         requires { let state = sink_state W.contents W.pending W.failures in
             IsReady (solo_view D.after D.limits) self (state output.old) }
-        ensures served { let view = solo_view D.after D.limits in
-            let state = sink_state W.contents W.pending W.failures in
-            IfOk result (λ now. (s : Setting) (g : ReplayState)
-            → Shows view s self (state output.old) g
-            → Serves view s now (state output.new) (step.Packet sent.now) g) }
-        ensures none_failed { OnOk result (Fails (W.failures output.old) (W.failures output.new) 0) }
-        ensures stopped { let view = solo_view D.after D.limits in
-            let state = sink_state W.contents W.pending W.failures in
-            IfErr result (StopsBy (λ _. ⊥) (λ kept. (s : Setting) (g : ReplayState)
-            → Shows view s self (state output.old) g → Stays view s kept (state output.new) g)
-            (IsWriteEnd (state output.old) (state output.new))) }
+        ensures served { let state = sink_state W.contents W.pending W.failures in
+            IfOk result (λ now. ServesFrom (solo_view D.after D.limits) self (state output.old)
+            (step.Packet sent.now) now (state output.new)) }
+        ensures none_failed { OnOk result
+            (Fails (W.failures output.old) (W.failures output.new) 0) }
+        ensures stopped { let state = sink_state W.contents W.pending W.failures in
+            IfErr result (StopsServing (solo_view D.after D.limits) self (state output.old)
+            (state output.new)) }
     {
         let Player {
             queue,
@@ -166,17 +175,14 @@ where
     fn line<W: Sink>(self, alloc: Global, text: &Text, output: &mut W) -> Result<Player<D>, Stopped>
         requires { let state = sink_state W.contents W.pending W.failures in
             IsReady (solo_view D.after D.limits) self (state output.old) }
-        ensures served { let view = solo_view D.after D.limits in
-            let state = sink_state W.contents W.pending W.failures in
-            IfOk result (λ now. (s : Setting) (g : ReplayState)
-            → Shows view s self (state output.old) g
-            → Serves view s now (state output.new) (step.Line text.now) g) }
-        ensures none_failed { OnOk result (Fails (W.failures output.old) (W.failures output.new) 0) }
-        ensures stopped { let view = solo_view D.after D.limits in
-            let state = sink_state W.contents W.pending W.failures in
-            IfErr result (StopsBy (λ _. ⊥) (λ kept. (s : Setting) (g : ReplayState)
-            → Shows view s self (state output.old) g → Stays view s kept (state output.new) g)
-            (IsWriteEnd (state output.old) (state output.new))) }
+        ensures served { let state = sink_state W.contents W.pending W.failures in
+            IfOk result (λ now. ServesFrom (solo_view D.after D.limits) self (state output.old)
+            (step.Line text.now) now (state output.new)) }
+        ensures none_failed { OnOk result
+            (Fails (W.failures output.old) (W.failures output.new) 0) }
+        ensures stopped { let state = sink_state W.contents W.pending W.failures in
+            IfErr result (StopsServing (solo_view D.after D.limits) self (state output.old)
+            (state output.new)) }
     {
         let Player {
             queue,
@@ -208,17 +214,14 @@ where
 
     // The status page, at the clock's moment or the applier's, whichever is later.
     fn page<W: Sink>(self, alloc: Global, output: &mut W) -> Result<Player<D>, Stopped>
-        ensures served { let view = solo_view D.after D.limits in
-            let state = sink_state W.contents W.pending W.failures in
-            IfOk result (λ now. (s : Setting) (g : ReplayState)
-            → Shows view s self (state output.old) g
-            → Serves view s now (state output.new) step.Page g) }
-        ensures none_failed { OnOk result (Fails (W.failures output.old) (W.failures output.new) 0) }
-        ensures stopped { let view = solo_view D.after D.limits in
-            let state = sink_state W.contents W.pending W.failures in
-            IfErr result (StopsBy (λ _. ⊥) (λ kept. (s : Setting) (g : ReplayState)
-            → Shows view s self (state output.old) g → Stays view s kept (state output.new) g)
-            (IsWriteEnd (state output.old) (state output.new))) }
+        ensures served { let state = sink_state W.contents W.pending W.failures in
+            IfOk result (λ now. ServesFrom (solo_view D.after D.limits) self (state output.old)
+            step.Page now (state output.new)) }
+        ensures none_failed { OnOk result
+            (Fails (W.failures output.old) (W.failures output.new) 0) }
+        ensures stopped { let state = sink_state W.contents W.pending W.failures in
+            IfErr result (StopsServing (solo_view D.after D.limits) self (state output.old)
+            (state output.new)) }
     {
         let mut player = self;
         player.applier.advance(player.clock);
@@ -240,17 +243,14 @@ where
     ) -> Result<Player<D>, Stopped>
         requires { let state = sink_state W.contents W.pending W.failures in
             IsReady (solo_view D.after D.limits) self (state output.old) }
-        ensures served { let view = solo_view D.after D.limits in
-            let state = sink_state W.contents W.pending W.failures in
-            IfOk result (λ now. (s : Setting) (g : ReplayState)
-            → Shows view s self (state output.old) g
-            → Serves view s now (state output.new) step.now g) }
-        ensures none_failed { OnOk result (Fails (W.failures output.old) (W.failures output.new) 0) }
-        ensures stopped { let view = solo_view D.after D.limits in
-            let state = sink_state W.contents W.pending W.failures in
-            IfErr result (StopsBy (λ _. ⊥) (λ kept. (s : Setting) (g : ReplayState)
-            → Shows view s self (state output.old) g → Stays view s kept (state output.new) g)
-            (IsWriteEnd (state output.old) (state output.new))) }
+        ensures served { let state = sink_state W.contents W.pending W.failures in
+            IfOk result (λ now. ServesFrom (solo_view D.after D.limits) self (state output.old)
+            step.now now (state output.new)) }
+        ensures none_failed { OnOk result
+            (Fails (W.failures output.old) (W.failures output.new) 0) }
+        ensures stopped { let state = sink_state W.contents W.pending W.failures in
+            IfErr result (StopsServing (solo_view D.after D.limits) self (state output.old)
+            (state output.new)) }
     {
         match step {
             Step::Clock(moment) => {

@@ -1,6 +1,6 @@
 ghost use Rattle.std.specs.Prelude.{◌≡◌, ◌≤◌, [], length, IfOk, IfErr, OnOk};
 ghost use Rattle.gate_model.specs.Meaning.{outcomes_of};
-ghost use Rattle.gate_core.specs.Limits.{limits_of, default_quota};
+ghost use Rattle.gate_core.specs.Limits.{limits_of, default_quota, IsOpenFault};
 ghost use Rattle.gate_core.specs.Legal.{IsLegal};
 ghost use Rattle.gate_solo.specs.Allowed.{IsAllowed};
 ghost use Rattle.gate_pages.specs.LogPage.{log_text};
@@ -13,8 +13,10 @@ use crate::fault::{ReplayFault, read_fault};
 use crate::player::{Player, Stopped};
 use crate::printing::{deliver, print};
 use crate::script::{Script, read_script};
+use crate::setup::Setup;
 use gate_applier::Applier;
-use gate_core::{LocalClient, World};
+use gate_core::{LocalClient, OpenFault, World};
+use gate_model::DOCUMENT_BYTES;
 use gate_pages::log_page;
 use gate_queue::open;
 use gate_reader::{Sink, end_with};
@@ -23,21 +25,18 @@ use std::alloc::Global;
 use std::io::Read;
 use std::sync::Wait;
 
-/// The most bytes of a script.
-pub const SCRIPT_BYTES: u64 = 1_048_576;
-
 fn read_input<I: Read>(alloc: Global, input: &mut I) -> Result<Vec<u8>, ReplayFault>
     ensures whole { IfOk result (λ text. IsWholeInput (I.remaining input.old) text.items) }
     ensures short { IfOk result (λ text. length text.items ≤ 1048576) }
     ensures err { IfErr result (IsInputFault (I.remaining input.old)) }
 {
     let mut text = Vec::new(alloc);
-    let mut input = input.take(SCRIPT_BYTES + 1);
+    let mut input = input.take(DOCUMENT_BYTES as u64 + 1);
     match input.read_to_end(&mut text) {
         Ok(_) => {}
         Err(error) => return Err(read_fault(&error)),
     }
-    if text.len() as u64 > SCRIPT_BYTES {
+    if text.len() > DOCUMENT_BYTES {
         return Err(ReplayFault::TooLong);
     }
     Ok(text)
@@ -128,6 +127,20 @@ where
     }
 }
 
+// Why a queue of two clients can't be opened for a script, whose capacity is in its range.
+fn unopened(fault: OpenFault, setup: &Setup) -> ReplayFault
+    requires { IsOpenFault fault 2 default_quota setup.now.capacity }
+    ensures { result ≡ ReplayFault.OutOfMemory }
+{
+    let _capacity = setup.capacity;
+    match fault {
+        OpenFault::BadCount => unreachable!(),
+        OpenFault::BadCapacity => unreachable!(),
+        OpenFault::BadQuota => unreachable!(),
+        OpenFault::OutOfMemory => ReplayFault::OutOfMemory,
+    }
+}
+
 // Plays a script over a World, and prints the log.
 fn play_over_world<W: Sink>(
     alloc: Global,
@@ -137,8 +150,9 @@ fn play_over_world<W: Sink>(
     ensures { let state = sink_state W.contents W.pending W.failures in
         EndsPlaying IsLegal IsLegal script (state output.old) (state output.new) (fault_in result) }
 {
-    let Ok(world) = World::open(alloc, 2, script.setup.capacity as usize) else {
-        return Err(ReplayFault::OutOfMemory);
+    let world = match World::open(alloc, 2, script.setup.capacity as usize) {
+        Ok(world) => world,
+        Err(fault) => return Err(unopened(fault, &script.setup)),
     };
     let queue = LocalClient::new(world, 1).ok().unwrap();
     play_over(alloc, queue, script, output)
@@ -155,10 +169,11 @@ fn play_over_gate<R: Wait, W: Sink>(
         EndsPlaying IsAllowed IsAllowed script (state output.old) (state output.new)
         (fault_in result) }
 {
-    let Ok((gate, taker, closer, mut clients)) = open(alloc, 2, script.setup.capacity as usize)
-    else {
-        return Err(ReplayFault::OutOfMemory);
+    let opened = match open(alloc, 2, script.setup.capacity as usize) {
+        Ok(opened) => opened,
+        Err(fault) => return Err(unopened(fault, &script.setup)),
     };
+    let (gate, taker, closer, mut clients) = opened;
     let two = clients.pop().unwrap();
     let one = clients.pop().unwrap();
     let queue = SoloGate::new(rt, alloc, &gate, taker, closer, one, two);
@@ -179,7 +194,7 @@ fn play_over_gate<R: Wait, W: Sink>(
 /// call of `input` and WriteFault one of `output`, unless its error is out of memory. After a failed
 /// call of `output` no other is made. OutOfMemory may come instead of any other answer: then nothing
 /// was printed, or a call of `output` failed, or what the first steps print was delivered, with the
-/// log page if it can be made. Own rules.
+/// log page if it can be made; where that page stands, no item found the log full. Own rules.
 pub fn replay_script<R: Wait, I: Read, W: Sink>(
     rt: &R,
     alloc: Global,

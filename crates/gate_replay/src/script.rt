@@ -2,13 +2,14 @@ ghost use Rattle.std.specs.Prelude.{◌≡◌, [], Some, IfOk, IfErr};
 ghost use Rattle.std.specs.Option.{option_copied};
 ghost use Rattle.gate_model.specs.Table.{IsFaultless};
 ghost use Rattle.gate_packet.specs.Packet.{content, IsContent};
-ghost use Rattle.gate_replay.specs.ScriptLine.{Object, parsed_line};
-ghost use Rattle.gate_replay.specs.Script.{parsed_lines, object_of, step_of, IsStep, IsScript, IsFaultOf};
+ghost use Rattle.gate_replay.specs.ScriptLine.{Object, parsed_script_line};
+ghost use Rattle.gate_replay.specs.Script.{parsed_script_lines, object_of, step_of, IsStep, IsScript, IsFaultOf};
 ghost use Rattle.gate_replay.specs.inner.Parsing.{parsed_from, IsOpenSoFar, IsLineFault};
 
 use crate::lines::lines_of;
 use crate::script_line::{ScriptLine, read_script_line};
 use crate::sent_packet::SentPacket;
+use crate::setup::Setup;
 use gate_model::{BuildFault, Moment, ObjectLine, ObjectTable, TableFault, Text};
 use gate_packet::Packet;
 use std::alloc::{AllocError, AllocFailed, Global};
@@ -25,17 +26,6 @@ pub enum Step {
     Line(Text),
     /// The status page is asked for.
     Page,
-}
-
-/// What a script opens with: a table of objects, a moment, the greatest age of a packet in seconds,
-/// the most items of its queue and the most records of its log.
-#[derive(Drop)]
-pub struct Setup {
-    pub table: ObjectTable,
-    pub moment: Moment,
-    pub age: u32,
-    pub capacity: u32,
-    pub limit: u32,
 }
 
 /// A script in which nothing is faulty.
@@ -187,9 +177,9 @@ fn packet(
 
 // The step of the line of this number, which stands after the line that opens.
 fn read_step(alloc: Global, number: usize, line: &[u8]) -> Result<Step, ScriptFault>
-    ensures step { IfOk result (λ step. step_of (parsed_line line.now) ≡ Some step) }
-    ensures good { IfOk result (λ _. IsStep (parsed_line line.now)) }
-    ensures faulty { IfErr result (IsLineFault number (¬ IsStep (parsed_line line.now))) }
+    ensures step { IfOk result (λ step. step_of (parsed_script_line line.now) ≡ Some step) }
+    ensures good { IfOk result (λ _. IsStep (parsed_script_line line.now)) }
+    ensures faulty { IfErr result (IsLineFault number (¬ IsStep (parsed_script_line line.now))) }
 {
     match read_script_line(line) {
         Some(ScriptLine::Clock { moment }) => Ok(Step::Clock(moment)),
@@ -240,8 +230,8 @@ fn read_steps(
 /// of the line that opens, its packet can't be sent in its form, or it opens with a faulty table. OutOfMemory
 /// may come instead of any other answer. Own rules.
 pub fn read_script(alloc: Global, text: &[u8]) -> Result<Script, ScriptFault>
-    ensures script { IfOk result (IsScript (parsed_lines text.now)) }
-    ensures first_faulty { IfErr result (IsFaultOf (parsed_lines text.now)) }
+    ensures script { IfOk result (IsScript (parsed_script_lines text.now)) }
+    ensures first_faulty { IfErr result (IsFaultOf (parsed_script_lines text.now)) }
 {
     let lines = lines_of(alloc, text)?;
     let (setup, opened) = read_setup(alloc, &lines)?;

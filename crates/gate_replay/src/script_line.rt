@@ -1,15 +1,9 @@
 ghost use Rattle.std.specs.Prelude.{◌≡◌, ◌<◌, ◌==◌, length, position, IfSome};
 ghost use Rattle.std.specs.Option.{option_map};
-ghost use Rattle.gate_replay.specs.ScriptLine.{cut, number_field, code_field, value_of, parsed_object, parsed_open, parsed_clock, parsed_packet, parsed_form, parsed_with_word, parsed_line};
+ghost use Rattle.gate_replay.specs.ScriptLine.{cut, number_field, code_field, value_of, parsed_object, parsed_open, parsed_clock, parsed_packet, parsed_form, parsed_with_word, parsed_script_line, IsInRange};
 
-use gate_applier::MOST_RECORDS;
 use gate_grammar::{read_code, read_number};
-use gate_model::Moment;
-
-/// The greatest age that a script may open with, in seconds.
-pub const GREATEST_AGE: u32 = 900;
-/// The most items that a script may ask a queue to hold.
-pub const MOST_CAPACITY: u32 = 65_536;
+use gate_model::{GREATEST_AGE, MOST_CAPACITY, MOST_RECORDS, Moment};
 
 /// The form in which a packet is sent: `data_packet` of NSCA 2.7 or 2.9, `common.h`.
 #[derive(Clone, Copy, Debug, PartialEq, Eq)]
@@ -96,7 +90,8 @@ fn code_field(text: &[u8]) -> Option<(i16, &[u8])>
 
 #[tactic(auto, unfolding(crate::specs::ScriptLine::parsed_object))]
 fn read_object(text: &[u8]) -> Option<ScriptLine<'_>>
-    ensures { option_map value_of result ≡ parsed_object text.now }
+    ensures value { option_map value_of result ≡ parsed_object text.now }
+    ensures in_range { IfSome result IsInRange }
 {
     let (threshold, names) = number_field(text)?;
     let (host, service) = match cut(names) {
@@ -112,7 +107,8 @@ fn read_object(text: &[u8]) -> Option<ScriptLine<'_>>
 
 #[tactic(auto, unfolding(crate::specs::ScriptLine::parsed_open))]
 fn read_open(text: &[u8]) -> Option<ScriptLine<'static>>
-    ensures { option_map value_of result ≡ parsed_open text.now }
+    ensures value { option_map value_of result ≡ parsed_open text.now }
+    ensures in_range { IfSome result IsInRange }
 {
     let (moment, rest) = number_field(text)?;
     let (age, rest) = number_field(rest)?;
@@ -134,7 +130,8 @@ fn read_open(text: &[u8]) -> Option<ScriptLine<'static>>
 
 #[tactic(auto, unfolding(crate::specs::ScriptLine::parsed_clock))]
 fn read_clock(text: &[u8]) -> Option<ScriptLine<'static>>
-    ensures { option_map value_of result ≡ parsed_clock text.now }
+    ensures value { option_map value_of result ≡ parsed_clock text.now }
+    ensures in_range { IfSome result IsInRange }
 {
     let moment = read_number(text)?;
     Some(ScriptLine::Clock {
@@ -144,7 +141,8 @@ fn read_clock(text: &[u8]) -> Option<ScriptLine<'static>>
 
 #[tactic(auto, unfolding(crate::specs::ScriptLine::parsed_packet))]
 fn read_packet(form: PacketForm, text: &[u8]) -> Option<ScriptLine<'_>>
-    ensures { option_map value_of result ≡ parsed_packet form text.now }
+    ensures value { option_map value_of result ≡ parsed_packet form text.now }
+    ensures in_range { IfSome result IsInRange }
 {
     let (timestamp, rest) = number_field(text)?;
     let (code, rest) = code_field(rest)?;
@@ -162,7 +160,8 @@ fn read_packet(form: PacketForm, text: &[u8]) -> Option<ScriptLine<'_>>
 
 #[tactic(auto, unfolding(crate::specs::ScriptLine::parsed_form))]
 fn read_form<'a>(word: &[u8], text: &'a [u8]) -> Option<ScriptLine<'a>>
-    ensures { option_map value_of result ≡ parsed_form word.now text.now }
+    ensures value { option_map value_of result ≡ parsed_form word.now text.now }
+    ensures in_range { IfSome result IsInRange }
 {
     if word == b"object".as_slice() {
         read_object(text)
@@ -183,7 +182,8 @@ fn read_form<'a>(word: &[u8], text: &'a [u8]) -> Option<ScriptLine<'a>>
 
 #[tactic(auto, unfolding(crate::specs::ScriptLine::parsed_with_word))]
 fn read_with_word(line: &[u8]) -> Option<ScriptLine<'_>>
-    ensures { option_map value_of result ≡ parsed_with_word line.now }
+    ensures value { option_map value_of result ≡ parsed_with_word line.now }
+    ensures in_range { IfSome result IsInRange }
 {
     let (word, text) = cut(line)?;
     read_form(word, text)
@@ -193,9 +193,10 @@ fn read_with_word(line: &[u8]) -> Option<ScriptLine<'_>>
 ///
 /// It is None where the line has another form, or a number out of range: an age above 900 seconds,
 /// a capacity of 0 or above 65,536, a limit of 0 or above 1,000,000. Own rules.
-#[tactic(auto, unfolding(crate::specs::ScriptLine::parsed_line))]
+#[tactic(auto, unfolding(crate::specs::ScriptLine::parsed_script_line))]
 pub fn read_script_line(line: &[u8]) -> Option<ScriptLine<'_>>
-    ensures { option_map value_of result ≡ parsed_line line.now }
+    ensures value { option_map value_of result ≡ parsed_script_line line.now }
+    ensures in_range { IfSome result IsInRange }
 {
     if line == b"page".as_slice() {
         Some(ScriptLine::Page)

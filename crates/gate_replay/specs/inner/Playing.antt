@@ -19,7 +19,7 @@ use Rattle.gate_replay.specs.declared.player.Player.{Player}
 use Rattle.gate_replay.specs.declared.player.Stopped.{Stopped}
 use Rattle.gate_replay.specs.declared.player.Stopped.TheVariants as stopped
 use Rattle.gate_replay.specs.declared.script.Step.{Step}
-use Rattle.gate_replay.specs.declared.script.Setup.{Setup}
+use Rattle.gate_replay.specs.declared.setup.Setup.{Setup}
 use Rattle.gate_replay.specs.declared.script.Script.{Script}
 use Rattle.gate_replay.specs.ReplayState.{ReplayState, Heard, number_queued, serves, drains, plays, state_after, steps_of, Finishes, IsWholeStep, IsWhole, IsPlayed, BeginsDrain, IsBegunStep, IsWholeSoFar, IsPlayedSoFar}
 use Rattle.gate_replay.specs.Replay.{IsTooLong, printed_by, PrintsSoFar}
@@ -78,7 +78,8 @@ pub record ShowsRecords (setup : Setup) (applier : ApplierView) (g : ReplayState
   pub records : applier.records ≡ g.records
 
 -- the player has come to this state of the gateway, and its output to this
-pub record Shows {D : Type 0} (view : SoloView D) (s : Setting) (player : Player D) (output : SinkState) (g : ReplayState) : Type 0 where
+pub record Shows {D : Type 0} (view : SoloView D) (s : Setting) (player : Player D) (output : SinkState)
+    (g : ReplayState) : Type 0 where
   pub holds : HoldsRun view s.setup player.queue g.run
   pub applier : ShowsRecords s.setup player.applier g
   pub moment : player.applier.moment ≡ g.moment
@@ -89,10 +90,12 @@ pub record Shows {D : Type 0} (view : SoloView D) (s : Setting) (player : Player
   pub running : g.full ≡ false
 
 -- the gateway has come to this state, as some queue, this applier and the output show
-pub record Stays {D : Type 0} (view : SoloView D) (s : Setting) (applier : ApplierView) (output : SinkState) (g : ReplayState) : Type 0 where
+pub record Stays {D : Type 0} (view : SoloView D) (s : Setting) (applier : ApplierView) (output : SinkState)
+    (g : ReplayState) : Type 0 where
   pub stood : IsShown view (limits_of 2 default_quota s.setup.capacity) g.run
   pub shown : ShowsRecords s.setup applier g
   pub printed : Writes s.base output g.printed
+  pub room : g.full ≡ true → length g.records < s.setup.limit
 
 -- a player that has done nothing yet
 pub record IsNew {D : Type 0} (view : SoloView D) (setup : Setup) (player : Player D) : Type 0 where
@@ -103,7 +106,8 @@ pub record IsNew {D : Type 0} (view : SoloView D) (setup : Setup) (player : Play
   pub queued : player.queued ≡ 0
 
 -- a player found the log full, and ended its queue
-pub record FindsFull {D E : Type 0} (view : SoloView D) (ended : SoloView E) (player : Player D) (kept : ApplierView) : Type 0 where
+pub record FindsFull {D E : Type 0} (view : SoloView D) (ended : SoloView E) (player : Player D) (kept : ApplierView)
+    : Type 0 where
   pub applier : kept ≡ player.applier
   pub full : length player.applier.records ≡ player.applier.limit
   pub is_ended : IsEnded view ended player.queue
@@ -111,7 +115,8 @@ pub record FindsFull {D E : Type 0} (view : SoloView D) (ended : SoloView E) (pl
 -- a player took an item and recorded it
 pub record TakesItem {D : Type 0} (view : SoloView D) (was now : Player D) (item : Numbered) : Type 0 where
   pub taken : Extends view was.queue Take (Taken item) now.queue
-  pub records : now.applier.records ≡ was.applier.records ++ record { moment = later was.applier.moment was.clock; item = item } ∷ []
+  pub records : now.applier.records
+      ≡ was.applier.records ++ record { moment = later was.applier.moment was.clock; item = item } ∷ []
   pub moment : now.applier.moment ≡ later was.applier.moment was.clock
 
 -- a player took nothing
@@ -146,69 +151,81 @@ pub record IsReady {D : Type 0} (view : SoloView D) (player : Player D) (output 
 -- ---- what a step did
 
 -- the step was served, without its drain
-pub record Serves {D : Type 0} (view : SoloView D) (s : Setting) (player : Player D) (output : SinkState) (step : Step) (g : ReplayState) : Type 0 where
+pub record Serves {D : Type 0} (view : SoloView D) (s : Setting) (player : Player D) (output : SinkState)
+    (step : Step) (g : ReplayState) : Type 0 where
   pub heard : Heard
-  pub shows : (takes : List (Option Numbered)) → Shows view s player output (serves s.setup step (record heard { takes = takes }) g)
+  pub shows : (takes : List (Option Numbered))
+      → Shows view s player output (serves s.setup step (record heard { takes = takes }) g)
 
 -- a drain from this state came to an end
-pub record Drains {D : Type 0} (view : SoloView D) (s : Setting) (player : Player D) (output : SinkState) (g : ReplayState) : Type 0 where
+pub record Drains {D : Type 0} (view : SoloView D) (s : Setting) (player : Player D) (output : SinkState)
+    (g : ReplayState) : Type 0 where
   pub takes : List (Option Numbered)
   pub finishes : Finishes s.setup.limit takes g
   pub shows : Shows view s player output (drains takes g)
 
 -- the log was full with an item left, and the queue has ended
-pub record Ends {E : Type 0} (ended : SoloView E) (s : Setting) (applier : ApplierView) (output : SinkState) (g : ReplayState) : Type 0 where
+pub record Ends {E : Type 0} (ended : SoloView E) (s : Setting) (applier : ApplierView) (output : SinkState)
+    (g : ReplayState) : Type 0 where
   pub kept : IsShown ended (limits_of 2 default_quota s.setup.capacity) (with_ends g.run)
   pub shown : ShowsRecords s.setup applier g
   pub printed : Writes s.base output g.printed
   pub full : g.full ≡ true
 
 -- a drain from this state met a full log with an item left
-pub record DrainsFull {E : Type 0} (ended : SoloView E) (s : Setting) (applier : ApplierView) (output : SinkState) (g : ReplayState) : Type 0 where
+pub record DrainsFull {E : Type 0} (ended : SoloView E) (s : Setting) (applier : ApplierView) (output : SinkState)
+    (g : ReplayState) : Type 0 where
   pub takes : List (Option Numbered)
   pub finishes : Finishes s.setup.limit takes g
   pub ends : Ends ended s applier output (drains takes g)
 
 -- memory ran out amid a drain from this state
-pub record DrainsPart {D : Type 0} (view : SoloView D) (s : Setting) (applier : ApplierView) (output : SinkState) (g : ReplayState) : Type 0 where
+pub record DrainsPart {D : Type 0} (view : SoloView D) (s : Setting) (applier : ApplierView) (output : SinkState)
+    (g : ReplayState) : Type 0 where
   pub takes : List (Option Numbered)
   pub begins : BeginsDrain s.setup.limit takes g
   pub stays : Stays view s applier output (drains takes g)
 
 -- the step was played
-pub record Plays {D : Type 0} (view : SoloView D) (s : Setting) (player : Player D) (output : SinkState) (step : Step) (g : ReplayState) : Type 0 where
+pub record Plays {D : Type 0} (view : SoloView D) (s : Setting) (player : Player D) (output : SinkState)
+    (step : Step) (g : ReplayState) : Type 0 where
   pub heard : Heard
   pub whole : IsWholeStep s.setup step heard g
   pub shows : Shows view s player output (plays s.setup step heard g)
 
 -- the step was played, and the log was full with an item left
-pub record PlaysFull {E : Type 0} (ended : SoloView E) (s : Setting) (applier : ApplierView) (output : SinkState) (step : Step) (g : ReplayState) : Type 0 where
+pub record PlaysFull {E : Type 0} (ended : SoloView E) (s : Setting) (applier : ApplierView) (output : SinkState)
+    (step : Step) (g : ReplayState) : Type 0 where
   pub heard : Heard
   pub whole : IsWholeStep s.setup step heard g
   pub ends : Ends ended s applier output (plays s.setup step heard g)
 
 -- memory ran out amid the drain of the step
-pub record PlaysPart {D : Type 0} (view : SoloView D) (s : Setting) (applier : ApplierView) (output : SinkState) (step : Step) (g : ReplayState) : Type 0 where
+pub record PlaysPart {D : Type 0} (view : SoloView D) (s : Setting) (applier : ApplierView) (output : SinkState)
+    (step : Step) (g : ReplayState) : Type 0 where
   pub heard : Heard
   pub begins : IsBegunStep s.setup step heard g
   pub stays : Stays view s applier output (plays s.setup step heard g)
 
 -- the steps so far were played
-pub record PlayedTo {D : Type 0} (view : SoloView D) (s : Setting) (steps : List Step) (player : Player D) (output : SinkState) : Type 0 where
+pub record PlayedTo {D : Type 0} (view : SoloView D) (s : Setting) (steps : List Step) (player : Player D)
+    (output : SinkState) : Type 0 where
   pub done : List (Step × Heard)
   pub steps_are : steps_of done ≡ reverse steps
   pub whole : IsWhole s.setup done
   pub shows : Shows view s player output (state_after s.setup done)
 
 -- the steps were played, and at one of them the log was full with an item left
-pub record PlayedFull {E : Type 0} (ended : SoloView E) (s : Setting) (steps : List Step) (applier : ApplierView) (output : SinkState) : Type 0 where
+pub record PlayedFull {E : Type 0} (ended : SoloView E) (s : Setting) (steps : List Step) (applier : ApplierView)
+    (output : SinkState) : Type 0 where
   pub done : List (Step × Heard)
   pub steps_are : steps_of done ≡ reverse steps
   pub whole : IsWhole s.setup done
   pub ends : Ends ended s applier output (state_after s.setup done)
 
 -- the first steps were played, and then memory ran out
-pub record PlayedPart {D : Type 0} (view : SoloView D) (s : Setting) (steps : List Step) (applier : ApplierView) (output : SinkState) : Type 0 where
+pub record PlayedPart {D : Type 0} (view : SoloView D) (s : Setting) (steps : List Step) (applier : ApplierView)
+    (output : SinkState) : Type 0 where
   pub front : List Step
   pub front_begins : IsPrefix front steps
   pub done : List (Step × Heard)
@@ -243,8 +260,42 @@ StopsBy P Q R (stopped.Full applier) = P applier
 StopsBy P Q R (stopped.OutOfMemory applier) = Q applier
 StopsBy P Q R (stopped.Unwritten fault) = R fault
 
+-- the player, from whatever state of the gateway it had come to, served the step without its drain
+abbrev pub ServesFrom : {D : Type 0} → SoloView D → Player D → SinkState → Step → Player D → SinkState → Type 0
+ServesFrom view was before step now after =
+    (s : Setting) (g : ReplayState) → Shows view s was before g → Serves view s now after step g
+
+-- the player stopped before the step was printed, and no item found the log full: memory ran out, or a write failed
+abbrev pub StopsServing : {D : Type 0} → SoloView D → Player D → SinkState → SinkState → Stopped → Type 0
+StopsServing view was before after = StopsBy (λ _. ⊥)
+    (λ kept. (s : Setting) (g : ReplayState) → Shows view s was before g → Stays view s kept after g)
+    (IsWriteEnd before after)
+
+-- an applier had no room for a record: its log is full, or memory ran out while it is not
+abbrev pub StopsPreparing : ApplierView → Stopped → Type 0
+StopsPreparing applier = StopsBy
+    (λ kept. (kept ≡ applier) × (length applier.records ≡ applier.limit))
+    (λ kept. (kept ≡ applier) × (length applier.records ≢ applier.limit))
+    (λ _. ⊥)
+
+-- the player found the log full, and ended its queue; or memory ran out while the log is not full
+abbrev pub StopsTaking : {D E : Type 0} → SoloView D → SoloView E → Player D → Stopped → Type 0
+StopsTaking view ended player = StopsBy (FindsFull view ended player)
+    (λ kept. (kept ≡ player.applier) × (length player.applier.records ≢ player.applier.limit))
+    (λ _. ⊥)
+
+-- the drain stopped: the log was full with an item left, or memory ran out amid it
+abbrev pub StopsDraining : {D E : Type 0} → SoloView D → SoloView E → Player D → Stopped → Type 0
+StopsDraining view ended was = StopsBy
+    (λ kept. (s : Setting) (output : SinkState) (g : ReplayState) → Shows view s was output g
+    → DrainsFull ended s kept output g)
+    (λ kept. (s : Setting) (output : SinkState) (g : ReplayState) → Shows view s was output g
+    → DrainsPart view s kept output g)
+    (λ _. ⊥)
+
 -- a script was played, to a full log or to its end, and what it prints was delivered
-pub record IsPrinted (rules : Limits → Run → Type 0) (script : Script) (before after : SinkState) (full : Bool) : Type 0 where
+pub record IsPrinted (rules : Limits → Run → Type 0) (script : Script) (before after : SinkState) (full : Bool)
+    : Type 0 where
   pub replayed : ReplayState
   pub played : IsPlayed rules script replayed
   pub full_is : replayed.full ≡ full
@@ -257,7 +308,8 @@ pub record IsPrintedSoFar (rules : Limits → Run → Type 0) (script : Script) 
   pub printed : PrintsSoFar script replayed before after
 
 -- a script was played to its end, or to this fault. The second rules are those of a queue before its end
-abbrev pub EndsPlaying : (rules so_far : Limits → Run → Type 0) → Script → SinkState → SinkState → Option ReplayFault → Type 0
+abbrev pub EndsPlaying : (rules so_far : Limits → Run → Type 0) → Script → SinkState → SinkState → Option ReplayFault
+    → Type 0
 EndsPlaying rules so_far script before after None = IsPrinted rules script before after false
 EndsPlaying rules so_far script before after (Some TooLong) = ⊥
 EndsPlaying rules so_far script before after (Some (Line number)) = ⊥

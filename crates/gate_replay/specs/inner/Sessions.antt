@@ -20,7 +20,7 @@ use Rattle.gate_reader.specs.Report.{answer_to, answer_line}
 use Rattle.gate_reader.specs.Session.{ClientView, Submits}
 use Rattle.gate_reader.specs.Lines.{OperatorView, Closes, first_close}
 use Rattle.gate_replay.specs.declared.script.Step.{Step}
-use Rattle.gate_replay.specs.declared.script.Setup.{Setup}
+use Rattle.gate_replay.specs.declared.setup.Setup.{Setup}
 use Rattle.gate_replay.specs.ReplayState.{ReplayState, Heard, prints, asks, is_shutdown, number_queued, serves}
 use Rattle.gate_replay.specs.inner.Playing.{SoloView, HoldsRun}
 
@@ -72,10 +72,12 @@ queued_in (Queued number) = 1
 queued_in _ = 0
 
 -- a step is a session that asks this queue so much and prints this answer
-pub record Answers {D : Type 0} (view : SoloView D) (setup : Setup) (queue : D) (step : Step) (answer : Answer) (g : ReplayState) : Type 0 where
+pub record Answers {D : Type 0} (view : SoloView D) (setup : Setup) (queue : D) (step : Step) (answer : Answer)
+    (g : ReplayState) : Type 0 where
   pub heard : Heard
   pub pairs : Run
-  pub does : (takes : List (Option Numbered)) → serves setup step (record heard { takes = takes }) g ≡ prints (answer_line answer) (asks pairs g)
+  pub does : (takes : List (Option Numbered))
+      → serves setup step (record heard { takes = takes }) g ≡ prints (answer_line answer) (asks pairs g)
   pub holds : HoldsRun view setup queue (pairs ++ g.run)
   pub counted : number_queued (pairs ++ g.run) ≡ number_queued g.run + queued_in answer
 

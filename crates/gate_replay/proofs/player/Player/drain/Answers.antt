@@ -11,7 +11,7 @@ returns-clause-drained g c = drains_none (solo_view g.D.SoloQueue.after g.D.Solo
 
 pub returns-in-Err-clause-stopped : goal.returns-in-Err-clause-stopped
 returns-in-Err-clause-stopped g c =
-    drain_stopped (solo_view g.D.SoloQueue.after g.D.SoloQueue.limits) (solo_view g.D.Ended.EndedQueue.after g.D.Ended.EndedQueue.limits) c.args.self c.loop-player.player c.in-Err.stop (omega (arith, ap length c.records.ensures.records)) c.loop-player.invariant c.in-Err.ensures.stopped
+    drain_stopped (solo_view g.D.SoloQueue.after g.D.SoloQueue.limits) (solo_view g.D.Ended.EndedQueue.after g.D.Ended.EndedQueue.limits) c.args.self c.loop-player.player c.in-Err.stop (omega (arith, ap length c.records.ensures.records)) c.records.ensures.few c.loop-player.invariant c.in-Err.ensures.stopped
 
 pub returns-then-not-turn-clause-drained : goal.returns-then-not-turn-clause-drained
 returns-then-not-turn-clause-drained g c =

@@ -1,6 +1,6 @@
 use Rattle.std.proofs.Common.{take}
 use Rattle.gate_reader.specs.Sink.{sink_state}
-use Rattle.gate_replay.specs.declared.script.Setup.{Setup}
+use Rattle.gate_replay.specs.declared.setup.Setup.{Setup}
 use Rattle.gate_replay.specs.inner.Playing.{solo_view, setting, IsNew, PlayedTo}
 use Rattle.gate_replay.proofs.player.Player.play.Given as goal
 
