@@ -1,0 +1,268 @@
+"""Plays senders of three addresses against three gateways after HAProxy:
+python3 haproxy_test.py PROGRAM HELPERS CONFIGURATION. Ends with a line 'N passed, M failed'."""
+import os
+import re
+import shutil
+import socket
+import subprocess
+import sys
+import tempfile
+import threading
+import time
+
+from daemon_clients import TIME_LIMIT, Daemon, ask, check, end_tests, packet, read_exactly
+
+SOURCES = {"A": "127.0.0.2", "B": "127.0.0.3", "C": "127.0.0.4"}
+CONFIGURATION = """\
+agents = "127.0.0.1:{agents}"
+operators = "127.0.0.1:{operators}"
+pages = "127.0.0.1:{pages}"
+workers = 2
+[[host]]
+name = "web1"
+""" + "".join(f'[[host.service]]\nname = "{service}"\n' for service in SOURCES)
+
+
+def free_ports(count):
+    probes = [socket.create_server(("127.0.0.1", 0)) for _ in range(count)]
+    ports = [probe.getsockname()[1] for probe in probes]
+    for probe in probes:
+        probe.close()
+    return ports
+
+
+class Gateway:
+    """A gateway with a folder and ports that stay, and the log pages of its runs that have ended."""
+
+    def __init__(self, program, folder, name):
+        self.program = program
+        self.folder = os.path.join(folder, name)
+        os.mkdir(self.folder)
+        self.name = name
+        agents, operators, pages = free_ports(3)
+        self.configuration = CONFIGURATION.format(agents=agents, operators=operators, pages=pages)
+        self.agents, self.pages = agents, pages
+        self.logs = []
+        self.start()
+
+    def start(self):
+        self.daemon = Daemon(self.program, self.folder, self.configuration)
+
+    def take_log(self):
+        status, output, _ = self.daemon.end()
+        check(f"the status of {self.name}", status, 0)
+        self.logs.append(output)
+
+    def logged(self):
+        """How often each result is in the logs, by its service and output."""
+        found = {}
+        line = r" PROCESS_SERVICE_CHECK_RESULT;web1;(\w);0;(\d+) -> Accepted$"
+        for service, output in re.findall(line, "".join(self.logs), re.MULTILINE):
+            found[service, output] = found.get((service, output), 0) + 1
+        return found
+
+
+class Sender(threading.Thread):
+    """Sends result after result of one service from one address by the real client, until it is stopped."""
+
+    def __init__(self, folder, port, service, source):
+        super().__init__(daemon=True)
+        configuration = os.path.join(folder, "send_nsca.cfg")
+        self.words = [shutil.which("send_nsca"), "-H", "127.0.0.1", "-p", str(port), "-c", configuration]
+        library = os.path.join(folder, "source_address.so")
+        self.environment = {**os.environ, "LD_PRELOAD": library, "SOURCE_ADDRESS": source}
+        self.service = service
+        self.sent = []  # the outputs with status 0
+        self.unsent = 0
+        self.is_stopped = False
+
+    def send(self, output):
+        ran = subprocess.run(self.words, input=f"web1\t{self.service}\t0\t{output}\n", env=self.environment,
+                             capture_output=True, text=True, timeout=TIME_LIMIT, check=False)
+        if ran.returncode == 0:
+            self.sent.append(str(output))
+        else:
+            self.unsent += 1
+
+    def run(self):
+        number = 0
+        while not self.is_stopped:
+            number += 1
+            self.send(number)
+            time.sleep(0.02)
+
+
+def balancer_files(folder, example, gateways):
+    """The example's configuration, with the addresses of these gateways and a free port."""
+    with open(example, encoding="ascii") as file:
+        text = file.read()
+    port = free_ports(1)[0]
+    text, count = re.subn(r"bind :5667", f"bind 127.0.0.1:{port}", text)
+    check("the example's frontend", count, 1)
+    for number, gateway in enumerate(gateways, 1):
+        text, count = re.subn(rf"server gw{number} 10\.0\.0\.{number}:5667 check port 5669",
+                              f"server gw{number} 127.0.0.1:{gateway.agents} check port {gateway.pages}", text)
+        check(f"the example's server {number}", count, 1)
+    path = os.path.join(folder, "haproxy.cfg")
+    admin = os.path.join(folder, "admin.sock")
+    with open(path, "w", encoding="ascii") as file:
+        file.write(text.replace("/run/haproxy/nscagate.sock", admin))
+    return path, admin, port
+
+
+def command(admin, line):
+    """What HAProxy answers on its admin socket."""
+    with socket.socket(socket.AF_UNIX) as connection:
+        connection.settimeout(TIME_LIMIT)
+        connection.connect(admin)
+        connection.sendall(line.encode() + b"\n")
+        answer = b""
+        while piece := connection.recv(65536):
+            answer += piece
+        return answer.decode()
+
+
+def states(admin):
+    """The state of each server, as HAProxy names it."""
+    rows = [line.split(",") for line in command(admin, "show stat").splitlines() if line.startswith("gateways,gw")]
+    return {row[1]: row[17] for row in rows}
+
+
+def wait_for(what, test):
+    end = time.monotonic() + TIME_LIMIT
+    while not test() and time.monotonic() < end:
+        time.sleep(0.05)
+    check(what, test(), True)
+
+
+def serving(gateways, service):
+    """The gateways whose pages have a result of this service."""
+    line = re.compile(rf"^object;web1;{service};OK;", re.MULTILINE)
+    return [gateway for gateway in gateways if line.search(gateway.daemon.page())]
+
+
+def helper(helpers, name, gateway, *words):
+    path = os.path.join(gateway.folder, "gateway.toml")
+    return subprocess.run([os.path.join(helpers, name), "--config", path, *words], capture_output=True, text=True,
+                          timeout=60, check=False)
+
+
+def play(program, helpers, example, folder):
+    gateways = [Gateway(program, folder, f"gw{number}") for number in (1, 2, 3)]
+    path, admin, port = balancer_files(folder, example, gateways)
+    checked = subprocess.run(["haproxy", "-c", "-q", "-f", path], capture_output=True, text=True, check=False)
+    check("HAProxy takes its file", (checked.returncode, checked.stdout + checked.stderr), (0, ""))
+    with open(os.path.join(folder, "send_nsca.cfg"), "w", encoding="ascii") as file:
+        file.write("encryption_method=0\n")
+    library = os.path.join(folder, "source_address.so")
+    subprocess.run(["cc", "-shared", "-fPIC", "-o", library, "scenarios/source_address.c", "-ldl"], check=True)
+    balancer = subprocess.Popen(["haproxy", "-db", "-f", path], stdout=subprocess.DEVNULL, stderr=subprocess.DEVNULL)
+    try:
+        wait_for("HAProxy runs", lambda: os.path.exists(admin) and set(states(admin).values()) == {"UP"})
+        play_senders(helpers, folder, gateways, admin, port)
+    finally:
+        balancer.kill()
+        balancer.wait()
+
+
+def play_senders(helpers, folder, gateways, admin, port):
+    senders = [Sender(folder, port, service, source) for service, source in SOURCES.items()]
+    for sender in senders:
+        sender.start()
+    for service in SOURCES:
+        wait_for(f"results of {service} are shown", lambda: len(serving(gateways, service)) > 0)
+    time.sleep(1.0)
+    for service in SOURCES:
+        check(f"{service} keeps to one gateway", len(serving(gateways, service)), 1)
+    first = serving(gateways, "A")[0]
+    others = [gateway for gateway in gateways if gateway is not first]
+    restart(helpers, first, others, admin, port)
+    check("no sender has failed", [sender.unsent for sender in senders], [0, 0, 0])
+    second = serving(others, "A")[0]
+    end_without_a_word(second, admin)
+    for sender in senders:
+        sender.is_stopped = True
+        sender.join(TIME_LIMIT)
+    for gateway in gateways:
+        if gateway is not second:
+            wait_for(f"the connections of {gateway.name} end", lambda: sessions(admin, gateway.name) == 0)
+            check(f"{gateway.name} is shut down", ask(gateway.daemon, "[1] SHUTDOWN_PROGRAM"), ["closing"])
+            gateway.take_log()
+    count_results(senders, gateways, first, second)
+
+
+def restart(helpers, first, others, admin, port):
+    """A rolling restart: the gateway is taken out first, and serves to their end the connections that it has."""
+    ask(first.daemon, "[1] ADD_HOST_COMMENT;web1;1;ann;stays")
+    with socket.create_connection(("127.0.0.1", port), TIME_LIMIT, (SOURCES["A"], 0)) as late:
+        late.settimeout(TIME_LIMIT)
+        check("an agent is greeted", len(read_exactly(late, 132)), 132)
+        check("a gateway is taken out", command(admin, f"set server gateways/{first.name} state maint").strip(), "")
+        wait_for("it is out", lambda: states(admin)[first.name] == "MAINT")
+        late.sendall(packet(int(time.time()), b"web1", b"", 0, b"on its way"))
+    wait_for("its connections end", lambda: sessions(admin, first.name) == 0)
+    kept = os.path.join(first.folder, "page")
+    stopped = helper(helpers, "nscagate-stop", first, kept)
+    check("it is stopped", (stopped.returncode, stopped.stderr), (0, ""))
+    first.take_log()
+    logged = "PROCESS_HOST_CHECK_RESULT;web1;0;on its way -> Accepted" in first.logs[0]
+    check("the packet that was on its way is there", logged, True)
+    wait_for("another gateway takes over", lambda: len(serving(others, "A")) == 1)
+    first.start()
+    restored = helper(helpers, "nscagate-restore", first, kept)
+    check("it is brought about again", (restored.returncode, restored.stderr), (0, ""))
+    check("its comment is there", ";user;1;" in first.daemon.page(), True)
+    command(admin, f"set server gateways/{first.name} state ready")
+    wait_for("it serves again", lambda: states(admin)[first.name] == "UP")
+
+
+def end_without_a_word(second, admin):
+    """A gateway that was not taken out ends: a packet of each of its senders may be on its way, since none is answered."""
+    check("a second gateway is shut down", ask(second.daemon, "[1] SHUTDOWN_PROGRAM"), ["closing"])
+    second.take_log()
+    wait_for("HAProxy notices", lambda: states(admin)[second.name] == "DOWN")
+
+
+def count_results(senders, gateways, first, second):
+    """Each result that its sender called sent is in one log, once; but of each sender of the gateway that ended
+    without a word at most one is in none: that between its last one there and its first one elsewhere."""
+    logs = {gateway.name: gateway.logged() for gateway in gateways}
+    total = lost = 0
+    for sender in senders:
+        found = []
+        for output in sender.sent:
+            names = [name for name, log in logs.items() for _ in range(log.get((sender.service, output), 0))]
+            if restored_in(first, sender.service, output):
+                names.remove(first.name)
+            found.append(names)
+        check(f"{sender.service} has sent much", len(found) > 50, True)
+        before = max((place for place, names in enumerate(found) if names == [second.name]), default=None)
+        gaps = [place for place, names in enumerate(found) if len(names) != 1]
+        check(f"results of {sender.service} that are not in one log, once", gaps,
+              gaps if before is not None and gaps == [before + 1] and not found[before + 1] else [])
+        total += len(found)
+        lost += len(gaps)
+    unsent = sum(sender.unsent for sender in senders)
+    print(f"{total} results were called sent; {lost} of them were on their way to the gateway that was shut down "
+          f"without a word, where {unsent} more were called unsent")
+
+
+def restored_in(gateway, service, output):
+    """Whether nscagate-restore brought this result to a gateway: by its last client, the operator."""
+    line = rf" 3:\d+ PROCESS_SERVICE_CHECK_RESULT;web1;{service};0;{output} -> Accepted$"
+    return re.search(line, gateway.logs[-1], re.MULTILINE) is not None
+
+
+def sessions(admin, name):
+    row = next(line for line in command(admin, "show stat").splitlines() if line.startswith(f"gateways,{name},"))
+    return int(row.split(",")[4])
+
+
+def main():
+    program, helpers, example = (os.path.abspath(word) for word in sys.argv[1:4])
+    with tempfile.TemporaryDirectory() as folder:
+        play(program, helpers, example, folder)
+    end_tests()
+
+
+main()
