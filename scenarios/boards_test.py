@@ -11,7 +11,7 @@ import threading
 import time
 import traceback
 
-from daemon_clients import CONFIGURATION, PATIENCE, Daemon, ask, check, end_tests, packet, read_exactly
+from daemon_clients import CONFIGURATION, TIME_LIMIT, Daemon, ask, check, end_tests, packet, read_exactly
 
 
 def send(daemon, output):
@@ -110,7 +110,7 @@ def play_few_descriptors(program, folder):
 
 def page_goes_on(daemon, mark):
     """Whether the page of a daemon goes on, one of whose requests for memory is refused: the file `mark` says that it was."""
-    deadline = time.monotonic() + PATIENCE
+    deadline = time.monotonic() + TIME_LIMIT
     while not os.path.exists(mark) and daemon.process.poll() is None and time.monotonic() < deadline:
         time.sleep(0.02)
     # Nobody has asked for anything, so what was refused was a thread or a board.

@@ -24,7 +24,7 @@ name = "HTTP"
 freshness = 300
 """
 
-PATIENCE = 20.0  # seconds
+TIME_LIMIT = 20.0  # seconds
 passed = 0
 failed = 0
 
@@ -59,8 +59,8 @@ class Daemon:
             self.ports[name] = int(port)
 
     def connect(self, name):
-        connection = socket.create_connection((self.hosts[name], self.ports[name]), PATIENCE)
-        connection.settimeout(PATIENCE)
+        connection = socket.create_connection((self.hosts[name], self.ports[name]), TIME_LIMIT)
+        connection.settimeout(TIME_LIMIT)
         return connection
 
     def page(self):
@@ -69,15 +69,15 @@ class Daemon:
 
     def page_with(self, text):
         """A status page that has this text, asked for again and again; the last one after too long."""
-        end = time.monotonic() + PATIENCE
+        end = time.monotonic() + TIME_LIMIT
         page = self.page()
         while text not in page and time.monotonic() < end:
             page = self.page()
         return page
 
-    def end(self, patience=PATIENCE):
+    def end(self, time_limit=TIME_LIMIT):
         """The status and what was printed, once the daemon has ended."""
-        output, errors = self.process.communicate(timeout=patience)
+        output, errors = self.process.communicate(timeout=time_limit)
         return self.process.returncode, output.decode("latin-1"), errors.decode("latin-1")
 
 

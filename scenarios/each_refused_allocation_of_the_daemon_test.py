@@ -1,7 +1,7 @@
 """Refuses each request for memory of the daemon in turn, ROUNDS times: python3 each_refused_allocation_of_the_daemon_test.py
 PROGRAM FAIL_ALLOC [NUMBER], the library of fail_alloc.c. Ends with a line 'N passed, M failed'.
 
-Each daemon is sent a packet, a line and a page's connection, and is then shut down. It has to end within PATIENCE seconds:
+Each daemon is sent a packet, a line and a page's connection, and is then shut down. It has to end within TIME_LIMIT seconds:
 with status 0, nothing on standard error and a log page; or with status 3, one line that names a fault, and a log page or none.
 A log page is whole: it has the comment where an operator was answered that it is queued, and the result where a page showed
 it."""
@@ -19,7 +19,7 @@ import time
 
 from daemon_clients import CONFIGURATION, check, end_tests, packet, read_all, read_exactly
 
-PATIENCE = 15.0  # seconds, for all that a daemon is asked and for its end
+TIME_LIMIT = 15.0  # seconds, for all that a daemon is asked and for its end
 AT_ONCE = 24  # daemons side by side; where none of them meets a refusal, there is none left to meet
 ROUNDS = 4  # whose request a number is depends on the threads, so each is refused as often; more often until all ENDS came
 NAMED = ("nscagate: OutOfMemory\n", "nscagate: Spawn\n")
@@ -38,7 +38,7 @@ class Refused:
         configuration = os.path.join(self.folder, "gateway.toml")
         with open(configuration, "w", encoding="latin-1") as file:
             file.write(CONFIGURATION)
-        self.deadline = time.monotonic() + PATIENCE
+        self.deadline = time.monotonic() + TIME_LIMIT
         self.errors = open(os.path.join(self.folder, "errors"), "w+b")
         settings = dict(os.environ, LD_PRELOAD=sys.argv[2], FAIL_ALLOC=str(number), FAIL_ALLOC_MARK=self.mark)
         self.process = subprocess.Popen([sys.argv[1], "serve", "--config", configuration], env=settings,
@@ -112,7 +112,7 @@ class Refused:
 
     def run(self):
         """How it ended in a word, and what is wrong with it."""
-        killer = threading.Timer(PATIENCE, self.process.kill)
+        killer = threading.Timer(TIME_LIMIT, self.process.kill)
         killer.start()
         try:
             if self.read_addresses():

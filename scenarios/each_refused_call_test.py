@@ -14,7 +14,7 @@ import tempfile
 
 from daemon_clients import check, end_tests, packet
 
-PATIENCE = 15.0  # seconds, for one run
+TIME_LIMIT = 15.0  # seconds, for one run
 AT_ONCE = 16  # runs side by side: a worker waits a second for a full queue
 PUSH = "push"  # a step of a session that submits
 
@@ -27,7 +27,7 @@ def run(crate, words, given, number, mark):
     settings = dict(os.environ, LD_PRELOAD=sys.argv[2], FAIL_ALLOC=str(number), FAIL_ALLOC_MARK=mark)
     program = os.path.join(sys.argv[1], crate, "out", crate)
     try:
-        ran = subprocess.run([program, *words], input=given, capture_output=True, timeout=PATIENCE, check=False, env=settings)
+        ran = subprocess.run([program, *words], input=given, capture_output=True, timeout=TIME_LIMIT, check=False, env=settings)
     except subprocess.TimeoutExpired as late:
         return "none: it never ended", late.stdout or b""
     return ran.returncode, ran.stdout

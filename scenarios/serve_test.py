@@ -10,7 +10,7 @@ import tempfile
 import threading
 import time
 
-from daemon_clients import CONFIGURATION, PATIENCE, Daemon, ask, check, end_tests, packet, read_all, read_exactly
+from daemon_clients import CONFIGURATION, TIME_LIMIT, Daemon, ask, check, end_tests, packet, read_all, read_exactly
 
 
 def send(daemon, packets, rest=b""):
@@ -36,7 +36,7 @@ def send_result(daemon, folder, line):
     with open(configuration, "w", encoding="ascii") as file:
         file.write("encryption_method=0\n")
     ran = subprocess.run([client, "-H", "127.0.0.1", "-p", str(daemon.ports["agents"]), "-c", configuration],
-                         input=line + "\n", capture_output=True, text=True, timeout=PATIENCE, check=False)
+                         input=line + "\n", capture_output=True, text=True, timeout=TIME_LIMIT, check=False)
     check("send_nsca's status", ran.returncode, 0)
     return client
 
@@ -168,7 +168,7 @@ def play_real_clients_of_both_lengths(program, folder):
         outputs[number] = [f"result {one} of client {number}, {'x' * 480}" for one in range(10)]
         clients.append(start_client(daemon, folder, [f"web1\tHTTP\t1\t{output}" for output in outputs[number]], *words))
     for client in clients:
-        client.wait(PATIENCE)
+        client.wait(TIME_LIMIT)
         check("the status of a client of either length", client.returncode, 0)
         client.stdout.close()
         client.stderr.close()
@@ -207,7 +207,7 @@ def play_both_lengths_in_turns(program, folder):
 
 
 def play_few_sessions(program, folder):
-    """Operators are served when the worker of packets has served all of its connections."""
+    """Operators are served when the agents' worker has served all of its connections."""
     daemon = Daemon(program, folder, "sessions = 1\n" + CONFIGURATION)
     send(daemon, [(b"web1", b"HTTP", 2, b"the only one")])
     for number in range(1, 4):
@@ -223,7 +223,7 @@ def send_at_once(daemon, folder, hosts, is_real):
     if is_real:
         clients = [start_client(daemon, folder, [f"{host}\t1\tfrom {host}"]) for host in hosts]
         for client in clients:
-            check("the status of a client beside a silent one", client.wait(PATIENCE), 0)
+            check("the status of a client beside a silent one", client.wait(TIME_LIMIT), 0)
             client.stdout.close()
             client.stderr.close()
         return
@@ -372,7 +372,7 @@ def refuse(program, folder, configuration, expected_status, expected_error):
     path = os.path.join(folder, "faulty.toml")
     with open(path, "w", encoding="latin-1") as file:
         file.write(configuration)
-    ran = subprocess.run([program, "serve", "--config", path], capture_output=True, text=True, timeout=PATIENCE, check=False)
+    ran = subprocess.run([program, "serve", "--config", path], capture_output=True, text=True, timeout=TIME_LIMIT, check=False)
     check(f"a configuration that is refused: {expected_error}", (ran.returncode, ran.stdout, ran.stderr),
           (expected_status, "", f"nscagate: {expected_error}\n"))
 
@@ -395,7 +395,7 @@ def main():
         refuse(program, folder, "colour = 1\n", 2, "config: UnknownKey colour")
         refuse(program, folder, "capacity = 0\n", 2, "config: BadValue capacity")
         missing = subprocess.run([program, "serve", "--config", os.path.join(folder, "nothing.toml")],
-                                 capture_output=True, text=True, timeout=PATIENCE, check=False)
+                                 capture_output=True, text=True, timeout=TIME_LIMIT, check=False)
         check("a configuration that isn't there", (missing.returncode, missing.stdout, missing.stderr),
               (2, "", "nscagate: config: unreadable\n"))
         with socket.create_server(("127.0.0.1", 0)) as other:

@@ -12,7 +12,7 @@ import threading
 import time
 import traceback
 
-from daemon_clients import CONFIGURATION, PATIENCE, Daemon, ask, check, end_tests, packet, read_all, read_exactly
+from daemon_clients import CONFIGURATION, TIME_LIMIT, Daemon, ask, check, end_tests, packet, read_all, read_exactly
 
 END = 15.0  # seconds from the answer `closing` to the end of the daemon, at most
 SENDER = 10.0  # seconds after which a send_nsca gives up
@@ -45,11 +45,11 @@ def shut_down(daemon, what, within=END):
     return ended
 
 
-def send_one(daemon, output, patience=PATIENCE, host=b"web1"):
+def send_one(daemon, output, time_limit=TIME_LIMIT, host=b"web1"):
     """Sends one packet as a send_nsca does: whether it was greeted in time."""
     try:
         with daemon.connect("agents") as connection:
-            connection.settimeout(patience)
+            connection.settimeout(time_limit)
             greeting = read_exactly(connection, 132)
             if len(greeting) < 132:
                 return False
@@ -93,7 +93,7 @@ def play_used_up_sessions(program, folder):
     daemon = Daemon(program, folder, limited(sessions=3))
     for number in range(3):
         check("used up sessions: a sender is served", send_one(daemon, b"result %d" % number), True)
-    deadline = time.monotonic() + PATIENCE
+    deadline = time.monotonic() + TIME_LIMIT
     refused = False
     while not refused and time.monotonic() < deadline:
         try:
@@ -152,7 +152,7 @@ def play_a_silent_sender(program, folder):
             with open(settings, "w", encoding="ascii") as file:
                 file.write("encryption_method=0\n")
             ran = subprocess.run([client, "-H", daemon.hosts["agents"], "-p", str(daemon.ports["agents"]), "-c", settings],
-                                 input="web1\tHTTP\t1\tafter the silence\n", capture_output=True, text=True, timeout=PATIENCE,
+                                 input="web1\tHTTP\t1\tafter the silence\n", capture_output=True, text=True, timeout=TIME_LIMIT,
                                  check=False)
             served = ran.returncode == 0
         took = time.monotonic() - began
