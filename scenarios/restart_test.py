@@ -541,19 +541,22 @@ def refuse_first(address, refused):
 
 
 def play_a_full_queue():
-    """Results that find the queue full are sent again, before the acknowledgements of their problems."""
+    """Results that find the queue full are sent again, before the acknowledgements of their problems; comments too."""
     daemon = start()
     now = int(time.time())
     kept = write(os.path.join(folder, "full"), f"status {now}\nobject;web1;;DOWN;{now};fresh;normal;0;down\n"
                  f"object;web1;HTTP;CRITICAL;{now};fresh;sticky;0;timeout\nobject;db1;;DOWN;{now};fresh;-;0;gone\n"
-                 f"comment;1;web1;;ack;1;{now};ann;on it\ncomment;2;web1;HTTP;ack;0;{now};ann;on it\n")
+                 f"comment;1;web1;;ack;1;{now};ann;on it\ncomment;2;web1;HTTP;ack;0;{now};ann;on it\n"
+                 f"comment;3;web1;;user;1;{now};ann;one\ncomment;4;web1;;user;1;{now};ann;two\n")
     line = "[0] PROCESS_SERVICE_CHECK_RESULT;web1;HTTP;2;timeout"
-    refused = {"[0] PROCESS_HOST_CHECK_RESULT;web1;1;down": 1, line: 2, "[0] PROCESS_HOST_CHECK_RESULT;db1;1;gone": 99}
+    refused = {"[0] PROCESS_HOST_CHECK_RESULT;web1;1;down": 1, line: 2, "[0] PROCESS_HOST_CHECK_RESULT;db1;1;gone": 99,
+               "[0] ADD_HOST_COMMENT;web1;1;ann;one": 1}
     operators = refuse_first(("127.0.0.1", daemon.ports["operators"]), refused)
     status, output, errors = restore(daemon, kept, "--operators", operators)
     check("a full queue", (status, output, errors), (1, "", f"nscagate-restore: {kept} line 4: answered full\n"))
     check("lines are sent again", (refused[line], [one[4] for one in meaning(daemon.page_with(";sticky;"))[0][:2]]),
           (0, ["normal", "sticky"]))
+    check("comments too", [row[7] for row in rows(daemon.page())["comment"]], ["on it", "on it", "two", "one"])
     daemon.process.kill()
     daemon.end()
 
@@ -630,6 +633,7 @@ def play_ends():
 
 
 def play_pages():
+    play_a_full_queue()
     play_newer_results()
     play_time_passes()
     play_faulty_pages()
@@ -637,7 +641,6 @@ def play_pages():
 
 
 def play_logs():
-    play_a_full_queue()
     play_a_full_log()
     play_checks()
 

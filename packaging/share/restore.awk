@@ -1,8 +1,9 @@
 # Makes of a kept status page the operators' lines that bring it about on a fresh daemon. After config.awk and page.awk.
 # From the environment: CONFIG, KEPT and NOW (a moment); SHOWN, the fresh daemon's page, or nothing; PLAN and EXPECTED,
-# the files to write. A line of PLAN is a number of a line of KEPT; 1 where the line names an id, 2 where it is a
-# result, and else 0; and the operators' line, with tabs between. EXPECTED has for each comment and entry how its line
-# of a page begins and ends then; after a `-`, that of one that was deleted.
+# the files to write. A line of PLAN is a number of a line of KEPT; 1 where the line names an id, 2 where no id depends
+# on it, and else 0; and the operators' line, with tabs between. EXPECTED has for each user's comment and each entry how
+# its line of a page begins and ends then, a comment's without its id; after a `-`, that of one that was deleted; and
+# each object that has a result then.
 # Own ids count from 1, since a fresh daemon's do.
 
 BEGIN {
@@ -162,6 +163,7 @@ function plan_result(row,    object, text, has_feeds, sent) {
     sent = "[0] PROCESS_" kind_of(object, "HOST", "SERVICE") "_CHECK_RESULT;" named(object) code[state[row]] ";" text
     if (!plan_line(object_line[row], 2, sent)) return
     state_now[object] = state[row]
+    expect(object_line[row], "object;" object, "")
     feeds += has_feeds
     blanks += sent ~ /[ \t\r]$/
 }
@@ -288,8 +290,7 @@ function plan_comment(row,    object, sent, text) {
     if (!can_send(comment_line[row], comment_author[row] ";" comment_text[row], "text")) return
     text = plain_text
     sent = "[0] ADD_" kind_of(object, "HOST", "SVC") "_COMMENT;" named(object) persistent[row] ";" text
-    if (!plan_line(comment_line[row], 0, sent)) return
-    comment_ids++
-    expect(comment_line[row], "comment;" comment_ids ";" object ";user;" persistent[row] ";",
+    if (!plan_line(comment_line[row], 2, sent)) return
+    expect(comment_line[row], "comment;" object ";user;" persistent[row] ";",
         comment_author[row] ";" comment_text[row])
 }
