@@ -32,7 +32,7 @@ def fill(program, folder):
     daemon = Daemon(program, folder, CONFIGURATION.replace("limit = 100000", LIMITS))
     send(daemon, RECORDS)
     check("a result is shown", "object;web1;HTTP;WARNING;" in daemon.page_with("WARNING"), True)
-    send(daemon, 1)
+    send(daemon, AT_ONCE)
     check("a shutdown is answered", ask(daemon, "[1] SHUTDOWN_PROGRAM"), ["closing"])
     status, output, errors = daemon.end(SECONDS)
     check("status and standard error", (status, errors), (3, "nscagate: LogFull\n"))
