@@ -26,7 +26,8 @@ fn line(
     service: Option<&str>,
     threshold: u32,
 ) -> Result<ObjectLine, AllocError>
-    ensures { IfOk result (λ line. line ≡ line_of host.now (option_copied service.entry) threshold) }
+    ensures { IfOk result (λ line.
+        line ≡ line_of host.now (option_copied service.entry) threshold) }
 {
     let host = Text::copied(alloc, host.as_bytes())?;
     let service = match service {

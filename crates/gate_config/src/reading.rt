@@ -62,7 +62,8 @@ fn read_address<'a>(
     default: &'static str,
 ) -> Result<Written<'a>, ConfigFault>
     ensures text { IfOk result (λ address.
-        text_or default.entry.now (value_at (table_view document.now) key) ≡ Some address.text.now) }
+        text_or default.entry.now (value_at (table_view document.now) key)
+        ≡ Some address.text.now) }
     ensures socket { IfOk result (λ address. IsSocketText address.text.now address.socket) }
     ensures passed { OnOk result (Passes
         (text_check key (text_or default.entry.now (value_at (table_view document.now) key)))) }
@@ -86,7 +87,8 @@ fn copied_addresses(
     ensures agents { IfOk result (λ addresses.
         (addresses.0.text ≡ agents.entry.text.now) × (addresses.0.socket ≡ agents.entry.socket)) }
     ensures operators { IfOk result (λ addresses.
-        (addresses.1.text ≡ operators.entry.text.now) × (addresses.1.socket ≡ operators.entry.socket)) }
+        (addresses.1.text ≡ operators.entry.text.now)
+        × (addresses.1.socket ≡ operators.entry.socket)) }
     ensures pages { IfOk result (λ addresses.
         (addresses.2.text ≡ pages.entry.text.now) × (addresses.2.socket ≡ pages.entry.socket)) }
 {

@@ -52,7 +52,8 @@ fn unknown_key<'a>(table: &'a Table, keys: &[Key]) -> Option<&'a str>
 pub(crate) fn check_keys(alloc: Global, table: &Table, keys: &[Key]) -> Result<(), ConfigFault>
     ensures known { OnOk result (least_unknown keys.now (table_view table.now) ≡ None) }
     ensures unknown { IfErr result (λ fault. fault ≢ OutOfMemory →
-        option_map ConfigFault.UnknownKey (least_unknown keys.now (table_view table.now)) ≡ Some fault) }
+        option_map ConfigFault.UnknownKey (least_unknown keys.now (table_view table.now))
+        ≡ Some fault) }
 {
     match unknown_key(table, keys) {
         Some(text) => Err(ConfigFault::UnknownKey(KeyText::copied(alloc, text)?)),
@@ -121,7 +122,8 @@ pub(crate) fn text<'a>(
 pub(crate) fn name<'a>(table: &'a Table) -> Result<&'a str, ConfigFault>
     ensures name { IfOk result (λ name.
         option_and_then as_str (value_at (table_view table.now) Key.Name) ≡ Some name.now) }
-    ensures passed { OnOk result (name_fault Key.Name (value_at (table_view table.now) Key.Name) ≡ None) }
+    ensures passed { OnOk result
+        (name_fault Key.Name (value_at (table_view table.now) Key.Name) ≡ None) }
     ensures bad { IfErr result (λ fault.
         name_fault Key.Name (value_at (table_view table.now) Key.Name) ≡ Some fault) }
 {

@@ -105,7 +105,8 @@ impl Submit for LocalClient {
 
     ghost keeps_itself = { λ x. record { number = refl; limits = refl } };
 
-    ghost keeps_on = { λ x y z p q. record { number = q.number ∙ p.number; limits = q.limits ∙ p.limits } };
+    ghost keeps_on = { λ x y z p q.
+        record { number = q.number ∙ p.number; limits = q.limits ∙ p.limits } };
 }
 
 impl Operator for LocalClient {

@@ -116,7 +116,8 @@ pub trait Operator: Submit {
         ensures refused { IfErr result (λ fault.
             RefusesClose fault (Self.knows self.old) (Self.knows self.new)) }
 
-        ensures kept { (items : List Numbered) → Self.stands self.old items → Self.stands self.new items }
+        ensures kept { (items : List Numbered)
+            → Self.stands self.old items → Self.stands self.new items }
         ensures closes { closes self.old moment result self.new }
         ensures named { Self.named self.new ≡ Self.named self.old }
         ensures keeps { Self.keeps self.old self.new };

@@ -15,7 +15,8 @@ pub(crate) struct Collected {
     pub(crate) ended: Vec<Ended>,
     pub(crate) reports: Vec<(u32, Vec<Report>)>,
     pub(crate) ghost reported: { queued_for_each ended.items ≡ queued_by_each reports.items },
-    pub(crate) ghost counted: { All (λ (pair : ℕ × List ℕ). pair.1 ≡ numbers_after 0 (length pair.1))
+    pub(crate) ghost counted: { All
+        (λ (pair : ℕ × List ℕ). pair.1 ≡ numbers_after 0 (length pair.1))
         (queued_for_each ended.items) },
 }
 

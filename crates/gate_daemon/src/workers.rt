@@ -60,7 +60,8 @@ fn run_operator<
     requires fresh { client.queued ≡ [] }
     requires room { HasRoom 1 collected.old }
     ensures closer { closer.new.cell ≡ shared.now.gate.now.cell }
-    ensures ends { AreCollected shared.now.gate.now 0 client.number collected.old collected.new result }
+    ensures ends { AreCollected shared.now.gate.now 0 client.number
+        collected.old collected.new result }
 {
     let spare = Some(closer.another());
     let of_operator = Shared {
@@ -109,7 +110,8 @@ pub(crate) fn run_workers<
     requires closer { closer.old.cell ≡ shared.now.gate.now.cell }
     requires room { HasRoom (length workers.clients.items + 1) workers.collected }
     ensures closer { closer.new.cell ≡ shared.now.gate.now.cell }
-    ensures ends { AreCollected shared.now.gate.now (length workers.clients.items) workers.operator.number
+    ensures ends { AreCollected shared.now.gate.now
+        (length workers.clients.items) workers.operator.number
         workers.collected result.0 result.1 }
 {
     let Workers {

@@ -73,7 +73,8 @@ fn push_arguments(out: &mut Vec<u8>, arguments: &[Argument<'_>]) -> Result<(), A
 }
 
 fn push_argument(out: &mut Vec<u8>, argument: Argument<'_>) -> Result<(), AllocError>
-    ensures ok { OnOk result (out.new.items ≡ out.old.items ++ 59 ∷ shown (value_of argument.entry)) }
+    ensures ok { OnOk result
+        (out.new.items ≡ out.old.items ++ 59 ∷ shown (value_of argument.entry)) }
     ensures err { OnErr result (StartsWith out.new.items out.old.items) }
 {
     out.extend_from_slice(b";")?;

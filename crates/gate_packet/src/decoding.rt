@@ -202,7 +202,8 @@ pub fn decode_block(
     ensures fresh { IfOk result (λ p. is_stale p.timestamp now.0 greatest_age ≡ false) }
     ensures every_packet { ReadsFreshPacket (block_bytes block.now) now.0 greatest_age result }
 
-    ensures first_fault { IfErr result (IsReportedFault (block_bytes block.now) now.0 greatest_age) }
+    ensures first_fault { IfErr result
+        (IsReportedFault (block_bytes block.now) now.0 greatest_age) }
     ensures each_fault { ReportsFirstFault (block_bytes block.now) now.0 greatest_age result }
 {
     match block {

@@ -58,7 +58,8 @@ fn show_items<R: Wait>(rt: &R, gate: &Gate, taker: Taker, shown: &mut Vec<u8>)
     }
 }
 
-/// Plays a agents' worker that may serve two connections, over a queue with room: whether its gate could be opened.
+/// Plays an agents' worker that may serve two connections, over a queue with room: whether its gate
+/// could be opened.
 pub fn play_worker<R: Wait + Clock>(
     rt: &R,
     alloc: Global,
@@ -75,7 +76,8 @@ pub fn play_worker<R: Wait + Clock>(
     }
 }
 
-/// Plays a worker of lines that may serve all connections, over a queue for one item: whether its gate could be opened.
+/// Plays an operators' worker that may serve all connections, over a queue for one item: whether its
+/// gate could be opened.
 pub fn play_operator<R: Wait + Clock>(
     rt: &R,
     alloc: Global,
