@@ -1,0 +1,4 @@
+pub mod PlainLaws
+pub mod LabelLaws
+pub mod WritingSteps
+pub mod ReadingLaws

@@ -1,0 +1,171 @@
+-- The status pages of gateways as JSON (RFC 8259): `status_document` is the document, and `compact_text` its text on
+-- one line. Moments are in seconds since 1970. Own rules: the members, their order and their words.
+use Rattle.std.specs.Prelude.{ℕ, true, false, List, [], ◌∷◌, map, filter, Option, Some, None, Ok, Err, codes}
+use Rattle.std.specs.List.{flat_map}
+use Rattle.std.specs.Fmt.{decimal}
+use Rattle.json.specs.Json.{Json, null, boolean, number, string, array, object, Items, no_items, item, Members, no_members, member}
+use Rattle.json.specs.Print.{print}
+use Rattle.json.specs.Tree.{json_tokens}
+use Rattle.gate_pages.specs.StatusPage.{state_name}
+use Rattle.status_reading.specs.declared.rows.ShownAcknowledgement.{ShownAcknowledgement}
+use Rattle.status_reading.specs.declared.rows.ShownAcknowledgement.TheVariants.{Missing, Normal, Sticky}
+use Rattle.status_reading.specs.declared.rows.ShownComment.{ShownComment}
+use Rattle.status_reading.specs.declared.rows.ShownDowntime.{ShownDowntime}
+use Rattle.status_reading.specs.declared.page.StatusPage.{StatusPage}
+use Rattle.status_reading.specs.Page.{shown_source}
+use Rattle.status_merge.specs.declared.gateway.Gateway.{Gateway}
+use Rattle.status_merge.specs.declared.gateway.MergedObject.{MergedObject}
+use Rattle.status_merge.specs.declared.gateway.PageFault.{PageFault}
+use Rattle.status_merge.specs.Causes.{cause}
+use Rattle.status_merge.specs.Ranks.{is_unhandled}
+use Rattle.status_merge.specs.Selecting.{has_part}
+use Rattle.status_export.specs.Plain.{plain_text}
+
+-- ---- JSON by lists
+
+-- the items of an array
+abbrev pub items_of : List Json → Items
+items_of [] = no_items
+items_of (first ∷ rest) = item first (items_of rest)
+
+-- the members of an object, in this order
+abbrev pub members_of : List (List ℕ × Json) → Members
+members_of [] = no_members
+members_of (first ∷ rest) = member first.0 first.1 (members_of rest)
+
+-- the text of a document, without spaces
+abbrev pub compact_text : Json → List ℕ
+compact_text document = print (json_tokens document)
+
+-- ---- values
+
+-- a number in decimal
+abbrev pub number_json : ℕ → Json
+number_json n = number (decimal n)
+
+-- a number in decimal, and `null` without one
+abbrev pub optional_json : Option ℕ → Json
+optional_json None = null
+optional_json (Some n) = number_json n
+
+-- what a field of a page stands for
+abbrev pub field_json : List ℕ → Json
+field_json field = string (plain_text field)
+
+-- the name of a service; a host has none
+abbrev pub service_json : List ℕ → Json
+service_json [] = null
+service_json (first ∷ rest) = field_json (first ∷ rest)
+
+-- whether the object's problem is acknowledged, and how
+abbrev pub acknowledgement_word : ShownAcknowledgement → List ℕ
+acknowledgement_word Missing = codes "none"
+acknowledgement_word Normal = codes "normal"
+acknowledgement_word Sticky = codes "sticky"
+
+-- ---- rows
+
+-- a gateway whose page was read
+abbrev pub reachable_json : List ℕ → StatusPage → Json
+reachable_json name page =
+    object (members_of (
+    (codes "name", string name)
+    ∷ (codes "reachable", boolean true)
+    ∷ (codes "moment", number_json page.moment)
+    ∷ (codes "closing", optional_json page.closing)
+    ∷ []
+    ))
+
+-- a gateway that shows no page
+abbrev pub unreachable_json : List ℕ → PageFault → Json
+unreachable_json name fault =
+    object (members_of (
+    (codes "name", string name)
+    ∷ (codes "reachable", boolean false)
+    ∷ (codes "fault", string (cause fault))
+    ∷ []
+    ))
+
+abbrev pub gateway_json : Gateway → Json
+gateway_json gateway = elim gateway.page [
+  | Ok page ↦ reachable_json gateway.name.now page
+  | Err fault ↦ unreachable_json gateway.name.now fault
+]
+
+unfoldable pub object_json : MergedObject → Json
+object_json shown =
+    object (members_of (
+    (codes "gateway", string shown.gateway.now)
+    ∷ (codes "host", field_json shown.row.host.now)
+    ∷ (codes "service", service_json shown.row.service.now)
+    ∷ (codes "state", string (state_name shown.row.state))
+    ∷ (codes "last", optional_json shown.row.last)
+    ∷ (codes "stale", boolean shown.row.stale)
+    ∷ (codes "acknowledgement", string (acknowledgement_word shown.row.acknowledgement))
+    ∷ (codes "depth", number_json shown.row.depth)
+    ∷ (codes "unhandled", boolean (is_unhandled shown.row))
+    ∷ (codes "output", field_json shown.row.output.now)
+    ∷ []
+    ))
+
+-- a comment on the page of the gateway of this name
+unfoldable pub comment_json : List ℕ → ShownComment → Json
+comment_json name row =
+    object (members_of (
+    (codes "gateway", string name)
+    ∷ (codes "id", number_json row.id)
+    ∷ (codes "host", field_json row.host.now)
+    ∷ (codes "service", service_json row.service.now)
+    ∷ (codes "source", string (shown_source row.source))
+    ∷ (codes "persistent", boolean row.persistent)
+    ∷ (codes "moment", number_json row.moment)
+    ∷ (codes "author", field_json row.author.now)
+    ∷ (codes "text", field_json row.text.now)
+    ∷ []
+    ))
+
+-- a downtime entry on the page of the gateway of this name
+unfoldable pub downtime_json : List ℕ → ShownDowntime → Json
+downtime_json name row =
+    object (members_of (
+    (codes "gateway", string name)
+    ∷ (codes "id", number_json row.id)
+    ∷ (codes "host", field_json row.host.now)
+    ∷ (codes "service", service_json row.service.now)
+    ∷ (codes "fixed", boolean row.fixed)
+    ∷ (codes "trigger", number_json row.trigger)
+    ∷ (codes "start", number_json row.start)
+    ∷ (codes "end", number_json row.end)
+    ∷ (codes "duration", number_json row.duration)
+    ∷ (codes "begin", optional_json row.begin)
+    ∷ (codes "author", field_json row.author.now)
+    ∷ (codes "text", field_json row.text.now)
+    ∷ []
+    ))
+
+-- ---- the document
+
+-- the comments on a gateway's page whose host's name contains a text, in the page's order
+abbrev pub comments_json : List ℕ → Gateway → List Json
+comments_json part gateway = elim gateway.page [
+  | Ok page ↦ map (comment_json gateway.name.now) (filter (λ row. has_part row.host.now part) page.comments.items)
+  | Err fault ↦ []
+]
+
+-- the downtime entries on a gateway's page whose host's name contains a text, in the page's order
+abbrev pub downtimes_json : List ℕ → Gateway → List Json
+downtimes_json part gateway = elim gateway.page [
+  | Ok page ↦ map (downtime_json gateway.name.now) (filter (λ row. has_part row.host.now part) page.downtimes.items)
+  | Err fault ↦ []
+]
+
+-- the gateways, these objects, and the comments and downtime entries whose host's name contains a text
+abbrev pub status_document : List Gateway → List MergedObject → List ℕ → Json
+status_document gateways objects part =
+    object (members_of (
+    (codes "gateways", array (items_of (map gateway_json gateways)))
+    ∷ (codes "objects", array (items_of (map object_json objects)))
+    ∷ (codes "comments", array (items_of (flat_map (comments_json part) gateways)))
+    ∷ (codes "downtimes", array (items_of (flat_map (downtimes_json part) gateways)))
+    ∷ []
+    ))

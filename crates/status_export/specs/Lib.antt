@@ -1,0 +1,5 @@
+pub mod Plain
+pub mod Document
+pub mod Gauges
+pub mod Metrics
+pub mod inner

@@ -1,0 +1,122 @@
+-- The metrics of gateways and of their objects: `metrics_page` is the text. Own rules: the names, the help texts, the
+-- labels and their order.
+use Rattle.std.specs.Prelude.{ℕ, List, [], ◌∷◌, ◌++◌, length, map, Ok, Err, is_some, is_ok, codes}
+use Rattle.std.specs.List.{flat_map}
+use Rattle.std.specs.Int.{from_bool}
+use Rattle.gate_model.specs.declared.state.State.{State}
+use Rattle.gate_model.specs.declared.state.State.TheVariants as state
+use Rattle.gate_pages.specs.StatusPage.{state_name}
+use Rattle.status_reading.specs.declared.page.StatusPage.{StatusPage}
+use Rattle.status_merge.specs.declared.gateway.Gateway.{Gateway}
+use Rattle.status_merge.specs.declared.gateway.MergedObject.{MergedObject}
+use Rattle.status_merge.specs.declared.counts.Counts.{Counts}
+use Rattle.status_merge.specs.Ranks.{counts_of}
+use Rattle.status_export.specs.Gauges.{Sample, Gauge, gauge_text}
+
+-- ---- gateways
+
+-- the sample of the gateway of this name
+abbrev pub gateway_sample : List ℕ → ℕ → Sample
+gateway_sample name number = record { labels = (codes "gateway", name) ∷ []; number = number }
+
+-- 1 where the gateway's page was read, else 0
+abbrev pub up_sample : Gateway → Sample
+up_sample gateway = gateway_sample gateway.name.now (from_bool (is_ok gateway.page))
+
+-- a number of the gateway's page; none where there is no page
+abbrev pub page_samples : (StatusPage → ℕ) → Gateway → List Sample
+page_samples number gateway = elim gateway.page [
+  | Ok page ↦ gateway_sample gateway.name.now (number page) ∷ []
+  | Err fault ↦ []
+]
+
+-- a gauge of a number of each page
+abbrev pub page_gauge : List ℕ → List ℕ → (StatusPage → ℕ) → List Gateway → Gauge
+page_gauge name help number gateways = record {
+  name = name;
+  help = help;
+  samples = flat_map (page_samples number) gateways;
+}
+
+abbrev pub up_gauge : List Gateway → Gauge
+up_gauge gateways = record {
+  name = codes "nscagate_up";
+  help = codes "Whether the gateway's status page was read.";
+  samples = map up_sample gateways;
+}
+
+-- the gauges of gateways
+abbrev pub gateway_gauges : List Gateway → List Gauge
+gateway_gauges gateways =
+    up_gauge gateways
+    ∷ page_gauge (codes "nscagate_page_seconds") (codes "The moment of the gateway's page.")
+    (λ page. page.moment) gateways
+    ∷ page_gauge (codes "nscagate_closing") (codes "Whether the gateway is closing.")
+    (λ page. from_bool (is_some page.closing)) gateways
+    ∷ page_gauge (codes "nscagate_page_objects") (codes "Objects on the gateway's page.")
+    (λ page. length page.objects.items) gateways
+    ∷ page_gauge (codes "nscagate_comments") (codes "Comments on the gateway's page.")
+    (λ page. length page.comments.items) gateways
+    ∷ page_gauge (codes "nscagate_downtimes") (codes "Downtime entries on the gateway's page.")
+    (λ page. length page.downtimes.items) gateways
+    ∷ []
+
+-- ---- objects
+
+-- the sample of the objects of a kind in a state
+abbrev pub state_sample : List ℕ → State → ℕ → Sample
+state_sample kind state number = record {
+  labels = (codes "kind", kind) ∷ (codes "state", state_name state) ∷ [];
+  number = number;
+}
+
+abbrev pub host_samples : Counts → List Sample
+host_samples counts =
+    state_sample (codes "host") state.Up counts.up
+    ∷ state_sample (codes "host") state.Down counts.down
+    ∷ state_sample (codes "host") state.Unreachable counts.unreachable
+    ∷ state_sample (codes "host") state.Pending counts.host_pending
+    ∷ []
+
+abbrev pub service_samples : Counts → List Sample
+service_samples counts =
+    state_sample (codes "service") state.Ok counts.ok
+    ∷ state_sample (codes "service") state.Warning counts.warning
+    ∷ state_sample (codes "service") state.Critical counts.critical
+    ∷ state_sample (codes "service") state.Unknown counts.unknown
+    ∷ state_sample (codes "service") state.Pending counts.service_pending
+    ∷ []
+
+abbrev pub state_gauge : Counts → Gauge
+state_gauge counts = record {
+  name = codes "nscagate_objects";
+  help = codes "Hosts and services by state.";
+  samples = host_samples counts ++ service_samples counts;
+}
+
+-- a gauge of one number
+abbrev pub number_gauge : List ℕ → List ℕ → ℕ → Gauge
+number_gauge name help number = record {
+  name = name;
+  help = help;
+  samples = record { labels = []; number = number } ∷ [];
+}
+
+-- the gauges of objects
+abbrev pub object_gauges : Counts → List Gauge
+object_gauges counts =
+    state_gauge counts
+    ∷ number_gauge (codes "nscagate_objects_stale")
+    (codes "Objects without a result for longer than their threshold.") counts.stale
+    ∷ number_gauge (codes "nscagate_problems_unhandled")
+    (codes "Problems neither acknowledged nor in downtime.") counts.unhandled
+    ∷ number_gauge (codes "nscagate_objects_acknowledged") (codes "Objects with an acknowledgement.")
+    counts.acknowledged
+    ∷ number_gauge (codes "nscagate_objects_in_downtime") (codes "Objects in active downtime.") counts.in_downtime
+    ∷ []
+
+-- ---- the text
+
+abbrev pub metrics_page : List Gateway → List MergedObject → List ℕ
+metrics_page gateways objects =
+    flat_map gauge_text (gateway_gauges gateways) ++ flat_map gauge_text (object_gauges (counts_of objects))

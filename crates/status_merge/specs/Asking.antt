@@ -1,0 +1,95 @@
+-- What the query of a URL asks for: `choice_asked`, `host_asked` and `refresh_asked`, of its pairs of names and values.
+-- Own rules.
+use Rattle.std.specs.Prelude.{ℕ, ◌^◌, Bool, ◌==◌, ◌&&◌, nat_lt, min, max, if◌then◌else◌, List, [], length, map, filter, Option, Some, None, unwrap_or, codes}
+use Rattle.std.specs.List.{last_or}
+use Rattle.std.specs.Option.{option_map_or}
+use Rattle.std.specs.Str.{bytes_eq, str_eq_ignore_ascii_case, all_ascii_digits}
+use Rattle.std.specs.Str.Lossy.{utf8_lossy}
+use Rattle.std.specs.Str.Parse.{digits_value, without_leading_plus}
+use Rattle.form_urlencoded.specs.Form.{decode}
+use Rattle.gate_model.specs.declared.state.State.{State}
+use Rattle.gate_model.specs.declared.state.State.TheVariants.{Pending, Ok, Warning, Critical, Unknown, Up, Down, Unreachable}
+use Rattle.status_merge.specs.declared.query.Choice.{Choice}
+use Rattle.status_merge.specs.declared.query.Choice.TheVariants.{All, Problems, Unhandled, Stale, In}
+
+-- ---- words
+
+-- the word of a state
+abbrev pub state_word : State → List ℕ
+state_word Pending = codes "pending"
+state_word Ok = codes "ok"
+state_word Warning = codes "warning"
+state_word Critical = codes "critical"
+state_word Unknown = codes "unknown"
+state_word Up = codes "up"
+state_word Down = codes "down"
+state_word Unreachable = codes "unreachable"
+
+-- the word of a choice
+abbrev pub choice_word : Choice → List ℕ
+choice_word All = codes "all"
+choice_word Problems = codes "problems"
+choice_word Unhandled = codes "unhandled"
+choice_word Stale = codes "stale"
+choice_word (In state) = state_word state
+
+-- the state of a word, in any case
+abbrev pub state_of : List ℕ → Option State
+state_of word =
+    if str_eq_ignore_ascii_case word (codes "pending") then Some Pending
+    else if str_eq_ignore_ascii_case word (codes "ok") then Some Ok
+    else if str_eq_ignore_ascii_case word (codes "warning") then Some Warning
+    else if str_eq_ignore_ascii_case word (codes "critical") then Some Critical
+    else if str_eq_ignore_ascii_case word (codes "unknown") then Some Unknown
+    else if str_eq_ignore_ascii_case word (codes "up") then Some Up
+    else if str_eq_ignore_ascii_case word (codes "down") then Some Down
+    else if str_eq_ignore_ascii_case word (codes "unreachable") then Some Unreachable
+    else None
+
+-- the choice of a word that names no state
+abbrev pub choice_without : List ℕ → Choice
+choice_without word =
+    if str_eq_ignore_ascii_case word (codes "problems") then Problems
+    else if str_eq_ignore_ascii_case word (codes "unhandled") then Unhandled
+    else if str_eq_ignore_ascii_case word (codes "stale") then Stale
+    else All
+
+-- the choice of a word, in any case; another word restricts nothing
+abbrev pub choice_of : List ℕ → Choice
+choice_of word = elim (state_of word) [ Some state ↦ In state | None ↦ choice_without word ]
+
+-- ---- seconds
+
+-- whether these are digits that write a number of 32 bits
+abbrev pub are_digits : List ℕ → Bool
+are_digits digits = nat_lt 0 (length digits) && (all_ascii_digits digits && nat_lt (digits_value 10 digits) (2 ^ 32))
+
+-- 0, or 2 to 3600
+abbrev pub in_range : ℕ → ℕ
+in_range seconds = if seconds == 0 then 0 else max 2 (min seconds 3600)
+
+-- the seconds of a text, which may begin with a plus; another text is the default
+abbrev pub refresh_of : ℕ → List ℕ → ℕ
+refresh_of default text =
+    if are_digits (without_leading_plus text) then in_range (digits_value 10 (without_leading_plus text)) else default
+
+-- ---- a query
+
+-- the text of an encoded name or value; what is no UTF-8 is U+FFFD
+abbrev pub text_of : List ℕ → List ℕ
+text_of bytes = utf8_lossy (decode bytes)
+
+-- the value of the last of these encoded pairs that has this name
+abbrev pub value_of : List ℕ → List (List ℕ × List ℕ) → Option (List ℕ)
+value_of name pairs =
+    last_or None (map (λ (pair : List ℕ × List ℕ). text_of pair.1) (filter (λ pair. bytes_eq (text_of pair.0) name) pairs))
+
+-- the choice that a query asks for, the text of the host, and the seconds, each with its default
+abbrev pub choice_asked : List (List ℕ × List ℕ) → Choice
+choice_asked pairs = option_map_or choice_of (value_of (codes "state") pairs) All
+
+abbrev pub host_asked : List (List ℕ × List ℕ) → List ℕ
+host_asked pairs = unwrap_or (value_of (codes "host") pairs) []
+
+abbrev pub refresh_asked : ℕ → List (List ℕ × List ℕ) → ℕ
+refresh_asked default pairs = option_map_or (refresh_of default) (value_of (codes "refresh") pairs) default

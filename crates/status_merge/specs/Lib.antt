@@ -1,0 +1,8 @@
+pub mod Groups
+pub mod Causes
+pub mod Objects
+pub mod Ranks
+pub mod Selecting
+pub mod Entries
+pub mod Asking
+pub mod inner

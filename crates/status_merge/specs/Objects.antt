@@ -1,0 +1,48 @@
+-- The objects of several gateways' pages as one list: `merged`.
+use Rattle.std.specs.Prelude.{◌≡◌, ℕ, Bool, false, true, ◌&&◌, not, nat_lt, List, [], map, filter, find, Option, Some, None, Ok, Err, unwrap_or}
+use Rattle.std.specs.Borrow.{Bor}
+use Rattle.std.specs.List.{All, AllPass, Contains, IsDistinct, list_all, list_any}
+use Rattle.std.specs.Str.{bytes_eq}
+use Rattle.status_reading.specs.declared.rows.ShownObject.{ShownObject}
+use Rattle.status_merge.specs.declared.gateway.Gateway.{Gateway}
+use Rattle.status_merge.specs.declared.gateway.MergedObject.{MergedObject}
+use Rattle.status_merge.specs.Groups.{groups}
+
+-- whether two rows have one name: that of the host, and that of the service, which a host has empty
+abbrev pub same_name : MergedObject → MergedObject → Bool
+same_name one other = bytes_eq one.row.host.now other.row.host.now && bytes_eq one.row.service.now other.row.service.now
+
+-- whether a last result is later than another. No result is earliest.
+abbrev pub is_later : Option ℕ → Option ℕ → Bool
+is_later None other = false
+is_later (Some moment) None = true
+is_later (Some moment) (Some other) = nat_lt other moment
+
+-- whether none of the rows has a later result than this one
+abbrev pub is_latest : List MergedObject → MergedObject → Bool
+is_latest rows row = list_all (λ other. not (is_later other.row.last row.row.last)) rows
+
+-- of the rows of a name the latest, of equals the first
+abbrev pub latest : MergedObject × List MergedObject → MergedObject
+latest group = unwrap_or (find (is_latest group.1) group.1) group.0
+
+-- one row for each name, in the order in which the rows name them first
+abbrev pub merged : List MergedObject → List MergedObject
+merged rows = map latest (groups same_name rows)
+
+-- each name of the rows stands once, by a row of that name than which none is later
+pub record IsListOf (rows shown : List MergedObject) : Type 0 where
+  pub once : IsDistinct same_name shown
+  pub whole : AllPass (λ row. list_any (same_name row) shown) rows
+  pub latest : All (λ object. Contains rows object × (is_latest (filter (λ row. same_name row object) rows) object ≡ true)) shown
+
+-- a row of a page, with its gateway's name and the page's moment
+abbrev pub shown_by : Bor (List ℕ) → ℕ → ShownObject → MergedObject
+shown_by gateway moment row = record { gateway = gateway; moment = moment; row = row }
+
+-- the objects of a gateway's page, in its order; none where there is no page
+abbrev pub objects_on : Gateway → List MergedObject
+objects_on gateway = elim gateway.page [
+  | Ok page ↦ map (shown_by gateway.name page.moment) page.objects.items
+  | Err fault ↦ []
+]

@@ -1,0 +1,88 @@
+-- What makes an object urgent, the order of objects by it, and their counts. Own rules.
+use Rattle.std.specs.Prelude.{ℕ, ◌+◌, Bool, true, false, ◌==◌, ◌&&◌, not, nat_lt, if◌then◌else◌, List, [], ◌∷◌, length, count_by}
+use Rattle.gate_model.specs.declared.state.State.{State}
+use Rattle.gate_model.specs.declared.state.State.TheVariants.{Pending, Ok, Warning, Critical, Unknown, Up, Down, Unreachable}
+use Rattle.gate_model.specs.State.{is_problem}
+use Rattle.status_reading.specs.declared.rows.ShownAcknowledgement.{ShownAcknowledgement}
+use Rattle.status_reading.specs.declared.rows.ShownAcknowledgement.TheVariants.{Missing, Normal, Sticky}
+use Rattle.status_reading.specs.declared.rows.ShownObject.{ShownObject}
+use Rattle.status_merge.specs.declared.gateway.MergedObject.{MergedObject}
+use Rattle.status_merge.specs.declared.counts.Counts.{Counts}
+
+-- whether there is an acknowledgement
+abbrev pub is_made : ShownAcknowledgement → Bool
+is_made Missing = false
+is_made Normal = true
+is_made Sticky = true
+
+-- a problem without an acknowledgement and in no downtime
+abbrev pub is_unhandled : ShownObject → Bool
+is_unhandled row = is_problem row.state && not (is_made row.acknowledgement) && (row.depth == 0)
+
+-- the rank of a problem among problems: DOWN and CRITICAL, UNREACHABLE, UNKNOWN, WARNING
+abbrev pub severity : State → ℕ
+severity Down = 0
+severity Critical = 0
+severity Unreachable = 1
+severity Unknown = 2
+severity Warning = 3
+severity Pending = 3
+severity Ok = 3
+severity Up = 3
+
+-- a number for each state
+abbrev pub state_number : State → ℕ
+state_number Pending = 0
+state_number Ok = 1
+state_number Warning = 2
+state_number Critical = 3
+state_number Unknown = 4
+state_number Up = 5
+state_number Down = 6
+state_number Unreachable = 7
+
+-- whether two states are one
+abbrev pub same_state : State → State → Bool
+same_state one other = state_number one == state_number other
+
+-- unhandled problems 0 to 3, stale objects that are no problem 4, handled problems 5 to 8, PENDING 9, OK and UP 10
+abbrev pub rank : ShownObject → ℕ
+rank row =
+    if is_unhandled row then severity row.state
+    else if is_problem row.state then severity row.state + 5
+    else if row.stale then 4
+    else if same_state row.state Pending then 9
+    else 10
+
+-- whether an object is a host, or a service, in a state
+abbrev pub is_host_in : State → MergedObject → Bool
+is_host_in state object = same_state object.row.state state && (length object.row.service.now == 0)
+
+abbrev pub is_service_in : State → MergedObject → Bool
+is_service_in state object = same_state object.row.state state && not (length object.row.service.now == 0)
+
+-- how many objects are hosts, or services, in a state
+abbrev pub hosts_in : State → List MergedObject → ℕ
+hosts_in state objects = count_by (is_host_in state) objects
+
+abbrev pub services_in : State → List MergedObject → ℕ
+services_in state objects = count_by (is_service_in state) objects
+
+-- the counts of objects: by kind and state, and by mark
+abbrev pub counts_of : List MergedObject → Counts
+counts_of objects = record {
+  up = hosts_in Up objects;
+  down = hosts_in Down objects;
+  unreachable = hosts_in Unreachable objects;
+  host_pending = hosts_in Pending objects;
+  ok = services_in Ok objects;
+  warning = services_in Warning objects;
+  critical = services_in Critical objects;
+  unknown = services_in Unknown objects;
+  service_pending = services_in Pending objects;
+  stale = count_by (λ object. object.row.stale) objects;
+  unhandled = count_by (λ object. is_unhandled object.row) objects;
+  acknowledged = count_by (λ object. is_made object.row.acknowledgement) objects;
+  in_downtime = count_by (λ object. nat_lt 0 object.row.depth) objects;
+  objects = length objects;
+}

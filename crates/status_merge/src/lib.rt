@@ -1,0 +1,20 @@
+//! The status pages of several gateways as one list of objects, comments and downtime entries:
+//! merged, counted, and chosen by the query of a request.
+#![tactic(auto)]
+
+mod counts;
+mod entries;
+mod gateway;
+mod groups;
+mod merging;
+mod query;
+mod ranks;
+mod selecting;
+
+pub use counts::{Counts, count};
+pub use entries::{CommentLine, DowntimeLine, Origin, merge_comments, merge_downtimes};
+pub use gateway::{Gateway, MergedObject, PageFault};
+pub use merging::merge;
+pub use query::{Choice, Query, choice_name, read_query};
+pub use ranks::{is_unhandled, rank};
+pub use selecting::{select, takes_host};

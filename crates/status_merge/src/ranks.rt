@@ -1,0 +1,76 @@
+ghost use Rattle.std.specs.Prelude.{◌≡◌, ◌+◌};
+ghost use Rattle.status_merge.specs.Ranks.{is_made, is_unhandled, severity, state_number, same_state, rank};
+
+use status_reading::{ShownAcknowledgement, ShownObject, State};
+
+fn state_number(state: State) -> u32
+    ensures { result ≡ state_number state }
+{
+    match state {
+        State::Pending => 0,
+        State::Ok => 1,
+        State::Warning => 2,
+        State::Critical => 3,
+        State::Unknown => 4,
+        State::Up => 5,
+        State::Down => 6,
+        State::Unreachable => 7,
+    }
+}
+
+/// Whether two states are one.
+pub(crate) fn same_state(one: State, other: State) -> bool
+    ensures { result ≡ same_state one other }
+{
+    state_number(one) == state_number(other)
+}
+
+/// Whether there is an acknowledgement.
+pub(crate) fn is_made(acknowledgement: ShownAcknowledgement) -> bool
+    ensures { result ≡ is_made acknowledgement }
+{
+    match acknowledgement {
+        ShownAcknowledgement::Missing => false,
+        ShownAcknowledgement::Normal | ShownAcknowledgement::Sticky => true,
+    }
+}
+
+/// Whether an object is a problem without an acknowledgement and in no downtime.
+pub fn is_unhandled(row: &ShownObject<'_>) -> bool
+    ensures { result ≡ is_unhandled row.now }
+{
+    row.state.is_problem() && !is_made(row.acknowledgement) && row.depth == 0
+}
+
+// The rank of a problem among problems, and that of a handled one.
+fn severity(state: State) -> (u32, u32)
+    ensures { (result.0 ≡ severity state) × (result.1 ≡ severity state + 5) }
+{
+    match state {
+        State::Down | State::Critical => (0, 5),
+        State::Unreachable => (1, 6),
+        State::Unknown => (2, 7),
+        State::Warning | State::Pending | State::Ok | State::Up => (3, 8),
+    }
+}
+
+/// The rank of an object, from 0, the most urgent, to 10.
+///
+/// Unhandled problems: DOWN and CRITICAL 0, UNREACHABLE 1, UNKNOWN 2, WARNING 3. A stale object
+/// that is no problem: 4. Handled problems, in the same order: 5 to 8. PENDING 9, OK and UP 10. Own
+/// rule.
+pub fn rank(row: &ShownObject<'_>) -> u32
+    ensures { result ≡ rank row.now }
+{
+    if is_unhandled(row) {
+        severity(row.state).0
+    } else if row.state.is_problem() {
+        severity(row.state).1
+    } else if row.stale {
+        4
+    } else if same_state(row.state, State::Pending) {
+        9
+    } else {
+        10
+    }
+}

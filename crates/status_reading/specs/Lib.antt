@@ -1,0 +1,7 @@
+pub mod Rows
+pub mod Page
+pub mod Readable
+pub mod Faults
+pub mod Board
+pub mod Gateway
+pub mod inner

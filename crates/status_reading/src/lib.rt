@@ -1,0 +1,14 @@
+//! Reads the text of a gateway's status page into rows. What is read, written again, is the page
+//! byte for byte; any other text is refused whole, with the number of its first bad line.
+#![tactic(auto)]
+
+mod cuts;
+mod lines;
+mod page;
+mod rows;
+mod words;
+
+pub use gate_model::State;
+pub use page::{ReadFault, StatusPage, read_status_page};
+pub use rows::{ShownAcknowledgement, ShownComment, ShownDowntime, ShownObject, ShownSource};
+pub use words::state_name;

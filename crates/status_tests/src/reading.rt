@@ -1,0 +1,56 @@
+use status_reading::{ReadFault, ShownAcknowledgement, ShownSource, State, read_status_page};
+use std::test::Fail;
+
+#[test]
+fn objects_are_read(rt: HostRuntime) -> Result<(), Fail> {
+    let text =
+        b"status 1260\nobject;web1;HTTP;CRITICAL;1250;stale;sticky;1;timeout; 10s\nclosing;9\n";
+    let page = read_status_page(rt.alloc(), text)?;
+    assert_eq!(rt; page.objects.len(), 1);
+    let row = page.objects[0];
+    assert_eq!(rt; row.state, State::Critical);
+    assert!(rt; row.stale);
+    assert_eq!(rt; row.acknowledgement, ShownAcknowledgement::Sticky);
+    assert_eq!(rt; row.output, b"timeout; 10s".as_slice());
+    assert_eq!(rt; page.closing, Some(9));
+    Ok(())
+}
+
+#[test]
+fn comments_are_read(rt: HostRuntime) -> Result<(), Fail> {
+    let text = b"status 7\ncomment;3;web1;HTTP;ack;0;1255;ann;on it\n";
+    let page = read_status_page(rt.alloc(), text)?;
+    assert_eq!(rt; page.comments.len(), 1);
+    assert_eq!(rt; page.comments[0].source, ShownSource::Acknowledgement);
+    assert_eq!(rt; page.comments[0].author, b"ann".as_slice());
+    Ok(())
+}
+
+#[test]
+fn downtimes_are_read(rt: HostRuntime) -> Result<(), Fail> {
+    let text = b"status 7\ndowntime;1;web1;;flexible;0;12;13;50;-;bob;reboot\n";
+    let page = read_status_page(rt.alloc(), text)?;
+    assert_eq!(rt; page.downtimes.len(), 1);
+    assert_eq!(rt; page.downtimes[0].duration, 50);
+    assert_eq!(rt; page.downtimes[0].begin, None);
+    Ok(())
+}
+
+#[test]
+fn faults_are_found(rt: HostRuntime) -> Result<(), Fail> {
+    for (text, fault) in [
+        (b"status 007\n".as_slice(), ReadFault::NoStatus),
+        (
+            b"status 7\nobject;web1;;UP;-;fresh;-;0\n".as_slice(),
+            ReadFault::BadLine(2),
+        ),
+        (
+            b"status 7\nobject;web1;;UP;-;fresh;-;0;".as_slice(),
+            ReadFault::BadLine(2),
+        ),
+        (b"status 7\nclosing;8\n\n".as_slice(), ReadFault::BadLine(3)),
+    ] {
+        assert_eq!(rt; read_status_page(rt.alloc(), text).err(), Some(fault));
+    }
+    Ok(())
+}

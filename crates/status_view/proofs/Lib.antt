@@ -1,0 +1,3 @@
+pub mod CalendarSteps
+pub mod LayoutSteps
+pub mod FillingSteps

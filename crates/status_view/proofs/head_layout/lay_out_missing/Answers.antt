@@ -1,0 +1,10 @@
+use Rattle.std.proofs.Common.{append_assoc, ◌++◌}
+use Rattle.status_view.specs.HeadLayout.{missing_nodes}
+use Rattle.status_view.proofs.LayoutSteps.{ended}
+use Rattle.status_view.proofs.head_layout.lay_out_missing.Goals as goal
+
+pub returns : goal.returns
+unfolding missing_nodes
+returns c =
+    ended c.put.result _ _ (c.args.layout.now ++ missing_nodes c.args.index c.args.fault) c.put.ensures
+    (rw c.in_ok-begin_alarm.ensures (simp (append_assoc, c.cause.ensures)))

@@ -1,0 +1,13 @@
+use Rattle.std.proofs.Common.{refl}
+use Rattle.status_view.proofs.html.shape_of.Goals as goal
+
+pub returns : goal.returns
+returns c =
+    rw (
+      c.is_empty.ensures,
+      c.count.ensures,
+      c.in_ok-gateway_shapes.ensures,
+      c.in_ok-object_shapes.ensures,
+      c.in_ok-comment_shapes.ensures,
+      c.in_ok-downtime_shapes.ensures,
+    ) refl

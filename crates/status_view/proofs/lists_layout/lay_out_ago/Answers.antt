@@ -1,0 +1,10 @@
+use Rattle.std.proofs.Common.{append_assoc, ◌++◌}
+use Rattle.status_view.specs.ListsLayout.{ago_nodes}
+use Rattle.status_view.proofs.LayoutSteps.{ended}
+use Rattle.status_view.proofs.lists_layout.lay_out_ago.Goals as goal
+
+pub returns : goal.returns
+unfolding ago_nodes
+returns c =
+    ended c.put-2.result _ _ (c.args.layout.now ++ ago_nodes c.args.moment c.args.begin) c.put-2.ensures
+    (rw (c.in_ok-lay_out_span.ensures, c.in_ok-put.ensures) (simp (append_assoc, c.saturating_sub.ensures)))

@@ -1,0 +1,16 @@
+use Rattle.std.proofs.Common.{append_assoc, ◌++◌}
+use Rattle.status_view.specs.SummaryLayout.{all_nodes}
+use Rattle.status_view.specs.Shapes.{shape_view}
+use Rattle.status_view.proofs.LayoutSteps.{ended}
+use Rattle.status_view.proofs.summary_layout.lay_out_all.Goals as goal
+
+pub returns : goal.returns
+unfolding all_nodes
+returns c =
+    ended c.put-2.result _ _ (c.args.layout.now ++ all_nodes (shape_view c.args.shape.now)) c.put-2.ensures
+    (rw (
+      c.in_ok-lay_out_tile-3.ensures,
+      c.in_ok-lay_out_tile-2.ensures,
+      c.in_ok-lay_out_tile.ensures,
+      c.in_ok-put.ensures,
+    ) (simp append_assoc))

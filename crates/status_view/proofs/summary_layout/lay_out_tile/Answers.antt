@@ -1,0 +1,22 @@
+use Rattle.std.proofs.Common.{append_assoc, ◌++◌}
+use Rattle.status_view.specs.SummaryLayout.{tile_nodes}
+use Rattle.status_view.specs.Shapes.{shape_view}
+use Rattle.status_view.proofs.LayoutSteps.{ended}
+use Rattle.status_view.proofs.summary_layout.lay_out_tile.Goals as goal
+
+pub returns : goal.returns
+unfolding tile_nodes
+returns c =
+    ended c.put-3.result _ _
+    (c.args.layout.now ++ tile_nodes (shape_view c.args.shape.now) c.args.choice c.args.name.now c.args.count)
+    c.put-3.ensures
+    (rw (
+      c.in_ok-lay_out_kept.ensures,
+      c.in_ok-put-2.ensures,
+      c.in_ok-put_if-2.ensures,
+      c.in_ok-put_if.ensures,
+      c.in_ok-put.ensures,
+      c.choice_name.ensures.word,
+      c.choice_name-2.ensures.word,
+      c.same_choice.ensures,
+    ) (simp append_assoc))

@@ -1,0 +1,95 @@
+-- The head of a page: `document_nodes`, `title_nodes` and `alarms_nodes`. Own rules.
+use Rattle.std.specs.Prelude.{ℕ, ◌-◌, Bool, nat_lt, List, [], ◌∷◌, ◌++◌, Ok, Err, codes}
+use Rattle.status_merge.specs.declared.gateway.PageFault.{PageFault}
+use Rattle.status_merge.specs.Causes.{cause}
+use Rattle.status_view.specs.declared.layout.Slot.TheVariants as slot
+use Rattle.status_view.specs.declared.shape.GatewayShape.{GatewayShape}
+use Rattle.status_view.specs.Layout.{NodeView, Markup, Number, Text, nodes_if, each_indexed}
+use Rattle.status_view.specs.Times.{span_nodes, moment_nodes}
+
+-- ---- the document's head
+
+-- the browser asks again after these seconds; never where they are 0
+unfoldable pub refresh_nodes : ℕ → List NodeView
+refresh_nodes seconds =
+    nodes_if (nat_lt 0 seconds)
+    (Markup (codes "<meta http-equiv=\"refresh\" content=\"") ∷ Number seconds ∷ Markup (codes "\">") ∷ [])
+
+-- the count of unhandled problems, where there are some
+unfoldable pub unhandled_nodes : ℕ → List NodeView
+unhandled_nodes count = nodes_if (nat_lt 0 count) (Markup (codes "(") ∷ Number count ∷ Markup (codes ") ") ∷ [])
+
+-- the head, by the seconds of refresh and the count of unhandled problems
+unfoldable pub document_nodes : ℕ → ℕ → List NodeView
+document_nodes refresh unhandled =
+    (Markup (codes "<!DOCTYPE html>\n<html lang=\"en\"><head><meta charset=\"utf-8\">") ∷ [])
+    ++ (Markup (codes "<meta name=\"viewport\" content=\"width=device-width,initial-scale=1\">") ∷ [])
+    ++ refresh_nodes refresh
+    ++ (Markup (codes "<link rel=\"stylesheet\" href=\"/style.css\"><title>") ∷ [])
+    ++ unhandled_nodes unhandled
+    ++ (Text slot.Title ∷ Markup (codes "</title></head>\n<body><main>\n") ∷ [])
+
+-- ---- the title, and the moment of each gateway's page
+
+-- a gateway, and the moment of its page
+unfoldable pub page_moment_nodes : ℕ → ℕ → List NodeView
+page_moment_nodes index moment =
+    (Markup (codes "<p>") ∷ Text (slot.Gateway index) ∷ Markup (codes " at ") ∷ [])
+    ++ moment_nodes moment
+    ++ (Markup (codes "</p>") ∷ [])
+
+-- nothing where the gateway shows no page
+unfoldable pub gateway_nodes : ℕ → GatewayShape → List NodeView
+gateway_nodes index gateway = elim gateway.moment [
+  | Ok moment ↦ page_moment_nodes index moment
+  | Err fault ↦ []
+]
+
+unfoldable pub title_nodes : List GatewayShape → List NodeView
+title_nodes gateways =
+    (Markup (codes "<header><h1><a href=\"/\">") ∷ Text slot.Title ∷ Markup (codes "</a></h1>") ∷ [])
+    ++ each_indexed gateway_nodes gateways
+    ++ (Markup (codes "</header>\n") ∷ [])
+
+-- ---- alarms
+
+-- the beginning of an alarm about the gateway of this index
+unfoldable pub alarm_begin : ℕ → List NodeView
+alarm_begin index =
+    Markup (codes "<p class=\"alarm\"><strong>Gateway ") ∷ Text (slot.Gateway index) ∷ Markup (codes "</strong> ") ∷ []
+
+-- it shows no status, for this cause
+unfoldable pub missing_nodes : ℕ → PageFault → List NodeView
+missing_nodes index fault =
+    alarm_begin index
+    ++ (Markup (codes "shows no status: ")
+    ∷ Markup (cause fault)
+    ∷ Markup (codes ". Its objects are missing below, or are as another gateway has them.</p>\n")
+    ∷ [])
+
+-- it is closing
+unfoldable pub closing_nodes : ℕ → List NodeView
+closing_nodes index = alarm_begin index ++ (Markup (codes "is closing.</p>\n") ∷ [])
+
+-- its page is this many seconds old
+unfoldable pub still_nodes : ℕ → ℕ → List NodeView
+still_nodes index age =
+    alarm_begin index
+    ++ (Markup (codes "stands still: its page is ") ∷ [])
+    ++ span_nodes age
+    ++ (Markup (codes " old. Its log may be full.</p>\n") ∷ [])
+
+-- the alarms about a gateway that shows its page; it stands still where the page is more than 60 seconds old
+unfoldable pub page_alarms : ℕ → Bool → ℕ → List NodeView
+page_alarms index is_closing age =
+    nodes_if is_closing (closing_nodes index) ++ nodes_if (nat_lt 60 age) (still_nodes index age)
+
+-- the alarms about a gateway, at this clock
+unfoldable pub alarms_of : ℕ → ℕ → GatewayShape → List NodeView
+alarms_of clock index gateway = elim gateway.moment [
+  | Ok moment ↦ page_alarms index gateway.is_closing (clock - moment)
+  | Err fault ↦ missing_nodes index fault
+]
+
+abbrev pub alarms_nodes : ℕ → List GatewayShape → List NodeView
+alarms_nodes clock gateways = each_indexed (alarms_of clock) gateways

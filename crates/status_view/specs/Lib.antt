@@ -1,0 +1,10 @@
+pub mod Calendar
+pub mod Shapes
+pub mod Layout
+pub mod Times
+pub mod HeadLayout
+pub mod SummaryLayout
+pub mod ObjectsLayout
+pub mod ListsLayout
+pub mod Page
+pub mod Filling

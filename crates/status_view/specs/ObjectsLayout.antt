@@ -1,0 +1,88 @@
+-- The list of objects: `objects_nodes`, and the row of an object: `object_nodes`. Own rules.
+use Rattle.std.specs.Prelude.{ℕ, ◌-◌, Bool, not, nat_lt, List, [], ◌∷◌, ◌++◌, length, Option, Some, None, codes}
+use Rattle.gate_pages.specs.StatusPage.{state_name}
+use Rattle.status_reading.specs.declared.rows.ShownAcknowledgement.{ShownAcknowledgement}
+use Rattle.status_reading.specs.declared.rows.ShownAcknowledgement.TheVariants.{Missing, Normal, Sticky}
+use Rattle.status_merge.specs.declared.query.Choice.TheVariants.{In}
+use Rattle.status_merge.specs.Asking.{choice_word}
+use Rattle.status_view.specs.declared.layout.Slot.TheVariants as slot
+use Rattle.status_view.specs.declared.layout.ObjectText.TheVariants as text
+use Rattle.status_view.specs.declared.shape.ObjectShape.{ObjectShape}
+use Rattle.status_view.specs.Layout.{NodeView, Markup, Number, Text, nodes_if, each_indexed}
+use Rattle.status_view.specs.Times.{span_nodes, moment_nodes}
+use Rattle.status_view.specs.Shapes.{PageShapeView}
+
+-- the name of the object of this index: its host, with the link to the host's objects, and its service where it is one
+unfoldable pub object_name_nodes : ℕ → Bool → List NodeView
+object_name_nodes index is_host =
+    (Markup (codes "<td class=\"name\"><a href=\"/?host=")
+    ∷ Text (slot.Object index text.HostInLink)
+    ∷ Markup (codes "\">")
+    ∷ Text (slot.Object index text.Host)
+    ∷ Markup (codes "</a>")
+    ∷ [])
+    ++ nodes_if (not is_host)
+    (Markup (codes " <span class=\"soft\">/</span> ") ∷ Text (slot.Object index text.Service) ∷ [])
+    ++ (Markup (codes "</td>") ∷ [])
+
+-- the mark of an acknowledgement
+unfoldable pub acknowledgement_nodes : ShownAcknowledgement → List NodeView
+acknowledgement_nodes Missing = []
+acknowledgement_nodes Normal = Markup (codes "<span class=\"badge\">acknowledged</span> ") ∷ []
+acknowledgement_nodes Sticky = Markup (codes "<span class=\"badge\">acknowledged, sticky</span> ") ∷ []
+
+-- the marks: stale, acknowledged, and in how many downtime entries
+unfoldable pub marks_nodes : ObjectShape → List NodeView
+marks_nodes row =
+    (Markup (codes "<td class=\"cell\">") ∷ [])
+    ++ nodes_if row.stale (Markup (codes "<span class=\"badge stale\">stale</span> ") ∷ [])
+    ++ acknowledgement_nodes row.acknowledgement
+    ++ nodes_if (nat_lt 0 row.depth)
+    (Markup (codes "<span class=\"badge\">downtime ") ∷ Number row.depth ∷ Markup (codes "</span>") ∷ [])
+    ++ (Markup (codes "</td>") ∷ [])
+
+-- the age of the last result at the moment of the page, with its moment
+unfoldable pub last_nodes : ℕ → ℕ → List NodeView
+last_nodes moment last =
+    (Markup (codes "<td class=\"num cell\" title=\"") ∷ [])
+    ++ moment_nodes last
+    ++ (Markup (codes "\">") ∷ [])
+    ++ span_nodes (moment - last)
+    ++ (Markup (codes " ago</td>") ∷ [])
+
+unfoldable pub age_nodes : ℕ → Option ℕ → List NodeView
+age_nodes moment None = Markup (codes "<td class=\"num cell soft\">never</td>") ∷ []
+age_nodes moment (Some last) = last_nodes moment last
+
+-- the row of the object of this index; with the gateway where the page shows several
+unfoldable pub object_nodes : Bool → ℕ → ObjectShape → List NodeView
+object_nodes several index row =
+    (Markup (codes "<tr class=\"") ∷ Markup (choice_word (In row.state)) ∷ [])
+    ++ nodes_if (not row.is_unhandled) (Markup (codes " handled") ∷ [])
+    ++ (Markup (codes "\"><td class=\"cell\"><span class=\"badge state\">")
+    ∷ Markup (state_name row.state)
+    ∷ Markup (codes "</span></td>")
+    ∷ [])
+    ++ object_name_nodes index row.is_host
+    ++ marks_nodes row
+    ++ age_nodes row.moment row.last
+    ++ (Markup (codes "<td class=\"out\">") ∷ Text (slot.Object index text.Output) ∷ [])
+    ++ nodes_if several
+    (Markup (codes "</td><td class=\"cell soft\" data-name=\"at\">") ∷ Text (slot.Object index text.Gateway) ∷ [])
+    ++ (Markup (codes "</td></tr>\n") ∷ [])
+
+-- the list, with how many objects it has, and how many there are
+unfoldable pub objects_nodes : PageShapeView → List NodeView
+objects_nodes shape =
+    let several = nat_lt 1 (length shape.gateways) in
+    (Markup (codes "<h2>Hosts and services</h2><p class=\"soft\">")
+    ∷ Number (length shape.objects)
+    ∷ Markup (codes " of ")
+    ∷ Number shape.counts.objects
+    ∷ Markup (codes " shown</p>\n<table><thead><tr><th>State</th><th>Object</th><th>Marks</th>")
+    ∷ Markup (codes "<th>Last result</th><th>Output</th>")
+    ∷ [])
+    ++ nodes_if several (Markup (codes "<th>Gateway</th>") ∷ [])
+    ++ (Markup (codes "</tr></thead><tbody>\n") ∷ [])
+    ++ each_indexed (object_nodes several) shape.objects
+    ++ (Markup (codes "</tbody></table>\n") ∷ [])

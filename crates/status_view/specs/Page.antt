@@ -1,0 +1,28 @@
+-- The page of a shape: `page_nodes`. Its markup and its numbers are those of the shape alone.
+use Rattle.std.specs.Prelude.{ℕ, List, [], ◌∷◌, ◌++◌, codes}
+use Rattle.status_view.specs.Layout.{NodeView, Markup}
+use Rattle.status_view.specs.Shapes.{PageShapeView}
+use Rattle.status_view.specs.HeadLayout.{document_nodes, title_nodes, alarms_nodes}
+use Rattle.status_view.specs.SummaryLayout.{summary_nodes, form_nodes}
+use Rattle.status_view.specs.ObjectsLayout.{objects_nodes}
+use Rattle.status_view.specs.ListsLayout.{comments_nodes, downtimes_nodes}
+
+-- what stands before the lists
+unfoldable pub head_nodes : PageShapeView → List NodeView
+head_nodes shape =
+    document_nodes shape.refresh shape.counts.unhandled
+    ++ title_nodes shape.gateways
+    ++ alarms_nodes shape.clock shape.gateways
+    ++ summary_nodes shape
+    ++ form_nodes shape
+
+-- the whole page
+unfoldable pub page_nodes : PageShapeView → List NodeView
+page_nodes shape =
+    head_nodes shape
+    ++ objects_nodes shape
+    ++ comments_nodes shape.comments
+    ++ downtimes_nodes shape.downtimes
+    ++ (Markup (codes "<footer><a href=\"/status.json\">status.json</a> &middot; ")
+    ∷ Markup (codes "<a href=\"/metrics\">metrics</a></footer>\n</main></body></html>\n")
+    ∷ [])

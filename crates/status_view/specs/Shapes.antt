@@ -1,0 +1,150 @@
+-- What decides the markup of a page: `page_shape`. A shape has states, marks, moments, counts and ids, and no text.
+use Rattle.std.specs.Prelude.{ℕ, Bool, false, not, ◌==◌, List, map, length, string_len, Option, is_some, Result, Ok, Err}
+use Rattle.status_reading.specs.declared.rows.ShownSource.{ShownSource}
+use Rattle.status_merge.specs.declared.gateway.Gateway.{Gateway}
+use Rattle.status_merge.specs.declared.gateway.MergedObject.{MergedObject}
+use Rattle.status_merge.specs.declared.entries.CommentLine.{CommentLine}
+use Rattle.status_merge.specs.declared.entries.DowntimeLine.{DowntimeLine}
+use Rattle.status_merge.specs.declared.counts.Counts.{Counts}
+use Rattle.status_merge.specs.declared.query.Choice.{Choice}
+use Rattle.status_merge.specs.Ranks.{is_unhandled, counts_of}
+use Rattle.status_view.specs.declared.shape.GatewayShape.{GatewayShape}
+use Rattle.status_view.specs.declared.shape.ObjectShape.{ObjectShape}
+use Rattle.status_view.specs.declared.shape.CommentShape.{CommentShape}
+use Rattle.status_view.specs.declared.shape.DowntimeShape.{DowntimeShape}
+use Rattle.status_view.specs.declared.shape.PageShape.{PageShape}
+use Rattle.status_view.specs.declared.view.View.{View}
+
+-- ---- shapes as plain values
+
+-- a comment's, with its id at each gateway that has it
+pub record CommentShapeView : Type 0 where
+  pub is_host : Bool
+  pub source : ShownSource
+  pub persistent : Bool
+  pub moment : ℕ
+  pub ids : List ℕ
+
+-- a downtime entry's, with its id at each gateway that has it; `moment` is that of the page
+pub record DowntimeShapeView : Type 0 where
+  pub is_host : Bool
+  pub fixed : Bool
+  pub trigger : ℕ
+  pub start : ℕ
+  pub end : ℕ
+  pub duration : ℕ
+  pub begin : Option ℕ
+  pub moment : ℕ
+  pub ids : List ℕ
+
+-- a page's
+pub record PageShapeView : Type 0 where
+  pub clock : ℕ
+  pub choice : Choice
+  pub refresh : ℕ
+  pub keeps_refresh : Bool
+  pub keeps_host : Bool
+  pub counts : Counts
+  pub gateways : List GatewayShape
+  pub objects : List ObjectShape
+  pub comments : List CommentShapeView
+  pub downtimes : List DowntimeShapeView
+
+-- ---- the values of the program's shapes
+
+abbrev pub comment_shape_view : CommentShape → CommentShapeView
+comment_shape_view shape = record {
+  is_host = shape.is_host;
+  source = shape.source;
+  persistent = shape.persistent;
+  moment = shape.moment;
+  ids = shape.ids.items;
+}
+
+abbrev pub downtime_shape_view : DowntimeShape → DowntimeShapeView
+downtime_shape_view shape = record {
+  is_host = shape.is_host;
+  fixed = shape.fixed;
+  trigger = shape.trigger;
+  start = shape.start;
+  end = shape.end;
+  duration = shape.duration;
+  begin = shape.begin;
+  moment = shape.moment;
+  ids = shape.ids.items;
+}
+
+abbrev pub shape_view : PageShape → PageShapeView
+shape_view shape = record {
+  clock = shape.clock;
+  choice = shape.choice;
+  refresh = shape.refresh;
+  keeps_refresh = shape.keeps_refresh;
+  keeps_host = shape.keeps_host;
+  counts = shape.counts;
+  gateways = shape.gateways.items;
+  objects = shape.objects.items;
+  comments = map comment_shape_view shape.comments.items;
+  downtimes = map downtime_shape_view shape.downtimes.items;
+}
+
+-- ---- the shape of what is shown
+
+-- the shape of a gateway's lines
+abbrev pub gateway_shape : Gateway → GatewayShape
+gateway_shape gateway = elim gateway.page [
+  | Ok page ↦ record { moment = Ok page.moment; is_closing = is_some page.closing }
+  | Err fault ↦ record { moment = Err fault; is_closing = false }
+]
+
+-- the shape of an object's row
+abbrev pub object_shape : MergedObject → ObjectShape
+object_shape object = record {
+  is_host = length object.row.service.now == 0;
+  state = object.row.state;
+  last = object.row.last;
+  stale = object.row.stale;
+  acknowledgement = object.row.acknowledgement;
+  depth = object.row.depth;
+  is_unhandled = is_unhandled object.row;
+  moment = object.moment;
+}
+
+-- the shape of a comment's row
+abbrev pub comment_shape : CommentLine → CommentShapeView
+comment_shape line = record {
+  is_host = length line.row.service.now == 0;
+  source = line.row.source;
+  persistent = line.row.persistent;
+  moment = line.row.moment;
+  ids = map (λ origin. origin.id) line.origins.items;
+}
+
+-- the shape of a downtime entry's row
+abbrev pub downtime_shape : DowntimeLine → DowntimeShapeView
+downtime_shape line = record {
+  is_host = length line.row.service.now == 0;
+  fixed = line.row.fixed;
+  trigger = line.row.trigger;
+  start = line.row.start;
+  end = line.row.end;
+  duration = line.row.duration;
+  begin = line.row.begin;
+  moment = line.moment;
+  ids = map (λ origin. origin.id) line.origins.items;
+}
+
+-- the shape of a page: the counts are those of all objects, and the rows those of the objects that the query selects
+abbrev pub page_shape : View → PageShapeView
+page_shape view = record {
+  clock = view.clock;
+  choice = view.query.now.choice;
+  refresh = view.query.now.refresh;
+  keeps_refresh = not (view.query.now.refresh == view.refresh);
+  keeps_host = not (string_len view.query.now.host == 0);
+  counts = counts_of view.all.now;
+  gateways = map gateway_shape view.gateways.now;
+  objects = map object_shape view.objects.now;
+  comments = map comment_shape view.comments.now;
+  downtimes = map downtime_shape view.downtimes.now;
+}

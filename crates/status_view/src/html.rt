@@ -1,0 +1,165 @@
+ghost use Rattle.std.specs.Prelude.{◌≡◌, map, IfOk};
+ghost use Rattle.status_view.specs.declared.view.View.{View as Shown};
+ghost use Rattle.status_view.specs.Shapes.{comment_shape_view, downtime_shape_view, shape_view, gateway_shape, object_shape, comment_shape, downtime_shape, page_shape};
+ghost use Rattle.status_view.specs.Page.{page_nodes};
+ghost use Rattle.status_view.specs.Filling.{filled, without_texts};
+
+use crate::filling::fill;
+use crate::shape::{CommentShape, DowntimeShape, GatewayShape, ObjectShape, PageShape, lay_out};
+use crate::view::View;
+use html_text::Html;
+use status_merge::{CommentLine, DowntimeLine, Gateway, MergedObject, Origin, count, is_unhandled};
+use std::alloc::{AllocError, Global};
+
+fn gateway_shape(gateway: &Gateway<'_>) -> GatewayShape
+    ensures { result ≡ gateway_shape gateway.now }
+{
+    match &gateway.page {
+        Ok(page) => GatewayShape {
+            moment: Ok(page.moment),
+            is_closing: page.closing.is_some(),
+        },
+        Err(fault) => GatewayShape {
+            moment: Err(*fault),
+            is_closing: false,
+        },
+    }
+}
+
+fn object_shape(shown: &MergedObject<'_>) -> ObjectShape
+    ensures { result ≡ object_shape shown.now }
+{
+    let row = &shown.row;
+    ObjectShape {
+        is_host: row.service.is_empty(),
+        state: row.state,
+        last: row.last,
+        stale: row.stale,
+        acknowledgement: row.acknowledgement,
+        depth: row.depth,
+        is_unhandled: is_unhandled(row),
+        moment: shown.moment,
+    }
+}
+
+fn ids_of(alloc: Global, origins: &[Origin<'_>]) -> Result<Vec<u32>, AllocError>
+    ensures { IfOk result (λ ids. ids.items ≡ map (λ origin. origin.id) origins.now) }
+{
+    let mut ids = Vec::new(alloc);
+    for origin in origins {
+        ids.push(origin.id)?;
+    }
+    Ok(ids)
+}
+
+fn comment_shape(alloc: Global, line: &CommentLine<'_>) -> Result<CommentShape, AllocError>
+    ensures { IfOk result (λ shape. comment_shape_view shape ≡ comment_shape line.now) }
+{
+    Ok(CommentShape {
+        is_host: line.row.service.is_empty(),
+        source: line.row.source,
+        persistent: line.row.persistent,
+        moment: line.row.moment,
+        ids: ids_of(alloc, line.origins.as_slice())?,
+    })
+}
+
+fn downtime_shape(alloc: Global, line: &DowntimeLine<'_>) -> Result<DowntimeShape, AllocError>
+    ensures { IfOk result (λ shape. downtime_shape_view shape ≡ downtime_shape line.now) }
+{
+    let row = &line.row;
+    Ok(DowntimeShape {
+        is_host: row.service.is_empty(),
+        fixed: row.fixed,
+        trigger: row.trigger,
+        start: row.start,
+        end: row.end,
+        duration: row.duration,
+        begin: row.begin,
+        moment: line.moment,
+        ids: ids_of(alloc, line.origins.as_slice())?,
+    })
+}
+
+fn object_shapes(
+    alloc: Global,
+    objects: &[MergedObject<'_>],
+) -> Result<Vec<ObjectShape>, AllocError>
+    ensures { IfOk result (λ shapes. shapes.items ≡ map object_shape objects.now) }
+{
+    let mut shapes = Vec::new(alloc);
+    for object in objects {
+        shapes.push(object_shape(object))?;
+    }
+    Ok(shapes)
+}
+
+fn gateway_shapes(alloc: Global, gateways: &[Gateway<'_>]) -> Result<Vec<GatewayShape>, AllocError>
+    ensures { IfOk result (λ shapes. shapes.items ≡ map gateway_shape gateways.now) }
+{
+    let mut shapes = Vec::new(alloc);
+    for gateway in gateways {
+        shapes.push(gateway_shape(gateway))?;
+    }
+    Ok(shapes)
+}
+
+fn comment_shapes(alloc: Global, lines: &[CommentLine<'_>]) -> Result<Vec<CommentShape>, AllocError>
+    ensures { IfOk result (λ shapes.
+        map comment_shape_view shapes.items ≡ map comment_shape lines.now) }
+{
+    let mut shapes = Vec::new(alloc);
+    for line in lines {
+        shapes.push(comment_shape(alloc, line)?)?;
+    }
+    Ok(shapes)
+}
+
+fn downtime_shapes(
+    alloc: Global,
+    lines: &[DowntimeLine<'_>],
+) -> Result<Vec<DowntimeShape>, AllocError>
+    ensures { IfOk result (λ shapes.
+        map downtime_shape_view shapes.items ≡ map downtime_shape lines.now) }
+{
+    let mut shapes = Vec::new(alloc);
+    for line in lines {
+        shapes.push(downtime_shape(alloc, line)?)?;
+    }
+    Ok(shapes)
+}
+
+/// What decides the markup of a page. The counts are those of all objects, whatever the query
+/// selects. The only error is out of memory.
+pub fn shape_of(alloc: Global, view: &View<'_>) -> Result<PageShape, AllocError>
+    ensures { IfOk result (λ shape. shape_view shape ≡ page_shape view.entry.now) }
+{
+    Ok(PageShape {
+        clock: view.clock,
+        choice: view.query.choice,
+        refresh: view.query.refresh,
+        keeps_refresh: view.query.refresh != view.refresh,
+        keeps_host: !view.query.host.is_empty(),
+        counts: count(view.all),
+        gateways: gateway_shapes(alloc, view.gateways)?,
+        objects: object_shapes(alloc, view.objects)?,
+        comments: comment_shapes(alloc, view.comments)?,
+        downtimes: downtime_shapes(alloc, view.downtimes)?,
+    })
+}
+
+/// The page for a browser. The only error is out of memory.
+pub fn html_page(alloc: Global, view: &View<'_>) -> Result<Html, AllocError>
+    ensures page { let view = view.entry.now in
+        IfOk result (λ html. html ≡ filled view (page_nodes (page_shape view))) }
+
+    // The texts have no part in the markup: any view of the same shape has a page with the same
+    // markup and the same numbers, and its texts at the same places.
+    ensures shape_alone { let view = view.entry.now in
+        (other : Shown) → page_shape other ≡ page_shape view → IfOk result (λ html.
+        without_texts html ≡ without_texts (filled other (page_nodes (page_shape other)))) }
+{
+    let shape = shape_of(alloc, view)?;
+    let layout = lay_out(alloc, &shape)?;
+    fill(alloc, &layout, view)
+}

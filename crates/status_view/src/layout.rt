@@ -1,0 +1,103 @@
+ghost use Rattle.std.specs.Prelude.{◌≡◌, [], ◌++◌, map, OnOk};
+ghost use Rattle.status_view.specs.Layout.{node_view, nodes_if};
+
+use std::alloc::{AllocError, Global};
+use std::marker::Model;
+
+/// A text of an object's row.
+#[derive(Clone, Copy)]
+pub enum ObjectText {
+    Host,
+    /// The host's name as a value in a URL's query.
+    HostInLink,
+    Service,
+    Output,
+    /// The name of its gateway.
+    Gateway,
+}
+
+/// A text of a comment's row, or of a downtime entry's.
+#[derive(Clone, Copy)]
+pub enum EntryText {
+    Host,
+    Service,
+    Author,
+    Text,
+}
+
+/// The text that a slot of a page is filled with.
+#[derive(Clone, Copy)]
+pub enum Slot {
+    Title,
+    /// The text of the query's host.
+    HostAsked,
+    /// The same, as a value in a URL's query.
+    HostInLink,
+    /// The name of the gateway of this index.
+    Gateway(usize),
+    /// Of the object of this index among those shown.
+    Object(usize, ObjectText),
+    /// Of the comment of this index.
+    Comment(usize, EntryText),
+    /// The name of the gateway of the second index among those that have the comment.
+    CommentGateway(usize, usize),
+    /// Of the downtime entry of this index.
+    Downtime(usize, EntryText),
+    /// The name of the gateway of the second index among those that have the downtime entry.
+    DowntimeGateway(usize, usize),
+}
+
+/// A part of a page: markup, a number, or a slot for a text.
+#[derive(Clone, Copy)]
+pub enum Node {
+    Markup(&'static str),
+    Number(u64),
+    Slot(Slot),
+}
+
+/// The parts of a page, in order.
+#[derive(Drop)]
+pub struct Layout {
+    nodes: Vec<Node>,
+}
+
+impl Model for Layout {
+    ghost use Rattle.std.specs.Prelude.{List, map};
+    ghost use Rattle.status_view.specs.Layout.{NodeView, node_view};
+
+    ghost Value = { List NodeView };
+
+    ghost view = { λ layout. map node_view layout.nodes.items };
+}
+
+impl Layout {
+    pub(crate) fn new(alloc: Global) -> Layout
+        ensures { result ≡ [] }
+    {
+        Layout {
+            nodes: Vec::new(alloc),
+        }
+    }
+
+    /// The parts.
+    pub fn nodes(&self) -> &[Node]
+        ensures { map node_view result.now ≡ self.now }
+    {
+        self.nodes.as_slice()
+    }
+
+    /// Appends some parts.
+    pub(crate) fn put(&mut self, nodes: &[Node]) -> Result<(), AllocError>
+        ensures { OnOk result (self.new ≡ self.old ++ map node_view nodes.now) }
+    {
+        self.nodes.extend_from_slice(nodes)
+    }
+
+    /// Appends some parts where the condition holds.
+    pub(crate) fn put_if(&mut self, condition: bool, nodes: &[Node]) -> Result<(), AllocError>
+        ensures { OnOk result (self.new
+            ≡ self.old ++ nodes_if condition (map node_view nodes.now)) }
+    {
+        if condition { self.put(nodes) } else { Ok(()) }
+    }
+}

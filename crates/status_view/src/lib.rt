@@ -1,0 +1,25 @@
+//! The page for a browser: what is shown of the status pages of one or more gateways.
+//!
+//! It is made in two steps. `lay_out` makes its tags from states, marks and numbers alone: it is
+//! given no text. `fill` puts the texts into the slots that it left.
+#![tactic(auto)]
+
+mod calendar;
+mod filling;
+mod head_layout;
+mod html;
+mod layout;
+mod lists_layout;
+mod objects_layout;
+mod shape;
+mod style;
+mod summary_layout;
+mod times;
+mod view;
+
+pub use filling::fill;
+pub use html::{html_page, shape_of};
+pub use layout::{EntryText, Layout, Node, ObjectText, Slot};
+pub use shape::{CommentShape, DowntimeShape, GatewayShape, ObjectShape, PageShape, lay_out};
+pub use style::STYLE;
+pub use view::View;

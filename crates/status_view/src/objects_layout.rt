@@ -1,0 +1,156 @@
+//! The rows of objects.
+
+ghost use Rattle.std.specs.Prelude.{◌≡◌, ◌++◌, OnOk};
+ghost use Rattle.status_view.specs.Layout.{each_indexed};
+ghost use Rattle.status_view.specs.Shapes.{shape_view};
+ghost use Rattle.status_view.specs.ObjectsLayout.{object_name_nodes, acknowledgement_nodes, marks_nodes, last_nodes, age_nodes, object_nodes, objects_nodes};
+
+use crate::layout::{Layout, Node, ObjectText, Slot};
+use crate::shape::{ObjectShape, PageShape};
+use crate::times::{lay_out_moment, lay_out_span};
+use status_merge::{Choice, choice_name};
+use status_reading::{ShownAcknowledgement, state_name};
+use std::alloc::AllocError;
+
+fn lay_out_name(layout: &mut Layout, index: usize, is_host: bool) -> Result<(), AllocError>
+    ensures { OnOk result (layout.new ≡ layout.old ++ object_name_nodes index is_host) }
+{
+    layout.put(&[
+        Node::Markup("<td class=\"name\"><a href=\"/?host="),
+        Node::Slot(Slot::Object(index, ObjectText::HostInLink)),
+        Node::Markup("\">"),
+        Node::Slot(Slot::Object(index, ObjectText::Host)),
+        Node::Markup("</a>"),
+    ])?;
+    layout.put_if(
+        !is_host,
+        &[
+            Node::Markup(" <span class=\"soft\">/</span> "),
+            Node::Slot(Slot::Object(index, ObjectText::Service)),
+        ],
+    )?;
+    layout.put(&[Node::Markup("</td>")])
+}
+
+#[tactic(auto, unfolding(crate::specs::ObjectsLayout::acknowledgement_nodes))]
+fn lay_out_acknowledgement(
+    layout: &mut Layout,
+    acknowledgement: ShownAcknowledgement,
+) -> Result<(), AllocError>
+    ensures { OnOk result (layout.new ≡ layout.old ++ acknowledgement_nodes acknowledgement) }
+{
+    match acknowledgement {
+        ShownAcknowledgement::Missing => Ok(()),
+        ShownAcknowledgement::Normal => {
+            layout.put(&[Node::Markup("<span class=\"badge\">acknowledged</span> ")])
+        }
+        ShownAcknowledgement::Sticky => layout.put(&[Node::Markup(
+            "<span class=\"badge\">acknowledged, sticky</span> ",
+        )]),
+    }
+}
+
+fn lay_out_marks(layout: &mut Layout, row: &ObjectShape) -> Result<(), AllocError>
+    ensures { OnOk result (layout.new ≡ layout.old ++ marks_nodes row.now) }
+{
+    layout.put(&[Node::Markup("<td class=\"cell\">")])?;
+    layout.put_if(
+        row.stale,
+        &[Node::Markup("<span class=\"badge stale\">stale</span> ")],
+    )?;
+    lay_out_acknowledgement(layout, row.acknowledgement)?;
+    layout.put_if(
+        row.depth > 0,
+        &[
+            Node::Markup("<span class=\"badge\">downtime "),
+            Node::Number(u64::from(row.depth)),
+            Node::Markup("</span>"),
+        ],
+    )?;
+    layout.put(&[Node::Markup("</td>")])
+}
+
+fn lay_out_last(layout: &mut Layout, moment: u32, last: u32) -> Result<(), AllocError>
+    ensures { OnOk result (layout.new ≡ layout.old ++ last_nodes moment last) }
+{
+    layout.put(&[Node::Markup("<td class=\"num cell\" title=\"")])?;
+    lay_out_moment(layout, last)?;
+    layout.put(&[Node::Markup("\">")])?;
+    lay_out_span(layout, moment.saturating_sub(last))?;
+    layout.put(&[Node::Markup(" ago</td>")])
+}
+
+#[tactic(auto, unfolding(crate::specs::ObjectsLayout::age_nodes))]
+fn lay_out_age(layout: &mut Layout, moment: u32, last: Option<u32>) -> Result<(), AllocError>
+    ensures { OnOk result (layout.new ≡ layout.old ++ age_nodes moment last) }
+{
+    match last {
+        None => layout.put(&[Node::Markup("<td class=\"num cell soft\">never</td>")]),
+        Some(last) => lay_out_last(layout, moment, last),
+    }
+}
+
+fn lay_out_object(
+    layout: &mut Layout,
+    row: &ObjectShape,
+    index: usize,
+    several: bool,
+) -> Result<(), AllocError>
+    ensures { OnOk result (layout.new ≡ layout.old ++ object_nodes several index row.now) }
+{
+    layout.put(&[
+        Node::Markup("<tr class=\""),
+        Node::Markup(choice_name(Choice::In(row.state))),
+    ])?;
+    layout.put_if(!row.is_unhandled, &[Node::Markup(" handled")])?;
+    layout.put(&[
+        Node::Markup("\"><td class=\"cell\"><span class=\"badge state\">"),
+        Node::Markup(state_name(row.state)),
+        Node::Markup("</span></td>"),
+    ])?;
+    lay_out_name(layout, index, row.is_host)?;
+    lay_out_marks(layout, row)?;
+    lay_out_age(layout, row.moment, row.last)?;
+    layout.put(&[
+        Node::Markup("<td class=\"out\">"),
+        Node::Slot(Slot::Object(index, ObjectText::Output)),
+    ])?;
+    layout.put_if(
+        several,
+        &[
+            Node::Markup("</td><td class=\"cell soft\" data-name=\"at\">"),
+            Node::Slot(Slot::Object(index, ObjectText::Gateway)),
+        ],
+    )?;
+    layout.put(&[Node::Markup("</td></tr>\n")])
+}
+
+fn lay_out_rows(layout: &mut Layout, rows: &[ObjectShape], several: bool) -> Result<(), AllocError>
+    ensures { OnOk result (layout.new
+        ≡ layout.old ++ each_indexed (object_nodes several) rows.now) }
+{
+    for (index, row) in rows.iter().enumerate() {
+        lay_out_object(layout, row, index, several)?;
+    }
+    Ok(())
+}
+
+/// Appends the list of objects.
+pub fn lay_out_objects(layout: &mut Layout, shape: &PageShape) -> Result<(), AllocError>
+    ensures { OnOk result (layout.new ≡ layout.old ++ objects_nodes (shape_view shape.now)) }
+{
+    let rows = shape.objects.as_slice();
+    let several = shape.gateways.as_slice().len() > 1;
+    layout.put(&[
+        Node::Markup("<h2>Hosts and services</h2><p class=\"soft\">"),
+        Node::Number(rows.len() as u64),
+        Node::Markup(" of "),
+        Node::Number(shape.counts.objects as u64),
+        Node::Markup(" shown</p>\n<table><thead><tr><th>State</th><th>Object</th><th>Marks</th>"),
+        Node::Markup("<th>Last result</th><th>Output</th>"),
+    ])?;
+    layout.put_if(several, &[Node::Markup("<th>Gateway</th>")])?;
+    layout.put(&[Node::Markup("</tr></thead><tbody>\n")])?;
+    lay_out_rows(layout, rows, several)?;
+    layout.put(&[Node::Markup("</tbody></table>\n")])
+}

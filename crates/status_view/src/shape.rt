@@ -1,0 +1,108 @@
+ghost use Rattle.std.specs.Prelude.{◌≡◌, ◌++◌, OnOk, IfOk};
+ghost use Rattle.status_view.specs.Shapes.{shape_view};
+ghost use Rattle.status_view.specs.Page.{head_nodes, page_nodes};
+
+use crate::head_layout::{lay_out_alarms, lay_out_document, lay_out_title};
+use crate::layout::{Layout, Node};
+use crate::lists_layout::{lay_out_comments, lay_out_downtimes};
+use crate::objects_layout::lay_out_objects;
+use crate::summary_layout::{lay_out_form, lay_out_summary};
+use status_merge::{Choice, Counts, PageFault};
+use status_reading::{ShownAcknowledgement, ShownSource, State};
+use std::alloc::{AllocError, Global};
+
+/// What decides the markup of a gateway's lines: no text is in it.
+#[derive(Clone, Copy, Debug)]
+pub struct GatewayShape {
+    /// The moment of its page, or why there is none.
+    pub moment: Result<u32, PageFault>,
+    pub is_closing: bool,
+}
+
+/// What decides the markup of an object's row: no text is in it.
+#[derive(Clone, Copy, Debug)]
+pub struct ObjectShape {
+    pub is_host: bool,
+    pub state: State,
+    pub last: Option<u32>,
+    pub stale: bool,
+    pub acknowledgement: ShownAcknowledgement,
+    pub depth: u32,
+    pub is_unhandled: bool,
+    /// The moment of the page.
+    pub moment: u32,
+}
+
+/// What decides the markup of a comment's row: no text is in it.
+#[derive(Drop)]
+pub struct CommentShape {
+    pub is_host: bool,
+    pub source: ShownSource,
+    pub persistent: bool,
+    pub moment: u32,
+    /// The comment's id at each gateway that has it.
+    pub ids: Vec<u32>,
+}
+
+/// What decides the markup of a downtime entry's row: no text is in it.
+#[derive(Drop)]
+pub struct DowntimeShape {
+    pub is_host: bool,
+    pub fixed: bool,
+    pub trigger: u32,
+    pub start: u32,
+    pub end: u32,
+    pub duration: u32,
+    pub begin: Option<u32>,
+    /// The moment of the page.
+    pub moment: u32,
+    /// The entry's id at each gateway that has it.
+    pub ids: Vec<u32>,
+}
+
+/// What decides the markup of a page: states, marks, moments and counts. No text is in it, so none
+/// can change a tag.
+#[derive(Drop)]
+pub struct PageShape {
+    /// The clock of the program, in seconds since 1970.
+    pub clock: u32,
+    pub choice: Choice,
+    pub refresh: u32,
+    /// Whether `refresh` is not the default, so that the links keep it.
+    pub keeps_refresh: bool,
+    /// Whether the query asks for some hosts alone, so that the links keep that.
+    pub keeps_host: bool,
+    pub counts: Counts,
+    pub gateways: Vec<GatewayShape>,
+    pub objects: Vec<ObjectShape>,
+    pub comments: Vec<CommentShape>,
+    pub downtimes: Vec<DowntimeShape>,
+}
+
+fn lay_out_head(layout: &mut Layout, shape: &PageShape) -> Result<(), AllocError>
+    ensures { OnOk result (layout.new ≡ layout.old ++ head_nodes (shape_view shape.now)) }
+{
+    let gateways = shape.gateways.as_slice();
+    lay_out_document(layout, shape.refresh, shape.counts.unhandled)?;
+    lay_out_title(layout, gateways)?;
+    lay_out_alarms(layout, gateways, shape.clock)?;
+    lay_out_summary(layout, shape)?;
+    lay_out_form(layout, shape)
+}
+
+/// The page of a shape: its markup and its numbers, with a slot for each text. The only error is
+/// out of memory.
+pub fn lay_out(alloc: Global, shape: &PageShape) -> Result<Layout, AllocError>
+    ensures { IfOk result (λ layout. layout ≡ page_nodes (shape_view shape.now)) }
+{
+    let mut layout = Layout::new(alloc);
+    lay_out_head(&mut layout, shape)?;
+    lay_out_objects(&mut layout, shape)?;
+    lay_out_comments(&mut layout, shape.comments.as_slice())?;
+    lay_out_downtimes(&mut layout, shape.downtimes.as_slice())?;
+    layout.put(&[
+        Node::Markup("<footer><a href=\"/status.json\">status.json</a> &middot; "),
+        Node::Markup("<a href=\"/metrics\">metrics</a></footer>\n</main></body></html>\n"),
+    ])?;
+    Ok(layout)
+}

@@ -1,0 +1,19 @@
+use status_merge::{CommentLine, DowntimeLine, Gateway, MergedObject, Query};
+
+/// What a page for a browser shows.
+#[derive(Drop)]
+pub struct View<'a> {
+    pub title: &'a str,
+    /// The clock of the program, in seconds since 1970.
+    pub clock: u32,
+    /// The seconds of refresh without a query.
+    pub refresh: u32,
+    pub query: &'a Query,
+    pub gateways: &'a [Gateway<'a>],
+    /// All objects, for the counts.
+    pub all: &'a [MergedObject<'a>],
+    /// Those that the query selects.
+    pub objects: &'a [MergedObject<'a>],
+    pub comments: &'a [CommentLine<'a>],
+    pub downtimes: &'a [DowntimeLine<'a>],
+}
