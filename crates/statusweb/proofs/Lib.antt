@@ -1,0 +1,5 @@
+pub mod PlaceSteps
+pub mod FieldSteps
+pub mod WordSteps
+pub mod BodySteps
+pub mod ServiceSteps

@@ -1,0 +1,5 @@
+pub mod Words
+pub mod Answers
+pub mod Pages
+pub mod Service
+pub mod inner

@@ -1,0 +1,68 @@
+//! The texts of the gateways' status pages.
+ghost use Rattle.std.specs.Prelude.{◌≡◌, ◌<◌, IfOk, length, vec_len};
+
+use crate::timed::Timed;
+use crate::words::Place;
+use status_merge::PageFault;
+use std::alloc::{AllocError, Global};
+use std::io::{ErrorKind, Read};
+use std::net::{Net, TcpListener, TcpStream};
+use std::thread;
+use std::thread::Threads;
+use std::time::{Clock, Duration, Instant};
+
+// The seconds in which a gateway has to accept.
+const CONNECT_TIMEOUT: u64 = 1;
+// The seconds after the connection in which a page has to end.
+const PAGE_TIMEOUT: u64 = 4;
+// The bytes of the longest page, 64 MiB.
+const LONGEST_PAGE: u64 = 64 << 20;
+
+/// The text of a gateway's page, or why there is none.
+pub type Fetched = Result<Vec<u8>, PageFault>;
+
+// Reads to the end.
+fn read_page<R: Read + Drop>(reader: R, alloc: Global) -> Fetched {
+    let mut page = Vec::new(alloc);
+    match reader.take(LONGEST_PAGE + 1).read_to_end(&mut page) {
+        Ok(length) if length as u64 > LONGEST_PAGE => Err(PageFault::TooLong),
+        Ok(_) => Ok(page),
+        Err(error) => match error.kind() {
+            ErrorKind::TimedOut | ErrorKind::WouldBlock => Err(PageFault::TooSlow),
+            ErrorKind::OutOfMemory => Err(PageFault::OutOfMemory),
+            _ => Err(PageFault::Broken),
+        },
+    }
+}
+
+/// Reads a gateway's page of at most 64 MiB: connects within a second, and reads to its end within
+/// four seconds more.
+pub fn fetch<R: Net<Listener = TcpListener, Stream = TcpStream> + Clock>(
+    rt: &R,
+    alloc: Global,
+    place: Place<'_>,
+) -> Fetched {
+    let within = Duration::from_secs(CONNECT_TIMEOUT);
+    let Ok(stream) = TcpStream::connect_timeout(rt, &place.address, within) else {
+        return Err(PageFault::Unreachable);
+    };
+    let Ok(begun) = Instant::now(rt) else {
+        return Err(PageFault::Broken);
+    };
+    read_page(Timed::new(rt, &stream, begun, PAGE_TIMEOUT), alloc)
+}
+
+/// Reads the pages of all gateways side by side; one after another where no thread can be started.
+/// The only error is out of memory.
+pub fn fetch_all<R: Net<Listener = TcpListener, Stream = TcpStream> + Clock + Threads + Sync>(
+    rt: &R,
+    alloc: Global,
+    places: &[Place<'_>],
+) -> Result<Vec<Fetched>, AllocError>
+    ensures { IfOk result (λ fetched. vec_len fetched ≡ length places.now) }
+{
+    let fetch_at = |index: usize| -> Fetched
+        requires { index < length places.now }
+    { fetch(rt, alloc, places[index]) };
+    thread::map_indices(rt, alloc, places.len(), &fetch_at)
+}

@@ -1,0 +1,94 @@
+"""statusweb_speed.py PROGRAM: seconds for each page over 16,384 objects, and requests a second of the problems among 1,000.
+
+No part of ./check: it measures, and its figures depend on the machine.
+"""
+import http.client
+import socket
+import subprocess
+import sys
+import threading
+import time
+
+STATES = ['OK', 'OK', 'OK', 'OK', 'OK', 'OK', 'OK', 'WARNING', 'OK', 'CRITICAL']
+OUTPUT = 'OK - the output of a plugin, with some numbers 12345 | time=0.0%03ds;;;0.000;10.000'
+
+
+def status_page(count):
+    """The status page of this many objects, of which each eighth is a host."""
+    now = int(time.time())
+    lines = ['status %d' % now]
+    for index in range(count):
+        state = STATES[index % 10] if index % 8 else 'UP'
+        service = 'service %d' % (index % 8) if index % 8 else ''
+        lines.append('object;host%05d;%s;%s;%d;fresh;-;0;%s'
+                     % (index // 8, service, state, now - index % 300, OUTPUT % (index % 1000)))
+    return ('\n'.join(lines) + '\n').encode()
+
+
+def serve(page):
+    """Sends a page to each reader, and returns the port."""
+    listener = socket.socket()
+    listener.bind(('127.0.0.1', 0))
+    listener.listen(64)
+
+    def run():
+        while True:
+            stream, _ = listener.accept()
+            stream.sendall(page)
+            stream.close()
+
+    threading.Thread(target=run, daemon=True).start()
+    return listener.getsockname()[1]
+
+
+def start(program, page):
+    """Starts the program over a gateway with this page, and returns it with its port."""
+    words = [program, '--listen', '127.0.0.1:0', '--gateway', 'g=127.0.0.1:%d' % serve(page)]
+    process = subprocess.Popen(words, stdout=subprocess.PIPE)
+    return process, int(process.stdout.readline().rsplit(b':', 1)[1])
+
+
+def ask(port, path):
+    connection = http.client.HTTPConnection('127.0.0.1', port, timeout=30)
+    connection.request('GET', path)
+    return connection.getresponse().read()
+
+
+def pages(program):
+    process, port = start(program, status_page(16384))
+    for path in ['/', '/?state=problems', '/status.json', '/metrics']:
+        ask(port, path)
+        best = 10.0
+        for _ in range(8):
+            began = time.time()
+            size = len(ask(port, path))
+            best = min(best, time.time() - began)
+        print('16384 objects, %s: %.3f s, %d bytes' % (path, best, size))
+    process.kill()
+
+
+def requests(program):
+    process, port = start(program, status_page(1000))
+    answered = [0] * 8
+    began = time.time()
+
+    def load(client):
+        while time.time() < began + 4:
+            stream = socket.create_connection(('127.0.0.1', port))
+            stream.sendall(b'GET /?state=problems HTTP/1.1\r\nHost: localhost\r\n\r\n')
+            while stream.recv(65536):
+                pass
+            stream.close()
+            answered[client] += 1
+
+    clients = [threading.Thread(target=load, args=(client,)) for client in range(8)]
+    for client in clients:
+        client.start()
+    for client in clients:
+        client.join()
+    print('1000 objects, /?state=problems: %.0f requests a second' % (sum(answered) / (time.time() - began)))
+    process.kill()
+
+
+pages(sys.argv[1])
+requests(sys.argv[1])

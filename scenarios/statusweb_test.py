@@ -1,0 +1,706 @@
+"""Tests of the program statusweb over gateways that this file plays."""
+import concurrent.futures
+import html
+import html.parser
+import http.client
+import json
+import os
+import re
+import shutil
+import signal
+import socket
+import struct
+import subprocess
+import sys
+import tempfile
+import threading
+import time
+import urllib.parse
+
+PROGRAM = sys.argv[1]
+passed = failed = 0
+counting = threading.Lock()
+
+
+def test(name, holds, found=''):
+    global passed, failed
+    with counting:
+        passed += bool(holds)
+        failed += not holds
+        print(f'{name} ... ok' if holds else f'{name} ... FAILED: {found}', flush=True)
+
+
+def at_once(*calls):
+    """What these functions return, called side by side."""
+    with concurrent.futures.ThreadPoolExecutor(len(calls)) as pool:
+        return [call.result() for call in [pool.submit(call) for call in calls]]
+
+
+def free_port():
+    with socket.socket() as probe:
+        probe.bind(('127.0.0.1', 0))
+        return probe.getsockname()[1]
+
+
+class Gateway:
+    """Serves what `answer(connection)` writes, a thread for each connection; counts connections."""
+
+    def __init__(self, answer):
+        self.count = 0
+        self.listener = socket.socket()
+        self.listener.bind(('127.0.0.1', 0))
+        self.listener.listen(64)
+        self.port = self.listener.getsockname()[1]
+        self.answer = answer
+        threading.Thread(target=self.run, daemon=True).start()
+
+    def run(self):
+        while True:
+            connection, _ = self.listener.accept()
+            self.count += 1
+            threading.Thread(target=self.serve, args=(connection,), daemon=True).start()
+
+    def serve(self, connection):
+        try:
+            self.answer(connection)
+        except OSError:
+            pass
+        connection.close()
+
+
+def shows(text):
+    """A gateway whose page is this text, or what this function returns."""
+    return Gateway(lambda connection: connection.sendall(text() if callable(text) else text))
+
+
+def endless(connection):
+    connection.sendall(b'status 1\n')
+    while True:
+        connection.sendall(b'object;a;b;OK;1;fresh;-;0;x\n' * 10000)
+
+
+def dripping(connection):
+    for byte in b'status 1\n' + b'object;a;b;OK;1;fresh;-;0;x\n' * 100:
+        connection.sendall(bytes([byte]))
+        time.sleep(0.2)
+
+
+class Web:
+    """The program over these gateways, within these limits of the shell's `ulimit`."""
+
+    def __init__(self, *gateways, words=(), limits='', port=None):
+        self.port = port or free_port()
+        words = [PROGRAM, '--listen', f'127.0.0.1:{self.port}', *words]
+        for name, port in gateways:
+            words += ['--gateway', f'{name}=127.0.0.1:{port}']
+        if limits:
+            words = ['sh', '-c', f'ulimit {limits}; exec "$0" "$@"', *words]
+        self.process = subprocess.Popen(words, stdout=subprocess.PIPE, stderr=subprocess.PIPE)
+        self.line = self.process.stdout.readline()
+
+    def __enter__(self):
+        return self
+
+    def __exit__(self, *_):
+        self.process.kill()
+        self.process.wait()
+
+    def ask(self, path, method='GET', timeout=30, body=None):
+        client = http.client.HTTPConnection('127.0.0.1', self.port, timeout=timeout)
+        client.request(method, path, body)
+        response = client.getresponse()
+        return response, response.read()
+
+    def connect(self):
+        return socket.create_connection(('127.0.0.1', self.port), timeout=30)
+
+    def text(self, path):
+        return self.ask(path)[1]
+
+    def json(self, path='/status.json'):
+        return json.loads(self.text(path))
+
+
+class Tags(html.parser.HTMLParser):
+    """The tags of a page with their attributes, but for the values that hold texts; and its texts."""
+
+    def __init__(self, page):
+        super().__init__(convert_charrefs=True)
+        self.tags, self.texts, self.rows, self.cell = [], [], [], None
+        self.feed(page.decode('utf-8', 'replace'))
+        self.close()
+
+    def handle_starttag(self, tag, attributes):
+        held = {'href', 'value'}
+        self.tags.append((tag, [(name, '' if name in held else value) for name, value in attributes]))
+        if tag == 'tr':
+            self.rows.append([])
+        if tag == 'td' and self.rows:
+            self.rows[-1].append('')
+            self.cell = True
+
+    def handle_endtag(self, tag):
+        self.tags.append(('/' + tag, []))
+        if tag == 'td':
+            self.cell = None
+
+    def handle_data(self, data):
+        self.texts.append(data)
+        if self.cell:
+            self.rows[-1][-1] += data
+
+
+def page_of(host, service, output, author, text, now):
+    return b'\n'.join([
+        b'status %d' % now,
+        b'object;%s;;DOWN;%d;stale;normal;2;%s' % (host, now - 40, output),
+        b'object;%s;%s;CRITICAL;%d;fresh;-;0;%s' % (host, service, now - 5, output),
+        b'comment;1;%s;%s;user;1;%d;%s;%s' % (host, service, now - 9, author, text),
+        b'downtime;2;%s;;fixed;0;%d;%d;0;-;%s;%s' % (host, now, now + 60, author, text),
+        b'']) 
+
+
+def test_texts(now):
+    """The tags of a page are the same whatever the texts are."""
+    bad = bytes(byte for byte in range(1, 256) if byte not in b'\n;')
+    texts = {
+        'script': b'<script>alert(1)</script>',
+        'quotes': b'"\' onload="alert(1)" x=\'',
+        'references': b'&lt;&#60;&amp;&',
+        'comment': b'--><!-- <![CDATA[ ]]>',
+        'broken UTF-8': b'\xff\xfe\xc3(\xe2\x82<b>\xf0\x9f',
+        'every byte': bad,
+        'end of the title': b'</title></td></table><h1>',
+    }
+    plain = None
+    for name, text in [('plain', b'plain'), *texts.items()]:
+        name_text = text.replace(b';', b',')
+        gateway = shows(page_of(name_text, name_text, text + b';' + text, name_text, text, now))
+        with Web(('east', gateway.port)) as web:
+            response, page = web.ask('/?host=' + urllib.parse.quote_from_bytes(text[:3]))
+            found = Tags(web.text('/'))
+            filtered = Tags(page)
+            read = web.json()
+        if plain is None:
+            plain = found
+            test('a page of plain texts has four rows', len(found.rows) == 7, found.rows)
+            continue
+        test(f'tags are the same with {name}', found.tags == plain.tags, found.tags)
+        test(f'no script with {name}', all(tag != 'script' for tag, _ in filtered.tags))
+        test(f'the output is read again with {name}',
+             read['objects'][0]['output'].encode('utf-8', 'replace')
+             == (text + b';' + text).decode('utf-8', 'replace').encode('utf-8', 'replace'),
+             read['objects'][0])
+
+
+def east(now):
+    return (b'status %d\n' % now
+            + b'object;web1;;UP;%d;fresh;-;0;up\n' % (now - 10)
+            + b'object;web1;HTTP;CRITICAL;%d;fresh;sticky;0;acknowledged\n' % (now - 10)
+            + b'object;db1;;UP;%d;stale;-;0;quiet\n' % (now - 500)
+            + b'object;db1;SQL;WARNING;%d;fresh;-;0;old\n' % (now - 90)
+            + b'object;db1;Disk;PENDING;-;fresh;-;0;\n'
+            + b'comment;1;db1;;user;1;%d;ann;both\n' % (now - 70)
+            + b'comment;2;web1;;user;1;%d;ann;east alone\n' % (now - 70)
+            + b'downtime;4;db1;SQL;fixed;0;%d;%d;0;%d;ann;a move\n' % (now - 60, now + 600, now - 60))
+
+
+def west(now):
+    return (b'status %d\n' % now
+            + b'object;db1;SQL;DOWN;-;fresh;-;0;never\n'
+            + b'object;db1;SQL;OK;%d;fresh;-;0;new\n' % (now - 30)
+            + b'object;app1;;DOWN;%d;fresh;-;0;down\n' % (now - 20)
+            + b'object;web1;;DOWN;%d;fresh;-;0;of equals the second\n' % (now - 10)
+            + b'comment;7;db1;;user;1;%d;ann;both\n' % (now - 70)
+            + b'downtime;9;db1;SQL;fixed;0;%d;%d;0;%d;ann;a move\n' % (now - 60, now + 600, now - 60)
+            + b'downtime;10;db1;SQL;fixed;0;%d;%d;0;%d;ann;another\n' % (now - 60, now + 600, now - 60))
+
+
+def test_merging(now):
+    with Web(('east', shows(east(now)).port), ('west', shows(west(now)).port)) as web:
+        read, page = web.json(), Tags(web.text('/'))
+        by_name = {(row['host'], row['service']): row for row in read['objects']}
+        test('each object stands once', len(by_name) == len(read['objects']) == 6, read['objects'])
+        test('the latest row is shown', by_name['db1', 'SQL']['output'] == 'new', by_name)
+        test('of equals the first is shown', by_name['web1', None]['output'] == 'up', by_name)
+        order = [(row['host'], row['service']) for row in read['objects']]
+        test('problems stand first', order == [
+            ('app1', None), ('db1', None), ('web1', 'HTTP'), ('db1', 'Disk'), ('web1', None), ('db1', 'SQL')], order)
+        comments = [row for row in page.rows if 'both' in row]
+        test('a comment of two gateways is one line', len(comments) == 1
+             and comments[0][-1] == '1 at east, 7 at west', comments)
+        downtimes = [row for row in page.rows if 'a move' in row]
+        test('a downtime entry of two gateways is one line', len(downtimes) == 1
+             and downtimes[0][-1] == '4 at east, 9 at west', downtimes)
+        test('JSON has each by itself', [(row['gateway'], row['id']) for row in read['downtimes']]
+             == [('east', 4), ('west', 9), ('west', 10)], read['downtimes'])
+        test('the counts are those of the merged list', b'<b>6</b> objects' in web.text('/'))
+        for query in ['state=critical', 'state=DOWN', 'host=db', 'state=nothing', 'state=stale&host=web']:
+            other = web.text('/?' + query)
+            begin, end = other.index(b'<nav'), other.index(b'</nav>')
+            counts = [piece.split(b'</b>')[0] for piece in other[begin:end].split(b'<b>')[1:]]
+            test(f'no filter changes a count: {query}',
+                 counts == [b'1', b'1', b'6', b'1', b'0', b'2', b'0', b'1', b'0', b'0', b'1', b'1'], counts)
+        chosen = web.json('/status.json?state=Down&host=ap')['objects']
+        test('a filter by state and host', [row['host'] for row in chosen] == ['app1'], chosen)
+        unhandled = web.json('/status.json?state=unhandled')['objects']
+        test('a filter by unhandled problems', [row['host'] for row in unhandled] == ['app1'], unhandled)
+
+
+def test_faults(now):
+    """Gateways that show no page are alarms, and the others are shown."""
+    good = shows(east(now))
+    cut = shows(east(now)[:-20])
+    http_one = shows(b'HTTP/1.1 400 Bad Request\r\n\r\n')
+    mute = Gateway(lambda connection: time.sleep(60))
+    still = shows(east(now - 120))
+    closing = shows(lambda: east(now) + b'closing;%d\n' % now)
+    with Web(('good', good.port), ('down', free_port()), ('mute', mute.port), ('endless', Gateway(endless).port),
+             ('dripping', Gateway(dripping).port), ('cut', cut.port), ('http', http_one.port),
+             ('empty', shows(b'').port), ('still', still.port), ('closing', closing.port)) as web:
+        began = time.time()
+        page, read, metrics = at_once(lambda: web.text('/'), web.json, lambda: web.text('/metrics'))
+        took = time.time() - began
+        test('pages over bad gateways take at most 8 s', took < 8, took)
+        test('all three come of one fetch', mute.count == 1, mute.count)
+        for name, cause in [('down', "it can&#39;t be reached"), ('mute', 'its page takes too long'),
+                            ('endless', 'its page is too long'), ('dripping', 'its page takes too long'),
+                            ('cut', 'damaged or cut off'), ('http', 'does not show a status page'),
+                            ('empty', 'does not show a status page'), ('still', 'stands still'),
+                            ('closing', 'is closing')]:
+            alarm = f'<p class="alarm"><strong>Gateway {name}</strong>'
+            lines = [line for line in page.decode().split('\n') if line.startswith(alarm)]
+            test(f'an alarm: {name}', len(lines) == 1 and html.unescape(cause) in html.unescape(lines[0]), page[:3000])
+        test('the good gateway has no alarm', b'Gateway good' not in page)
+        test('its objects are shown', b'acknowledged' in page and b'web1' in page)
+        reachable = {row['name']: row['reachable'] for row in read['gateways']}
+        test('JSON names who can be read', reachable == {
+            'good': True, 'down': False, 'mute': False, 'endless': False, 'dripping': False, 'cut': False,
+            'http': False, 'empty': False, 'still': True, 'closing': True}, reachable)
+        up = [line for line in metrics.decode().split('\n') if line.startswith('nscagate_up')]
+        test('metrics name who can be read', 'nscagate_up{gateway="cut"} 0' in up
+             and 'nscagate_up{gateway="good"} 1' in up, up)
+    with Web(('down', free_port()), ('gone', free_port())) as web:
+        page, read = web.text('/'), web.json()
+        test('a page over no gateway', page.count(b'<p class="alarm">') == 2 and read['objects'] == [], page[:3000])
+
+
+def test_sharing(now):
+    gateway = shows(east(now))
+    with Web(('east', gateway.port)) as web:
+        web.text('/')
+        before = gateway.count
+        began = time.time()
+        pages = at_once(*[lambda: web.text('/')] * 100)
+        took = time.time() - began
+        test('browsers within a second share a fetch', gateway.count - before <= took + 1,
+             (gateway.count - before, took))
+        test('each has the page', all(b'web1' in page for page in pages))
+
+
+def test_slow_browsers(now):
+    """Connections that send nothing, a byte a second, or read nothing, hold others for less than 10 s."""
+    large = b'status %d\n' % now + b''.join(
+        b'object;host%d;;UP;%d;fresh;-;0;%s\n' % (number, now, b"x" * 3000) for number in range(2000))
+    with Web(('east', shows(large).port)) as web:
+        deaf = []
+        for _ in range(8):
+            connection = socket.socket()
+            connection.setsockopt(socket.SOL_SOCKET, socket.SO_RCVBUF, 4096)
+            connection.connect(('127.0.0.1', web.port))
+            connection.sendall(b'GET / HTTP/1.1\r\nHost: x\r\n\r\n')
+            deaf.append(connection)
+        silent = [web.connect() for _ in range(24)]
+        slow = [web.connect() for _ in range(8)]
+        ends = []
+
+        def drip(connection):
+            try:
+                for byte in b'GET / HTTP/1.1\r\nHost: x\r\nA: b' + b'c' * 40:
+                    connection.sendall(bytes([byte]))
+                    time.sleep(0.5)
+            except OSError:
+                pass
+            ends.append(time.time())
+        began = time.time()
+        for connection in slow:
+            threading.Thread(target=drip, args=(connection,), daemon=True).start()
+        time.sleep(0.5)
+        page = web.text('/?host=host1999')
+        took = time.time() - began
+        test('slow browsers hold nobody for more than 10 s', took < 10 and b'host1999' in page, took)
+        silent[0].settimeout(30)
+        test('a silent connection ends without an answer', silent[0].recv(10) == b'')
+        while len(ends) < len(slow) and time.time() < began + 20:
+            time.sleep(0.1)
+        test('slow connections end', len(ends) == len(slow) and max(ends) < began + 14, ends)
+        while web.process.poll() is None and sockets_of(web.process.pid) > 1 and time.time() < began + 30:
+            time.sleep(0.1)
+        took = time.time() - began
+        test('a browser that reads nothing loses its connection', sockets_of(web.process.pid) == 1 and took < 25, took)
+        for connection in deaf + silent + slow:
+            connection.close()
+
+
+def sockets_of(pid):
+    folder = f'/proc/{pid}/fd'
+    count = 0
+    for name in os.listdir(folder):
+        try:
+            count += os.readlink(f'{folder}/{name}').startswith('socket:')
+        except OSError:
+            pass
+    return count
+
+
+def test_descriptors(now):
+    """Where the descriptors are used up, connections wait, and are served afterwards."""
+    with Web(('east', shows(east(now)).port), limits='-n 45') as web:
+        held = [web.connect() for _ in range(60)]
+        time.sleep(1)
+        test('the program runs without descriptors', web.process.poll() is None)
+        for connection in held:
+            connection.close()
+        ends = time.time() + 8
+        page = b''
+        while b'web1' not in page and time.time() < ends:
+            time.sleep(0.5)
+            page = web.text('/')
+        test('it serves again', b'web1' in page, page[:1000])
+
+
+def test_memory(now):
+    """A page for which there is no memory: the others are shown, and later pages are shown again."""
+    line = b'object;host%d;;UP;1;fresh;-;0;' + b'x' * 200 + b'\n'
+    large = b'status %d\n' % now + b''.join(line % number for number in range(250000))
+    text = [large]
+    good = shows(east(now))
+    with Web(('large', shows(lambda: text[0]).port), ('good', good.port), limits='-v 700000') as web:
+        def ask():
+            try:
+                return web.text('/status.json')
+            except (OSError, http.client.HTTPException):
+                return None
+        answers = at_once(*[ask] * 8)
+        whole = [answer for answer in answers if answer is not None]
+        test('an answer is whole, or there is none', all(json.loads(answer) for answer in whole))
+        test('the program runs without memory', web.process.poll() is None, web.process.returncode)
+        text[0] = east(now)
+        time.sleep(1.5)
+        pages = at_once(*[lambda: web.text('/')] * 40)
+        test('all threads serve afterwards', all(b'web1' in page for page in pages))
+
+
+def test_ends(now):
+    """A signal ends it at once, and its port can be bound again at once."""
+    gateway = shows(east(now))
+    with Web(('east', gateway.port)) as web:
+        web.text('/')
+        began = time.time()
+        web.process.terminate()
+        status = web.process.wait(10)
+        test('SIGTERM ends it', status == -signal.SIGTERM and time.time() < began + 1, status)
+    with Web(('east', gateway.port), port=web.port) as again:
+        test('its port is bound again', again.line == web.line and b'web1' in again.text('/'), again.line)
+        # A browser that has gone before its answer does not end the program.
+        for _ in range(20):
+            connection = again.connect()
+            connection.sendall(b'GET / HTTP/1.1\r\nHost: x\r\n\r\n')
+            connection.setsockopt(socket.SOL_SOCKET, socket.SO_LINGER, struct.pack('ii', 1, 0))
+            connection.close()
+        test('browsers that go end nothing', b'web1' in again.text('/') and again.process.poll() is None)
+
+
+def exchange(web, sent):
+    """All that is answered to these bytes."""
+    with web.connect() as connection:
+        connection.sendall(sent)
+        answer = b''
+        while piece := connection.recv(65536):
+            answer += piece
+        return answer
+
+
+def test_requests(now):
+    with Web(('east', shows(east(now)).port), words=['--title', 'a <b>', '--refresh', '60']) as web:
+        test('where it listens is printed', web.line == f'listening 127.0.0.1:{web.port}\n'.encode(), web.line)
+        response, page = web.ask('/')
+        test('the title and the refresh', b'<title>(1) a &lt;b&gt;</title>' in page
+             and b'http-equiv="refresh" content="60"' in page, page[:400])
+        test('no refresh', b'http-equiv' not in web.text('/?refresh=0'))
+        policy = response.getheader('content-security-policy')
+        test('a policy without scripts', policy == "default-src 'none'; style-src 'self'; form-action 'self'; "
+             "base-uri 'none'; frame-ancestors 'none'", policy)
+        fields = {name: response.getheader(name) for name in [
+            'x-content-type-options', 'referrer-policy', 'cache-control', 'connection', 'content-type']}
+        test('the other fields', list(fields.values()) == [
+            'nosniff', 'no-referrer', 'no-store', 'close', 'text/html; charset=utf-8'], fields)
+        style, _ = web.ask('/style.css')
+        test('the style', style.status == 200 and style.getheader('cache-control') == 'max-age=300')
+        for method, path, status, body in [
+                ('GET', '/other', 404, None), ('GET', '/status.jso', 404, None), ('GET', '//', 404, None),
+                ('POST', '/', 405, None), ('POST', '/', 405, b'x' * 1000), ('DELETE', '/status.json', 405, None),
+                ('HEAD', '/', 200, None), ('HEAD', '/other', 404, None)]:
+            found = web.ask(path, method, body=body)
+            test(f'{method} {path} is {status}', found[0].status == status, found)
+            test(f'{method} {path} has the policy', found[0].getheader('content-security-policy') == policy)
+        test('the methods of a refusal', web.ask('/', 'POST')[0].getheader('allow') == 'GET, HEAD')
+        test('HEAD has no body', web.ask('/', 'HEAD')[1] == b'')
+        for name, sent, line in [
+                ('HTTP/1.0', b'GET / HTTP/1.0\r\n\r\n', b'HTTP/1.0 200'),
+                ('no host', b'GET / HTTP/1.1\r\n\r\n', b'HTTP/1.1 400'),
+                ('no HTTP', b'status please\r\n\r\n', b'HTTP/1.1 400'),
+                ('a long head', b'GET / HTTP/1.1\r\nA: ' + b'b' * 20000 + b'\r\n\r\n', b'HTTP/1.1 431')]:
+            answer = exchange(web, sent)
+            test(f'a request: {name}', answer.startswith(line), answer[:200])
+
+
+def test_words():
+    here = f'127.0.0.1:{free_port()}'
+    for words in [[], ['--gateway'], ['--gateway', 'x'], ['--gateway', 'a=1.2.3.4'], ['--listen', here],
+                  ['--gateway', here, '--listen', 'nowhere'], ['--gateway', here, '--refresh', '1'],
+                  ['--gateway', here, '--refresh', '3601'], ['--gateway', here, '--refresh', 'x'],
+                  ['--gateway', 'a=' + here, '--gateway', 'a=' + here], ['--gateway', here, 'more'],
+                  ['--gateway', here, '--help']]:
+        run = subprocess.run([PROGRAM, *words], capture_output=True, timeout=10)
+        test(f'bad words: {" ".join(words)}', run.returncode == 2 and run.stdout == b''
+             and run.stderr == b'statusweb: bad arguments\n', run)
+    with socket.socket() as taken:
+        taken.bind(('127.0.0.1', 0))
+        taken.listen(1)
+        address = '%s:%d' % taken.getsockname()
+        run = subprocess.run([PROGRAM, '--gateway', here, '--listen', address], capture_output=True, timeout=10)
+        test('an address that is taken', run.returncode == 4 and run.stderr == b'statusweb: bind\n', run)
+
+
+def escaped(text):
+    """A text as a gateway's page shows it."""
+    return b''.join(b'\\\\' if byte == 92 else b'\\x%02x' % byte if byte < 32 or byte == 127 else bytes([byte])
+                    for byte in text)
+
+
+EVERY_BYTE = bytes(range(256)).replace(b';', b'')
+LARGEST = 2 ** 32 - 1
+
+
+def a_object(host, service=None, state='UP', last=None, stale=False, acknowledgement='none', depth=0, unhandled=False,
+             output=''):
+    return dict(gateway='east', host=host, service=service, state=state, last=last, stale=stale,
+                acknowledgement=acknowledgement, depth=depth, unhandled=unhandled, output=output)
+
+
+def a_comment(id, host, service, source, persistent, moment, author, text):
+    return dict(gateway='east', id=id, host=host, service=service, source=source, persistent=persistent, moment=moment,
+                author=author, text=text)
+
+
+def a_downtime(id, host, service, fixed, trigger, start, end, duration, begin, author, text):
+    return dict(gateway='east', id=id, host=host, service=service, fixed=fixed, trigger=trigger, start=start, end=end,
+                duration=duration, begin=begin, author=author, text=text)
+
+
+# What is asked of a gateway's page, and the member of the JSON that answers it.
+JSON_ROWS = [
+    ('a host has no service, and an object without a result no last one', b'object;a;;PENDING;-;fresh;-;0;\n', '',
+     'objects', [a_object('a', state='PENDING')]),
+    ('each state and mark', b'object;a;;DOWN;1;fresh;-;0;d\nobject;a;1;CRITICAL;2;stale;normal;1;c\n'
+     b'object;a;2;UNKNOWN;3;fresh;sticky;0;u\nobject;a;3;WARNING;4;fresh;-;4294967295;w\n'
+     b'object;b;;UNREACHABLE;5;fresh;-;0;x\nobject;b;1;OK;4294967295;stale;-;0;o\nobject;c;;UP;0;fresh;-;0;y\n', '',
+     'objects', [a_object('a', None, 'DOWN', 1, unhandled=True, output='d'),
+                 a_object('b', None, 'UNREACHABLE', 5, unhandled=True, output='x'),
+                 a_object('b', '1', 'OK', LARGEST, True, output='o'),
+                 a_object('a', '1', 'CRITICAL', 2, True, 'normal', 1, output='c'),
+                 a_object('a', '2', 'UNKNOWN', 3, False, 'sticky', output='u'),
+                 a_object('a', '3', 'WARNING', 4, depth=LARGEST, output='w'),
+                 a_object('c', None, 'UP', 0, output='y')]),
+    ('every byte of an output', b'object;a;;UP;1;fresh;-;0;' + escaped(EVERY_BYTE) + b';\n', '',
+     'objects', [a_object('a', last=1, output=EVERY_BYTE.decode('utf-8', 'replace') + ';')]),
+    ('every byte of a name', b'object;%s;%s;OK;1;fresh;-;0;\n' % (escaped(EVERY_BYTE), escaped(EVERY_BYTE[::-1])), '',
+     'objects', [a_object(EVERY_BYTE.decode('utf-8', 'replace'), EVERY_BYTE[::-1].decode('utf-8', 'replace'), 'OK', 1)]),
+    ('a backslash that begins no escape', b'object;a;;UP;1;fresh;-;0;\\y \\x4 \\xG0 \\x0A \\\\x41 \\x41\\\n', '',
+     'objects', [a_object('a', last=1, output='\\y \\x4 \\xG0 \\x0A \\x41 A\\')]),
+    ('texts that are UTF-8', 'object;höst;€;OK;1;fresh;-;0;\\x0a🐌\n'.encode(), '',
+     'objects', [a_object('höst', '€', 'OK', 1, output='\n🐌')]),
+    ('each source of a comment', b'comment;1;a;;user;1;2;ann;"t";\ncomment;4294967295;a;b;ack;0;3;%s;t\n'
+     b'comment;3;a;;downtime;0;4294967295;;%s\n' % (escaped(EVERY_BYTE), escaped(EVERY_BYTE)), '',
+     'comments', [a_comment(1, 'a', None, 'user', True, 2, 'ann', '"t";'),
+                  a_comment(LARGEST, 'a', 'b', 'ack', False, 3, EVERY_BYTE.decode('utf-8', 'replace'), 't'),
+                  a_comment(3, 'a', None, 'downtime', False, LARGEST, '', EVERY_BYTE.decode('utf-8', 'replace'))]),
+    ('each kind of downtime', b'downtime;1;a;;fixed;0;2;3;4;-;ann;t\ndowntime;5;a;b;flexible;6;7;8;9;10;bob;\\\\;\n', '',
+     'downtimes', [a_downtime(1, 'a', None, True, 0, 2, 3, 4, None, 'ann', 't'),
+                   a_downtime(5, 'a', 'b', False, 6, 7, 8, 9, 10, 'bob', '\\;')]),
+    ('objects of a state', b'object;a;;UP;1;fresh;-;0;\nobject;b;;DOWN;1;fresh;-;0;\n', '?state=up',
+     'objects', [a_object('a', last=1)]),
+    ('comments by the text of a host, whatever the state', b'comment;1;abc;;user;1;2;;\ncomment;2;a;bc;user;1;2;;\n',
+     '?state=down&host=bc', 'comments', [a_comment(1, 'abc', None, 'user', True, 2, '', '')]),
+    ('downtime by the text of a host, whatever the state',
+     b'downtime;1;a b;;fixed;0;2;3;4;-;;\ndowntime;2;ab;;fixed;0;2;3;4;-;;\n', '?host=a+b&state=down',
+     'downtimes', [a_downtime(1, 'a b', None, True, 0, 2, 3, 4, None, '', '')]),
+    ('a gateway that is closing', b'closing;4294967295\n', '',
+     'gateways', [dict(name='east', reachable=True, moment=60, closing=LARGEST)]),
+]
+
+
+def test_json():
+    """The JSON of each row, read by another parser, and the same bytes as another writer's."""
+    for name, lines, query, member, expected in JSON_ROWS:
+        with Web(('east', shows(b'status 60\n' + lines).port)) as web:
+            response, answer = web.ask('/status.json' + query)
+        read = json.loads(answer)
+        test(f'JSON: {name}', read[member] == expected, read[member])
+        test(f'JSON as another program writes it: {name}', answer == json.dumps(
+            read, ensure_ascii=False, separators=(',', ':')).encode(), answer)
+        test(f'the members and their order: {name}',
+             list(read) == ['gateways', 'objects', 'comments', 'downtimes']
+             and [list(row) for row in read[member]] == [list(row) for row in expected], answer)
+    test('the type of JSON', response.getheader('content-type') == 'application/json', response.headers)
+    with Web(('e\\"\nä', shows(b'status 0\n').port), ('west', free_port())) as web:
+        read = web.json()
+        test('JSON of gateways', read == dict(gateways=[
+            dict(name='e\\"\nä', reachable=True, moment=0, closing=None),
+            dict(name='west', reachable=False, fault="it can't be reached")],
+            objects=[], comments=[], downtimes=[]), read)
+
+
+KINDS = {'host': ['UP', 'DOWN', 'UNREACHABLE', 'PENDING'], 'service': ['OK', 'WARNING', 'CRITICAL', 'UNKNOWN', 'PENDING']}
+GATEWAY = 'e\\"\nä,{}'
+
+
+def samples_over_two(now):
+    """All samples of `east` and `west`, and of a gateway that is down: each object counts once."""
+    states = {('host', 'UP'): 2, ('host', 'DOWN'): 1, ('service', 'OK'): 1, ('service', 'WARNING'): 1,
+              ('service', 'CRITICAL'): 1, ('service', 'PENDING'): 1}
+    pages = {'nscagate_page_seconds': (now, now), 'nscagate_closing': (0, 1), 'nscagate_page_objects': (5, 5),
+             'nscagate_comments': (2, 1), 'nscagate_downtimes': (1, 2)}
+    return {('nscagate_objects_stale', ()): 1, ('nscagate_problems_unhandled', ()): 1,
+            ('nscagate_objects_acknowledged', ()): 2, ('nscagate_objects_in_downtime', ()): 1,
+            ('nscagate_up', (('gateway', GATEWAY),)): 1, ('nscagate_up', (('gateway', 'west'),)): 1,
+            ('nscagate_up', (('gateway', 'down'),)): 0,
+            **{(name, (('gateway', GATEWAY),)): numbers[0] for name, numbers in pages.items()},
+            **{(name, (('gateway', 'west'),)): numbers[1] for name, numbers in pages.items()},
+            **{('nscagate_objects', (('kind', kind), ('state', state))): states.get((kind, state), 0)
+               for kind in KINDS for state in KINDS[kind]}}
+
+
+def samples_of(text):
+    """The samples of a text in Prometheus's format: a number by name and labels."""
+    found = {}
+    for line in text.decode().split('\n')[:-1]:
+        if line.startswith('# '):
+            continue
+        name, labels, number = re.fullmatch(r'([a-z_]+)(?:\{(.*)\})? ([0-9]+)', line).groups()
+        pairs = re.findall(r'([a-z]+)="((?:[^"\\]|\\.)*)"', labels or '')
+        meant = {'\\n': '\n', '\\"': '"', '\\\\': '\\'}
+        key = name, tuple((label, re.sub(r'\\.', lambda found: meant[found[0]], value)) for label, value in pairs)
+        assert key not in found and ','.join(f'{label}="{value}"' for label, value in pairs) == (labels or ''), line
+        found[key] = int(number)
+    return found
+
+
+def example(first_line):
+    """The example of docs/STATUSWEB.md that begins with this line."""
+    with open('docs/STATUSWEB.md') as page:
+        block = re.search(f'^    {first_line}\n(?:    .*\n)*', page.read(), flags=re.M)[0]
+    return re.sub('^    ', '', block, flags=re.M)
+
+
+def promtool(kind, text):
+    """What `promtool check` reports of a text, and its status."""
+    with tempfile.NamedTemporaryFile('wb') as file:
+        file.write(text)
+        file.flush()
+        words = [] if kind == 'metrics' else [file.name]
+        return subprocess.run(['promtool', 'check', kind, *words], input=text, capture_output=True, timeout=60)
+
+
+def scraped(port, folder):
+    """What Prometheus itself finds in the metrics, by the example of docs/STATUSWEB.md."""
+    with open(f'{folder}/prometheus.yml', 'w') as file:
+        file.write('global:\n  scrape_interval: 1s\n')
+        file.write(example('scrape_configs:').replace('127.0.0.1:8080', f'127.0.0.1:{port}'))
+    own = free_port()
+    with open(f'{folder}/log', 'w') as log:
+        process = subprocess.Popen(['prometheus', f'--config.file={folder}/prometheus.yml', '--storage.tsdb.path',
+                                    f'{folder}/data', f'--web.listen-address=127.0.0.1:{own}'], stdout=log, stderr=log)
+    try:
+        ends, found = time.time() + 30, []
+        while not found and time.time() < ends:
+            time.sleep(0.5)
+            try:
+                client = http.client.HTTPConnection('127.0.0.1', own, timeout=5)
+                client.request('GET', '/api/v1/query?query=' + urllib.parse.quote('{__name__=~"nscagate_.*"}'))
+                found = json.loads(client.getresponse().read()).get('data', {}).get('result', [])
+            except OSError:
+                pass
+        return {(row['metric']['__name__'], tuple(sorted(
+            (name, value) for name, value in row['metric'].items() if name in ('gateway', 'kind', 'state')))):
+            int(row['value'][1]) for row in found}
+    finally:
+        process.kill()
+        process.wait()
+
+
+def test_metrics(now):
+    more = b'object;app1;Web;WARNING;%d;fresh;normal;2;\n' % now
+    closing = west(now).replace(b'comment;', more + b'comment;', 1) + b'closing;%d\n' % now
+    with Web((GATEWAY, shows(east(now)).port), ('west', shows(closing).port), ('down', free_port())) as web:
+        response, text = web.ask('/metrics?state=down')
+        found = samples_of(text)
+        test('the metrics of three gateways', found == samples_over_two(now), text)
+        test('the type of metrics', response.getheader('content-type') == 'text/plain; version=0.0.4; charset=utf-8',
+             response.headers)
+        if shutil.which('promtool'):
+            run = promtool('metrics', text)
+            test('promtool reads the metrics', run.returncode == 0 and run.stdout + run.stderr == b'', run)
+            run = promtool('rules', example('groups:').encode())
+            test('promtool reads the example of rules', run.returncode == 0 and b'2 rules found' in run.stdout, run)
+        else:
+            print('promtool ... skipped: it is not installed')
+        if shutil.which('prometheus'):
+            with tempfile.TemporaryDirectory() as folder:
+                found = scraped(web.port, folder)
+            test('Prometheus reads the same samples', found == samples_over_two(now), found)
+        else:
+            print('Prometheus ... skipped: it is not installed')
+
+
+def test_browser(now):
+    browser = shutil.which('chromium') or shutil.which('chromium-browser') or shutil.which('google-chrome')
+    if not browser:
+        print('a browser ... skipped: none is installed')
+        return
+    gateway = shows(page_of(b'<script>alert(1)</script>', b'"><img src=x onerror=alert(1)>', b'<b>', b'<i>', b"'", now))
+    with Web(('east', gateway.port)) as web, tempfile.TemporaryDirectory() as folder:
+        run = subprocess.run(
+            [browser, '--headless', '--no-sandbox', '--disable-gpu', '--enable-logging=stderr', '--v=0',
+             f'--user-data-dir={folder}', '--virtual-time-budget=3000', '--dump-dom',
+             f'http://127.0.0.1:{web.port}/'], capture_output=True, timeout=120)
+        log = run.stderr.decode('utf-8', 'replace')
+        test('a browser reports nothing on its console', 'CONSOLE' not in log and 'Content Security' not in log, log)
+        rows = [row for row in Tags(run.stdout).rows if row]
+        test('the problem stands first in a browser', bool(rows) and rows[0][0] == 'CRITICAL', rows[:2])
+
+
+def main():
+    if not os.access(PROGRAM, os.X_OK):
+        print(f'{PROGRAM} ... FAILED: it is not built')
+        print('0 passed, 1 failed')
+        sys.exit(1)
+    def run(check, *arguments):
+        try:
+            check(*arguments)
+        except Exception as error:
+            test(check.__name__, False, repr(error))
+    now = int(time.time())
+    at_once(lambda: run(test_words), lambda: run(test_json), *[
+        lambda check=check: run(check, now) for check in [
+            test_texts, test_merging, test_faults, test_sharing, test_descriptors, test_ends, test_requests,
+            test_metrics, test_browser]])
+    # What takes the processors for itself.
+    run(test_slow_browsers, int(time.time()))
+    run(test_memory, int(time.time()))
+    print(f'{passed} passed, {failed} failed')
+    sys.exit(failed > 0)
+
+
+main()
