@@ -1,5 +1,5 @@
 ghost use Rattle.std.specs.Prelude.{◌≡◌, [], IfSome};
-ghost use Rattle.gate_queue.specs.DrainedClose.{items_of_records};
+ghost use Rattle.gate_close.specs.DrainedClose.{items_of_records};
 
 use crate::fakes::one_client;
 use gate_applier::Applier;

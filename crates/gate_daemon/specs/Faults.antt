@@ -7,9 +7,9 @@ use Rattle.gate_core.specs.Merge.{IsMerge}
 use Rattle.gate_applier.specs.Applier.{ApplierView, is_limit}
 use Rattle.gate_applier.specs.declared.applier.OpenCause.TheVariants.{BadLimit}
 use Rattle.gate_queue.specs.Gate.{GateId}
-use Rattle.gate_queue.specs.declared.drained_close.CloseAllCause.{CloseAllCause}
-use Rattle.gate_queue.specs.declared.drained_close.CloseAllCause.TheVariants as cause
-use Rattle.gate_queue.specs.DrainedClose.{items_of_records, queued_by, CloseParts, close_parts, CanClose, LeavesSome}
+use Rattle.gate_close.specs.declared.drained_close.CloseAllCause.{CloseAllCause}
+use Rattle.gate_close.specs.declared.drained_close.CloseAllCause.TheVariants as cause
+use Rattle.gate_close.specs.DrainedClose.{items_of_records, queued_by, CloseParts, close_parts, CanClose, LeavesSome}
 use Rattle.gate_daemon.specs.Answered.{queued_by_each, HoldsAll}
 use Rattle.gate_daemon.specs.declared.gateway.GatewayFault.{GatewayFault}
 use Rattle.gate_daemon.specs.declared.gateway.GatewayFault.TheVariants as fault

@@ -2,7 +2,7 @@ ghost use Rattle.std.specs.Prelude.{◌≡◌, ◌≢◌, ◌≤◌, [], ◌∷�
 ghost use Rattle.gate_model.specs.declared.record.Moment.{Moment};
 ghost use Rattle.gate_model.specs.Record.{later};
 ghost use Rattle.gate_reader.specs.Clock.{Reads};
-ghost use Rattle.gate_queue.specs.DrainedClose.{items_of_records};
+ghost use Rattle.gate_close.specs.DrainedClose.{items_of_records};
 ghost use Rattle.gate_daemon.specs.declared.applying.ApplierStop.TheVariants.{Closing, LogFull};
 ghost use Rattle.gate_daemon.specs.Applying.{GoesByClock, IsSameLog};
 ghost use Rattle.gate_daemon.specs.declared.applying.Attempt.TheVariants as attempt;

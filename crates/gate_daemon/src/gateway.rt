@@ -1,6 +1,6 @@
 ghost use Rattle.std.specs.Prelude.{◌≡◌, ℕ, ◌+◌, ◌≤◌, List, vec_len, IfOk, IfErr};
 ghost use Rattle.gate_model.specs.declared.object.ObjectLine.{ObjectLine};
-ghost use Rattle.gate_queue.specs.DrainedClose.{items_of_records};
+ghost use Rattle.gate_close.specs.DrainedClose.{items_of_records};
 ghost use Rattle.gate_daemon.specs.Answered.{queued_by_each, HoldsAll};
 ghost use Rattle.gate_daemon.specs.Applying.{IsSameLog};
 ghost use Rattle.gate_daemon.specs.Faults.{IsGatewayFault};
@@ -19,8 +19,9 @@ use crate::starting::Unstarted;
 use crate::threads::{Start, run_scoped};
 use crate::workers::Workers;
 use gate_applier::OpenCause;
+use gate_close::{CloseAllFault, Closed, close_all};
 use gate_core::OpenFault;
-use gate_queue::{CloseAllFault, Closed, Gate, close_all};
+use gate_queue::Gate;
 use gate_reader::Report;
 use gate_worker::{Cause, Connections, Hold, SharedClock, Wake, Watch, WorkerLimits};
 use std::alloc::{AllocError, Global};

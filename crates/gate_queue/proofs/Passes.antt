@@ -1,8 +1,9 @@
 -- The steps of a part's pass, at the view that the part has.
-use Rattle.std.proofs.Common.{◌≡◌, ◌≢◌, ℕ, zero, suc, ◌+◌, ◌-◌, ◌*◌, ◌<◌, ◌≤◌, true≢false, cond, eq-eqb, ne_eqb, List, [], ◌∷◌, ◌++◌, length, set, Option, Some, None, refl, sym, ap, ◌∙◌, subst, arith, length-append}
-use Rattle.std.specs.Prelude.{slice_get, is_some, option_map, IsSome, IfNone, MatchOption}
+use Rattle.std.proofs.Common.{◌≡◌, ◌≢◌, ℕ, zero, suc, ◌+◌, ◌-◌, ◌*◌, ◌<◌, ◌≤◌, add-one, true≢false, cond, eq-eqb, ne_eqb, List, [], ◌∷◌, ◌++◌, length, set, get_or, Option, Some, None, refl, sym, ap, ◌∙◌, subst, arith, length-append}
+use Rattle.std.specs.Prelude.{slice_get, is_some, option_map, unwrap_or, IsSome, IfNone, MatchOption}
 use Rattle.std.proofs.Math.ListN.{length-set, replicate, length-replicate}
 use Rattle.std.proofs.lemmas.List.{append-nil}
+use Rattle.std.proofs.lemmas.Option.{slice_get-get_or}
 use mathlib.Core.List.{IsPrefix}
 use mathlib.Core.Logic.{dite}
 use native.Mathlib.Decide.{ℕ_discrete}
@@ -19,9 +20,9 @@ use Rattle.gate_queue.specs.declared.rule.View.{View}
 use Rattle.gate_queue.specs.declared.rule.EndedList.{EndedList}
 use Rattle.gate_queue.specs.Gate.{gate_id}
 use Rattle.gate_queue.specs.Client.{AllowsBeside}
-use Rattle.gate_queue.specs.Taker.{ended_list, queued_of, AllowsAfter, HasAll, taker_state}
+use Rattle.gate_queue.specs.Taker.{ended_list, queued_of, list_of, total_queued, AllowsAfter, HasAll, taker_state}
 use Rattle.gate_queue.specs.inner.Rule.{client, taker, blank, opener, IsRuled, TakesNext}
-use Rattle.gate_queue.specs.inner.Passes.{IsClientPass, IsTakerPass, CountsEnded, HasRest, limits_in}
+use Rattle.gate_queue.specs.inner.Passes.{IsClientPass, IsTakerPass, CountsEnded, total_counted, HasRest, limits_in}
 use Rattle.gate_queue.proofs.Moves.{sends, sees_full, sees_rest, takes, takes_in, configures, makes_client}
 
 -- a client with a count below the quota has fewer items queued than its quota
@@ -167,3 +168,19 @@ new_taker n quota capacity v counts few is filled =
     replicated zero k h = absurd (omega arith)
     replicated (suc m) zero h = refl
     replicated (suc m) (suc k) h = replicated m k (omega arith)
+
+-- the counts add up to what was queued
+pub total_is : (v : View) (counts : List (Option ℕ)) → CountsEnded v counts → (k : ℕ) → k ≤ v.clients → total_counted counts k ≡ total_queued v.ended k
+total_is v counts h zero less = refl
+total_is v counts h (suc k) less =
+    let none : Option ℕ = None in
+    let room : k < v.clients = omega arith in
+    let long : k < length counts = let l = h.long in omega arith in
+    let same : Some (get_or counts k none) ≡ Some (option_map length (queued_of (k + 1) v.ended)) = sym (slice_get-get_or counts k none long) ∙ h.each k room in
+    let is : get_or counts k none ≡ option_map length (queued_of (k + 1) v.ended) = cc in
+    let here : unwrap_or (get_or counts k none) 0 ≡ length (list_of v.ended (suc k)) = ap (λ o. unwrap_or o 0) is ∙ go (queued_of (k + 1) v.ended) ∙ ap (λ j. length (list_of v.ended j)) (add-one k) in
+    let before : total_counted counts k ≡ total_queued v.ended k = total_is v counts h k (omega arith) in (λ i. before i + here i)
+  where
+    go : (o : Option (List Numbered)) → unwrap_or (option_map length o) 0 ≡ length (unwrap_or o [])
+    go None = refl
+    go (Some queued) = refl

@@ -5,6 +5,5 @@ pub mod Client
 pub mod Taker
 pub mod GateClient
 pub mod GateOperator
-pub mod DrainedClose
 pub mod Opening
 pub mod inner

@@ -1,5 +1,5 @@
 -- What contracts see of the taker. Own rules.
-use Rattle.std.specs.Prelude.{◌≡◌, ℕ, ◌+◌, ◌==◌, if◌then◌else◌, List, [], ◌∷◌, ◌++◌, length, Option, Some, None}
+use Rattle.std.specs.Prelude.{◌≡◌, ℕ, zero, suc, ◌+◌, ◌==◌, if◌then◌else◌, List, [], ◌∷◌, ◌++◌, length, Option, Some, None, unwrap_or}
 use mathlib.Core.List.{IsPrefix}
 use Rattle.gate_model.specs.declared.record.Moment.{Moment}
 use Rattle.gate_model.specs.declared.submission.Numbered.{Numbered}
@@ -18,6 +18,15 @@ ended_list c queued = record { client = c; queued = queued }
 abbrev pub queued_of : ℕ → List EndedList → Option (List Numbered)
 queued_of c [] = None
 queued_of c (e ∷ es) = if e.client == c then Some e.queued else queued_of c es
+
+-- the same, or nothing where it was not
+abbrev pub list_of : List EndedList → ℕ → List Numbered
+list_of taken_in c = unwrap_or (queued_of c taken_in) []
+
+-- how many items were queued for those of clients 1 to n that were taken in
+abbrev pub total_queued : List EndedList → ℕ → ℕ
+total_queued taken_in zero = 0
+total_queued taken_in (suc n) = total_queued taken_in n + length (list_of taken_in (suc n))
 
 -- the taker: its gate, what was taken, what was queued for the clients taken in, and the moment of the close, once it
 -- knows of it

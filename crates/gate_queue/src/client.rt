@@ -169,7 +169,7 @@ impl Ended {
     }
 
     /// Whether the client knew of the close.
-    pub(crate) fn knows_of_close(&self) -> bool
+    pub fn knows_of_close(&self) -> bool
         ensures { result ≡ is_some self.now.known_close }
     {
         self.client.knowledge.moment().is_some()

@@ -1,3 +1,5 @@
+ghost use Rattle.std.specs.Prelude.{◌≡◌};
+
 use crate::rule::Ring;
 use gate_model::Moment;
 use once_cell::race::OnceBox;
@@ -28,6 +30,13 @@ impl Model for Gate {
 }
 
 impl Gate {
+    /// How many clients it was opened with.
+    pub fn clients(&self) -> u32
+        ensures { result ≡ self.now.limits.clients }
+    {
+        self.clients
+    }
+
     /// Notes that items are taken from the queue no more, but by a drained close. Nothing but waiting
     /// for room depends on it. Own rule.
     pub fn stop_taking(&self) {

@@ -6,8 +6,6 @@
 
 mod client;
 mod closer;
-mod drained_close;
-mod draining;
 mod gate;
 mod gate_client;
 mod gate_operator;
@@ -19,7 +17,6 @@ mod taker;
 
 pub use client::{Client, Ended};
 pub use closer::{Closer, Notice};
-pub use drained_close::{CloseAllCause, CloseAllFault, Closed, close_all};
 pub use gate::Gate;
 pub use gate_client::GateClient;
 pub use gate_core::{CloseFault, Refused};

@@ -1,8 +1,8 @@
-ghost use Rattle.std.specs.Prelude.{◌≡◌, ◌↔◌, IsTrue, IsSome, IfSome, IfNone, Some, ◌<◌, ◌≤◌};
+ghost use Rattle.std.specs.Prelude.{◌≡◌, ◌↔◌, IsTrue, IsSome, IfSome, IfNone, Some, ◌≤◌};
 ghost use Rattle.std.specs.Prelude.{length};
 ghost use Rattle.gate_queue.specs.Taker.{taker_state, queued_of, TakesOne, HasAll, BeginsEach};
-ghost use Rattle.gate_queue.specs.Taker.{TakesIn};
-ghost use Rattle.gate_queue.specs.inner.Draining.{total_counted};
+ghost use Rattle.gate_queue.specs.Taker.{TakesIn, total_queued};
+ghost use Rattle.gate_queue.specs.inner.Passes.{total_counted};
 
 use crate::client::{Client, Ended};
 use crate::closer::Notice;
@@ -42,10 +42,6 @@ impl Model for Taker {
 }
 
 impl Taker {
-    ghost use Rattle.gate_core.specs.Merge.{IsMerge};
-    ghost use Rattle.gate_queue.specs.DrainedClose.{LeavesSome};
-    ghost use Rattle.gate_queue.specs.inner.Draining.{AllTakenIn, list_of, total_queued};
-
     /// Takes the oldest item of the queue, or nothing where the queue is empty.
     ///
     /// It waits while other threads are in the midst of a step at the queue.
@@ -112,33 +108,11 @@ impl Taker {
         counts[client as usize - 1].is_some()
     }
 
-    // How many items were queued for all clients.
-    pub(crate) fn total_queued(&self) -> u64
-        requires { AllTakenIn self.now }
+    /// How many items were queued for all clients that were taken in.
+    pub fn total_queued(&self) -> u64
         ensures { result ≡ total_queued self.now.ended self.now.gate.limits.clients }
     {
         total(self.counts.as_slice())
-    }
-
-    // Where as many items were taken as were queued, all were taken.
-    pub(crate) fn shows_all(&self)
-        requires all { AllTakenIn self.now }
-        requires count { total_queued self.now.ended self.now.gate.limits.clients
-            ≤ length self.now.taken }
-        ensures { IsMerge self.now.gate.limits.clients (list_of self.now.ended) self.now.taken }
-    {
-        let _ = &self.pass;
-    }
-
-    // Where fewer items were taken than were queued, one is left.
-    pub(crate) fn shows_some(&self)
-        requires all { AllTakenIn self.now }
-        requires count { length self.now.taken
-            < total_queued self.now.ended self.now.gate.limits.clients }
-        ensures { LeavesSome
-            self.now.gate.limits.clients (list_of self.now.ended) self.now.taken }
-    {
-        let _ = &self.pass;
     }
 }
 

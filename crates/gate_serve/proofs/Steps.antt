@@ -5,9 +5,9 @@ use Rattle.std.specs.declared.net.socket_addr.SocketAddr.{SocketAddr}
 use Rattle.std.proofs.lemmas.List.{append-nil}
 use Rattle.gate_model.specs.declared.object.ObjectLine.{ObjectLine}
 use Rattle.gate_applier.specs.Applier.{ApplierView}
-use Rattle.gate_queue.specs.declared.drained_close.CloseAllCause.{CloseAllCause}
-use Rattle.gate_queue.specs.declared.drained_close.CloseAllCause.TheVariants as cause
-use Rattle.gate_queue.specs.DrainedClose.{items_of_records}
+use Rattle.gate_close.specs.declared.drained_close.CloseAllCause.{CloseAllCause}
+use Rattle.gate_close.specs.declared.drained_close.CloseAllCause.TheVariants as cause
+use Rattle.gate_close.specs.DrainedClose.{items_of_records}
 use Rattle.gate_config.specs.declared.config.Config.{Config}
 use Rattle.gate_reader.specs.Sink.{SinkState, Delivers, FailsOnce}
 use Rattle.gate_reader.proofs.Outputs.{fails_then, delivers_on}

@@ -5,7 +5,7 @@ use Rattle.std.specs.declared.net.socket_addr.SocketAddr.{SocketAddr}
 use Rattle.gate_model.specs.declared.object.ObjectLine.{ObjectLine}
 use Rattle.gate_model.specs.declared.record.Record.{Record}
 use Rattle.gate_model.specs.Meaning.{outcomes_of}
-use Rattle.gate_queue.specs.DrainedClose.{items_of_records}
+use Rattle.gate_close.specs.DrainedClose.{items_of_records}
 use Rattle.gate_reader.specs.Fault.{status_at_end, IsFaultReported}
 use Rattle.gate_reader.specs.Sink.{SinkState, Delivers, FailsOnce}
 use Rattle.gate_pages.specs.LogPage.{log_text}

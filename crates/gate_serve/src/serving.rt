@@ -1,5 +1,5 @@
 ghost use Rattle.std.specs.Prelude.{◌≡◌, ℕ, List, IfErr, IfOk, vec_len};
-ghost use Rattle.gate_queue.specs.DrainedClose.{items_of_records};
+ghost use Rattle.gate_close.specs.DrainedClose.{items_of_records};
 ghost use Rattle.gate_reader.specs.Sink.{sink_state};
 ghost use Rattle.gate_daemon.specs.Answered.{queued_by_each, HoldsAll};
 ghost use Rattle.gate_daemon.specs.Faults.{IsGatewayFault};

@@ -1,3 +1,1 @@
-mod Examples
 pub mod Unknown
-pub mod WordSteps

@@ -4,10 +4,10 @@ use Rattle.std.specs.Prelude.{Result, Err}
 use Rattle.gate_core.specs.Limits.{Limits}
 use Rattle.gate_core.specs.Legal.{Run}
 use Rattle.gate_reader.specs.Sink.{SinkState}
-use Rattle.nscagate.specs.Words.{Asked, replay, serve}
-use Rattle.nscagate.specs.declared.words.Request.{Request}
-use Rattle.nscagate.specs.declared.words.WordsFault.{WordsFault}
-use Rattle.nscagate.specs.declared.words.WordsFault.TheVariants as words_fault
+use Rattle.gate_words.specs.Words.{Asked, replay, serve}
+use Rattle.gate_words.specs.declared.words.Request.{Request}
+use Rattle.gate_words.specs.declared.words.WordsFault.{WordsFault}
+use Rattle.gate_words.specs.declared.words.WordsFault.TheVariants as words_fault
 use Rattle.gate_replay.specs.Replay.{IsReplayRun}
 use Rattle.gate_replay.specs.declared.fault.ReplayFault.TheVariants as replay_fault
 use Rattle.gate_serve.specs.declared.fault.ServeFault.TheVariants as fault

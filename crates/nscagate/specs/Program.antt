@@ -3,8 +3,8 @@ use Rattle.std.specs.Prelude.{◌≡◌, ◌≢◌, ◌⊎◌, ℕ, List, Some, 
 use Rattle.std.specs.IoError.{error_kind}
 use Rattle.std.specs.declared.io.Error.{Error}
 use Rattle.std.specs.declared.io.ErrorKind.TheVariants as kind
-use Rattle.nscagate.specs.declared.words.WordsFault.{WordsFault}
-use Rattle.nscagate.specs.declared.words.WordsFault.TheVariants as words
+use Rattle.gate_words.specs.declared.words.WordsFault.{WordsFault}
+use Rattle.gate_words.specs.declared.words.WordsFault.TheVariants as words
 use Rattle.nscagate.specs.declared.fault.ProgramFault.{ProgramFault}
 use Rattle.nscagate.specs.declared.fault.ProgramFault.TheVariants.{BadArguments, OutOfMemory}
 use Rattle.gate_reader.specs.Fault.{status_at_end, IsFaultReported}

@@ -1,7 +1,7 @@
 ghost use Rattle.std.specs.Prelude.{◌≡◌};
 
-use crate::words::WordsFault;
 use gate_reader::{Fault, Sink, put_last};
+use gate_words::WordsFault;
 use std::alloc::AllocError;
 use std::io;
 use std::io::ErrorKind;

@@ -5,7 +5,6 @@
 
 mod fault;
 mod program;
-mod words;
 
 use crate::fault::ProgramFault;
 use crate::program::run_program;

@@ -1,16 +1,16 @@
 ghost use Rattle.std.specs.Prelude.{◌≡◌, ◌≢◌, ℕ, List, Some, None, map, string_bytes};
 ghost use Rattle.gate_solo.specs.Allowed.{IsAllowed};
 ghost use Rattle.gate_reader.specs.Sink.{sink_state};
-ghost use Rattle.nscagate.specs.Words.{asked_of, replay, serve};
+ghost use Rattle.gate_words.specs.Words.{asked_of, replay, serve};
 ghost use Rattle.gate_replay.specs.Replay.{IsReplayRun};
 ghost use Rattle.nscagate.specs.Program.{IsRefused};
 ghost use Rattle.gate_serve.specs.Serve.{IsServeRun};
 
 use crate::fault::ProgramFault;
-use crate::words::{Request, read_words};
 use gate_reader::{Sink, end_with};
 use gate_replay::run_replay;
 use gate_serve::run_serve;
+use gate_words::{Request, read_words};
 use std::alloc::Global;
 use std::fs::Files;
 use std::io::Read;

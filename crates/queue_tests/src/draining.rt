@@ -1,13 +1,12 @@
 //! The close that applies all that was queued.
 ghost use Rattle.std.specs.Prelude.{◌≡◌, [], ◌∷◌, All, IfSome, IfErr};
-ghost use Rattle.gate_queue.specs.DrainedClose.{close_parts, CanClose};
+ghost use Rattle.gate_close.specs.DrainedClose.{close_parts, CanClose};
 
 use crate::parts::{applied_until_closed, applier, closed, submitted, two_clients};
 use gate_applier::Applier;
+use gate_close::{CloseAllCause, CloseAllFault, Closed, close_all};
 use gate_model::Moment;
-use gate_queue::{
-    Client, CloseAllCause, CloseAllFault, Closed, Closer, Ended, Gate, Taker, close_all,
-};
+use gate_queue::{Client, Closer, Ended, Gate, Taker};
 use std::alloc::Global;
 use std::sync::Wait;
 

@@ -1,6 +1,6 @@
 //! What the tests share: bodies, answers as plain numbers, and gates with their parts.
 ghost use Rattle.std.specs.Prelude.{◌≡◌, [], IfSome};
-ghost use Rattle.gate_queue.specs.DrainedClose.{items_of_records};
+ghost use Rattle.gate_close.specs.DrainedClose.{items_of_records};
 
 use gate_applier::{Applier, Ready};
 use gate_model::{Body, Kind, Moment, Numbered, ObjectTable};

@@ -1,13 +1,12 @@
 //! Clients, a close and an applier on threads of their own: what a close of all then applied.
 ghost use Rattle.std.specs.Prelude.{◌≡◌, [], All, IfSome, IfOk};
-ghost use Rattle.gate_queue.specs.DrainedClose.{items_of_records};
+ghost use Rattle.gate_close.specs.DrainedClose.{items_of_records};
 
 use crate::parts::{Answer, applied_until_closed, applier, closed, id_in, submitted};
 use gate_applier::Applier;
+use gate_close::{CloseAllFault, Closed, close_all};
 use gate_model::{Moment, Numbered, Record};
-use gate_queue::{
-    Client, CloseAllFault, Closed, Closer, Ended, Gate, Taker, close_all, conservation, open,
-};
+use gate_queue::{Client, Closer, Ended, Gate, Taker, conservation, open};
 use std::alloc::Global;
 use std::sync::Wait;
 use std::sync::atomic::AtomicUsize;

@@ -1,12 +1,13 @@
 //! Three items are queued, the gate is closed, and all is applied that the log has room for.
 ghost use Rattle.std.specs.Prelude.{◌≡◌, [], ◌∷◌, All, IfErr};
-ghost use Rattle.gate_queue.specs.DrainedClose.{close_parts, CanClose};
+ghost use Rattle.gate_close.specs.DrainedClose.{close_parts, CanClose};
 
 use crate::parts::{applier, one_client, two_clients};
 use crate::printing::show_records;
 use gate_applier::Applier;
+use gate_close::{CloseAllFault, Closed, close_all};
 use gate_model::{Body, Kind, Moment};
-use gate_queue::{Client, CloseAllFault, Closed, Closer, Ended, Gate, Refused, Taker, close_all};
+use gate_queue::{Client, Closer, Ended, Gate, Refused, Taker};
 use std::alloc::Global;
 use std::io::Write;
 use std::sync::Wait;

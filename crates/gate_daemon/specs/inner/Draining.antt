@@ -2,7 +2,7 @@
 use Rattle.std.specs.Prelude.{ℕ, Option}
 use Rattle.gate_model.specs.declared.record.Moment.{Moment}
 use Rattle.gate_applier.specs.Applier.{ApplierView}
-use Rattle.gate_queue.specs.DrainedClose.{AppliesMore}
+use Rattle.gate_close.specs.DrainedClose.{AppliesMore}
 use Rattle.gate_reader.specs.Clock.{Reads}
 use Rattle.gate_daemon.specs.declared.gateway.GatewayFault.{GatewayFault}
 use Rattle.gate_daemon.specs.declared.gateway.GatewayFault.TheVariants as fault

@@ -4,7 +4,7 @@ use Rattle.gate_queue.specs.Gate.{GateId}
 use Rattle.gate_queue.specs.Client.{ClientState}
 use Rattle.gate_queue.specs.Taker.{TakerState}
 use Rattle.gate_queue.specs.Opening.{new_clients}
-use Rattle.gate_queue.specs.DrainedClose.{items_of_records}
+use Rattle.gate_close.specs.DrainedClose.{items_of_records}
 use Rattle.gate_applier.specs.Applier.{ApplierView}
 use Rattle.gate_worker.specs.Numbers.{numbers_after}
 use Rattle.gate_worker.specs.declared.worker.Cause.{Cause}

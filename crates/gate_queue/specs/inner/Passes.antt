@@ -1,5 +1,5 @@
 -- Only proofs and private functions use this: what a client and the taker keep of their passes.
-use Rattle.std.specs.Prelude.{◌≡◌, ℕ, ◌+◌, ◌<◌, ◌≤◌, List, length, slice_get, Option, Some, option_map, IsSome}
+use Rattle.std.specs.Prelude.{◌≡◌, ℕ, zero, suc, ◌+◌, ◌<◌, ◌≤◌, List, length, slice_get, slice_index_or, Option, Some, None, option_map, unwrap_or, IsSome}
 use Rattle.gate_model.specs.declared.submission.Numbered.{Numbered}
 use Rattle.gate_core.specs.Limits.{Limits, limits_of}
 use Rattle.gate_core.specs.Merge.{IsClient}
@@ -26,6 +26,11 @@ pub record CountsEnded (v : View) (counts : List (Option ℕ)) : Type 0 where
   pub each : (index : ℕ) → index < v.clients
       → slice_get counts index ≡ Some (option_map length (queued_of (index + 1) v.ended))
   pub clients : (c : ℕ) → IsSome (queued_of c v.ended) → IsClient v.clients c
+
+-- the first so many counts, added up; none is 0
+abbrev pub total_counted : List (Option ℕ) → ℕ → ℕ
+total_counted counts zero = 0
+total_counted counts (suc k) = total_counted counts k + unwrap_or (slice_index_or counts k None) 0
 
 -- the queue may hold some items after those taken
 abbrev pub HasRest : View → Type 0

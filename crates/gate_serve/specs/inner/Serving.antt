@@ -2,8 +2,8 @@
 use Rattle.std.specs.Prelude.{◌≡◌, ◌⊎◌, ◌≤◌, ℕ, List, [], length, Option, Some, None, Result, Ok, Err}
 use Rattle.gate_reader.specs.Sink.{SinkState, Delivers, FailsOnce}
 use Rattle.gate_applier.specs.Applier.{ApplierView}
-use Rattle.gate_queue.specs.declared.drained_close.CloseAllCause.{CloseAllCause}
-use Rattle.gate_queue.specs.declared.drained_close.CloseAllCause.TheVariants as cause
+use Rattle.gate_close.specs.declared.drained_close.CloseAllCause.{CloseAllCause}
+use Rattle.gate_close.specs.declared.drained_close.CloseAllCause.TheVariants as cause
 use Rattle.gate_worker.specs.declared.worker.Cause.{Cause}
 use Rattle.gate_worker.specs.declared.worker.Cause.TheVariants as worker
 use Rattle.gate_daemon.specs.Answered.{queued_by_each}

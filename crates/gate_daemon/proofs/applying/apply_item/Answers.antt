@@ -1,7 +1,7 @@
 use Rattle.std.proofs.Common.{ap, ◌∙◌}
 use Rattle.gate_model.specs.Record.{later}
-use Rattle.gate_queue.specs.DrainedClose.{items_of_records}
-use Rattle.gate_queue.proofs.DrainingSteps.{items_next}
+use Rattle.gate_close.specs.DrainedClose.{items_of_records}
+use Rattle.gate_close.proofs.DrainingSteps.{items_next}
 use Rattle.gate_daemon.proofs.applying.apply_item.Goals as goal
 
 pub returns-clause-items : goal.returns-clause-items

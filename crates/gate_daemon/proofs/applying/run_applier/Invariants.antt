@@ -1,5 +1,5 @@
 use Rattle.std.proofs.Common.{◌≡◌, ◌≤◌}
-use Rattle.gate_queue.specs.DrainedClose.{items_of_records}
+use Rattle.gate_close.specs.DrainedClose.{items_of_records}
 use Rattle.gate_daemon.specs.Applying.{GoesByClock, IsSameLog}
 use Rattle.gate_daemon.proofs.applying.run_applier.Given as goal
 

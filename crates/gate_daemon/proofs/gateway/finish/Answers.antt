@@ -1,5 +1,5 @@
 use Rattle.std.proofs.Common.{◌≡◌, ◌+◌, ℕ, refl}
-use Rattle.gate_queue.specs.DrainedClose.{items_of_records, close_parts}
+use Rattle.gate_close.specs.DrainedClose.{items_of_records, close_parts}
 use Rattle.gate_queue.specs.Gate.{GateId}
 use Rattle.gate_daemon.specs.Answered.{queued_by_each}
 use Rattle.gate_daemon.specs.declared.joined.Joined.{Joined}

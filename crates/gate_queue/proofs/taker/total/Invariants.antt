@@ -1,5 +1,5 @@
 use Rattle.std.proofs.Common.{◌≡◌, ◌*◌, ◌^◌, ◌≤◌}
-use Rattle.gate_queue.specs.inner.Draining.{total_counted}
+use Rattle.gate_queue.specs.inner.Passes.{total_counted}
 use Rattle.gate_queue.proofs.taker.total.Given as goal
 
 abbrev pub invariant-loop-count : goal.invariant-loop-count

@@ -1,6 +1,6 @@
 use Rattle.std.proofs.Common.{ℕ, subst}
 use Rattle.std.proofs.lemmas.Result.{IfOk-weaker}
-use Rattle.gate_queue.specs.DrainedClose.{items_of_records}
+use Rattle.gate_close.specs.DrainedClose.{items_of_records}
 use Rattle.gate_daemon.specs.Answered.{queued_by_each, HoldsAll}
 use Rattle.gate_serve.proofs.Steps.{faults_of}
 use Rattle.gate_serve.proofs.serving.run.Goals as goal

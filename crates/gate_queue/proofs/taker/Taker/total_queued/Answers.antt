@@ -1,7 +1,7 @@
 use Rattle.std.proofs.Common.{◌≡◌, ◌∙◌, arith, subst, length}
-use Rattle.gate_queue.specs.Taker.{TakerState}
-use Rattle.gate_queue.specs.inner.Draining.{total_counted, total_queued}
-use Rattle.gate_queue.proofs.DrainingSteps.{total_is}
+use Rattle.gate_queue.specs.Taker.{TakerState, total_queued}
+use Rattle.gate_queue.specs.inner.Passes.{total_counted}
+use Rattle.gate_queue.proofs.Passes.{total_is}
 use Rattle.gate_queue.proofs.taker.Taker.total_queued.Goals as goal
 
 pub returns : goal.returns

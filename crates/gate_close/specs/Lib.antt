@@ -1,0 +1,2 @@
+pub mod DrainedClose
+pub mod inner

@@ -1,7 +1,0 @@
-use Rattle.std.proofs.Common.{ℕ, ◌≤◌}
-use Rattle.std.specs.Prelude.{IsTrue}
-use Rattle.gate_queue.specs.DrainedClose.{is_present}
-use Rattle.gate_queue.proofs.draining.missing.Given as goal
-
-abbrev pub invariant-loop-before : goal.invariant-loop-before
-invariant-loop-before l = (d : ℕ) → 1 ≤ d → d ≤ l.before → IsTrue (is_present l.given l.taker.ended d)

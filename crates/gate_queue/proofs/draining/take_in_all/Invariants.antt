@@ -1,5 +1,0 @@
-use Rattle.gate_queue.specs.inner.Draining.{TakesInAll}
-use Rattle.gate_queue.proofs.draining.take_in_all.Given as goal
-
-abbrev pub invariant-loop-ended : goal.invariant-loop-ended
-invariant-loop-ended l = TakesInAll l.yielded l.initial.taker l.taker
