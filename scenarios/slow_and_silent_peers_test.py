@@ -1,6 +1,6 @@
 """Plays slow, silent and many peers against the daemon: python3 slow_and_silent_peers_test.py PROGRAM [WORD]. Each play has
-a daemon of its own, and all run side by side; with a word only those whose name has it. Ends with a line 'N passed, M
-failed'."""
+a daemon of its own, and all but one run side by side; with a word only those whose name has it. Ends with a line 'N
+passed, M failed'."""
 import os
 import re
 import shutil
@@ -418,6 +418,8 @@ def play_nothing(program, folder):
 
 
 PLAYS = [play for name, play in sorted(globals().items()) if name.startswith("play_")]
+# Its senders have to find room within a second, whatever the others ask of the machine: it is played after them.
+LAST = play_many_lines
 
 
 def main():
@@ -433,11 +435,14 @@ def main():
             except Exception:  # a play that breaks off has failed
                 check(f"{play.__name__} ... {traceback.format_exc()}", "broken off", "ended")
 
-        plays = [threading.Thread(target=run, args=(play,)) for play in PLAYS if word in play.__name__]
+        chosen = [play for play in PLAYS if word in play.__name__]
+        plays = [threading.Thread(target=run, args=(play,)) for play in chosen if play is not LAST]
         for play in plays:
             play.start()
         for play in plays:
             play.join()
+        if LAST in chosen:
+            run(LAST)
     end_tests()
 
 
