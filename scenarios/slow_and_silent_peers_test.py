@@ -101,6 +101,8 @@ def play_used_up_sessions(program, folder):
                 time.sleep(0.05)
         except ConnectionRefusedError:
             refused = True
+        except ConnectionResetError:  # it came while the port was closed
+            pass
     check("used up sessions: the next sender is refused", refused, True)
     check("used up sessions: pages are shown", "result 2" in daemon.page_with("result 2"), True)
     output = shut_down(daemon, "used up sessions", 3.0)[1]
