@@ -15,7 +15,7 @@ import tempfile
 from daemon_clients import check, end_tests, packet
 
 TIME_LIMIT = 15.0  # seconds, for one run
-AT_ONCE = 16  # runs side by side: a worker waits a second for a full queue
+AT_ONCE = 16  # runs side by side
 PUSH = "push"  # a step of a session that submits
 
 

@@ -1,6 +1,7 @@
 """Plays slow, silent and many peers against the daemon: python3 slow_and_silent_peers_test.py PROGRAM [WORD]. Each play has
-a daemon of its own, and all but one run side by side; with a word only those whose name has it. Ends with a line 'N
-passed, M failed'."""
+a daemon of its own, and all run side by side; with a word only those whose name has it. Ends with a line 'N passed, M
+failed'."""
+import ctypes
 import os
 import re
 import shutil
@@ -16,6 +17,12 @@ from daemon_clients import CONFIGURATION, TIME_LIMIT, Daemon, ask, check, end_te
 
 END = 15.0  # seconds from the answer `closing` to the end of the daemon, at most
 SENDER = 10.0  # seconds after which a send_nsca gives up
+
+# Of the system's ptrace.h and wait.h.
+PTRACE_DETACH = 17
+PTRACE_SEIZE = 0x4206
+PTRACE_INTERRUPT = 0x4207
+WAIT_FOR_THREADS = 0x40000000
 
 
 def limited(**keys):
@@ -296,6 +303,79 @@ def send_all(connection, data):
         pass
 
 
+def send_burst(daemon, thousands):
+    """Begins to send so many thousand packets by each of four connections at once: the threads, and a list that gets an item
+    for each thousand that is sent."""
+    sent = []
+
+    def send_many(number):
+        with daemon.connect("agents") as connection:
+            connection.settimeout(60.0)
+            moment = int.from_bytes(read_exactly(connection, 132)[128:], "big")
+            pool = b"".join(packet(moment, b"web1", b"HTTP", one % 4, b"%d %d" % (number, one)) for one in range(1000))
+            for _ in range(thousands):
+                connection.sendall(pool)
+                sent.append(number)
+
+    senders = [threading.Thread(target=send_many, args=(number,)) for number in range(4)]
+    for sender in senders:
+        sender.start()
+    return senders, sent
+
+
+def end_burst(daemon, senders):
+    """Waits until each packet of a burst was queued and applied."""
+    for sender in senders:
+        sender.join()
+    # The last connection is served to its end before the next one, which a silent sender shows.
+    check("the sender after a burst is served", send_one(daemon, b"the last one"), True)
+    daemon.page_with("the last one")
+
+
+def applier_of(daemon):
+    """The thread that rests most often: the applier rests for 2 ms, the others for 100."""
+
+    def rests():
+        found = {}
+        for thread in os.listdir(f"/proc/{daemon.process.pid}/task"):
+            with open(f"/proc/{daemon.process.pid}/task/{thread}/status", encoding="ascii") as file:
+                found[int(thread)] = int(re.search(r"^voluntary_ctxt_switches:\s+(\d+)$", file.read(), re.MULTILINE)[1])
+        return found
+
+    ask(daemon, "[1] x")  # all threads have started
+    before = rests()
+    time.sleep(1.0)
+    after = rests()
+    return max(after, key=lambda thread: after[thread] - before.get(thread, 0))
+
+
+def hold(thread, seconds):
+    """Lets one thread of a child process stand still: whether the system let it."""
+    trace = ctypes.CDLL(None).ptrace
+    trace.argtypes = [ctypes.c_long] * 4
+    trace.restype = ctypes.c_long
+    if trace(PTRACE_SEIZE, thread, 0, 0) != 0:
+        return False
+    trace(PTRACE_INTERRUPT, thread, 0, 0)
+    os.waitpid(thread, WAIT_FOR_THREADS)
+    time.sleep(seconds)
+    return trace(PTRACE_DETACH, thread, 0, 0) == 0
+
+
+def play_a_standstill(program, folder):
+    """No packet of a burst is lost where the applier stands still for longer than a line waits for room."""
+    daemon = Daemon(program, folder, limited(items=100000, limit=200000))
+    applier = applier_of(daemon)
+    senders, sent = send_burst(daemon, 20)
+    while len(sent) < 8:
+        time.sleep(0.001)
+    if not hold(applier, 11.0):
+        print("a standstill ... not held: the system lets nobody hold a thread", flush=True)
+    end_burst(daemon, senders)
+    output = shut_down(daemon, "a standstill", END)[1]
+    check("a standstill: each packet is logged", output.split("\n", 1)[0], "log 80001")
+
+
 def play_many_lines(program, folder):
     """No line of an operator finds the queue full while the log has room, and no packet of four connections."""
     daemon = Daemon(program, folder, limited(items=100000, limit=1000000))
@@ -316,22 +396,7 @@ def play_many_lines(program, folder):
         sender.join()
     check("many lines: each is queued", found, {b"queued": 100000})
 
-    def send_many(number):
-        with daemon.connect("agents") as connection:
-            connection.settimeout(60.0)
-            moment = int.from_bytes(read_exactly(connection, 132)[128:], "big")
-            pool = b"".join(packet(moment, b"web1", b"HTTP", one % 4, b"%d %d" % (number, one)) for one in range(1000))
-            for _ in range(40):
-                connection.sendall(pool)
-
-    senders = [threading.Thread(target=send_many, args=(number,)) for number in range(4)]
-    for sender in senders:
-        sender.start()
-    for sender in senders:
-        sender.join()
-    # The last connection is served to its end before the next one, which a silent sender shows.
-    check("many packets: the next sender is served", send_one(daemon, b"the last one"), True)
-    daemon.page_with("the last one")
+    end_burst(daemon, send_burst(daemon, 40)[0])
     output = shut_down(daemon, "many lines", END)[1]
     check("many packets: each is logged", output.split("\n", 1)[0], "log 260001")
 
@@ -420,8 +485,6 @@ def play_nothing(program, folder):
 
 
 PLAYS = [play for name, play in sorted(globals().items()) if name.startswith("play_")]
-# Its senders have to find room within a second, whatever the others ask of the machine: it is played after them.
-LAST = play_many_lines
 
 
 def main():
@@ -437,14 +500,11 @@ def main():
             except Exception:  # a play that breaks off has failed
                 check(f"{play.__name__} ... {traceback.format_exc()}", "broken off", "ended")
 
-        chosen = [play for play in PLAYS if word in play.__name__]
-        plays = [threading.Thread(target=run, args=(play,)) for play in chosen if play is not LAST]
+        plays = [threading.Thread(target=run, args=(play,)) for play in PLAYS if word in play.__name__]
         for play in plays:
             play.start()
         for play in plays:
             play.join()
-        if LAST in chosen:
-            run(LAST)
     end_tests()
 
 

@@ -51,8 +51,14 @@ const _: () = prove!(
         < END_MILLIS
 );
 
-/// How long a submission waits for room in the queue.
-pub const ROOM_MILLIS: u64 = 1_000;
+/// How long an agent's submission waits for room in the queue. An agent is never answered, so what is
+/// dropped is lost without a trace: it waits for longer than a machine with too much work lets the
+/// applier stand still.
+pub const AGENT_ROOM_MILLIS: u64 = 60_000;
+
+/// How long an operator's submission waits for room in the queue, until it is answered `full`. Other
+/// operators wait with it, also the one who shuts the daemon down.
+pub const OPERATOR_ROOM_MILLIS: u64 = 10_000;
 
 /// How long the applier rests before it looks again at an empty queue. It is short enough that a
 /// result is applied within 5 milliseconds, and long enough that an idle daemon is idle.

@@ -3,32 +3,34 @@ ghost use Rattle.gate_model.specs.declared.submission.Numbered.{Numbered};
 ghost use Rattle.gate_core.specs.Merge.{numbered};
 ghost use Rattle.gate_core.specs.Submit.{Refuses};
 
-use crate::times::{ROOM_MILLIS, ROOM_PAUSE_MICROS};
+use crate::times::ROOM_PAUSE_MICROS;
 use gate_core::{CloseFault, Operator, Refused, Submit};
 use gate_model::{Body, Moment};
 use gate_queue::Gate;
 use std::thread;
 use std::time::{Clock, Duration, Instant};
 
-/// A client that waits while the queue is full, for a second at most, so that the applier needn't
-/// keep up with a burst. Once a body has waited in vain, none waits until the next one is queued;
-/// and none waits where nothing is taken from the queue any more.
+/// A client that waits while the queue is full, for a number of milliseconds at most, so that the
+/// applier needn't keep up with a burst. Once a body has waited in vain, none waits until the next
+/// one is queued; and none waits where nothing is taken from the queue any more.
 #[derive(Drop)]
 pub(crate) struct Waiting<'a, R, S> {
     rt: &'a R,
     gate: &'a Gate,
     pub(crate) client: S,
+    millis: u64,
     has_waited: bool,
 }
 
 impl<'a, R, S> Waiting<'a, R, S> {
-    pub(crate) fn new(rt: &'a R, gate: &'a Gate, client: S) -> Waiting<'a, R, S>
+    pub(crate) fn new(rt: &'a R, gate: &'a Gate, client: S, millis: u64) -> Waiting<'a, R, S>
         ensures { result.client ≡ client }
     {
         Waiting {
             rt,
             gate,
             client,
+            millis,
             has_waited: false,
         }
     }
@@ -40,12 +42,12 @@ impl<'a, R, S> Waiting<'a, R, S> {
     }
 }
 
-// Whether a second is over since the first call, or the clock can't be read.
-fn is_late<R: Clock>(rt: &R, began: &mut Option<Instant>) -> bool {
+// Whether these milliseconds are over since the first call, or the clock can't be read.
+fn is_late<R: Clock>(rt: &R, began: &mut Option<Instant>, millis: u64) -> bool {
     match *began {
         Some(first) => !first
             .elapsed(rt)
-            .is_ok_and(|waited| waited < Duration::from_millis(ROOM_MILLIS)),
+            .is_ok_and(|waited| waited < Duration::from_millis(millis)),
         None => {
             *began = Instant::now(rt).ok();
             began.is_none()
@@ -53,13 +55,14 @@ fn is_late<R: Clock>(rt: &R, began: &mut Option<Instant>) -> bool {
     }
 }
 
-// Submits a body, and again while the queue is full and items are taken from it, for a second at
-// most.
+// Submits a body, and again while the queue is full and items are taken from it, for these
+// milliseconds at most.
 fn submit_again<R: Clock, S: Submit>(
     rt: &R,
     gate: &Gate,
     client: &mut S,
     body: Body,
+    millis: u64,
 ) -> Result<u64, Refused>
     ensures queued { IfOk result (λ number. (items : List Numbered) → S.stands client.old items →
         (number ≡ length items + 1)
@@ -77,7 +80,7 @@ fn submit_again<R: Clock, S: Submit>(
     for _ in 0..u64::MAX {
         match client.submit(body) {
             Err(Refused::Full(returned)) => {
-                if !gate.is_taking() || is_late(rt, &mut began) {
+                if !gate.is_taking() || is_late(rt, &mut began, millis) {
                     return Err(Refused::Full(returned));
                 }
                 body = returned;
@@ -104,7 +107,7 @@ impl<'a, R: Clock, S: Submit> Submit for Waiting<'a, R, S> {
         let answer = if self.has_waited {
             self.client.submit(body)
         } else {
-            submit_again(self.rt, self.gate, &mut self.client, body)
+            submit_again(self.rt, self.gate, &mut self.client, body, self.millis)
         };
         self.has_waited = matches!(answer, Err(Refused::Full(_)));
         answer

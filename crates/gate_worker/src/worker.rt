@@ -5,6 +5,7 @@ ghost use Rattle.gate_worker.specs.inner.Serving.{Extends};
 
 use crate::connections::{Connections, Hold, Point, SharedClock, Watch};
 use crate::limits::WorkerLimits;
+use crate::times::{AGENT_ROOM_MILLIS, OPERATOR_ROOM_MILLIS};
 use crate::waiting::Waiting;
 use gate_queue::{Client, Closer, Ended, Gate, GateClient, GateOperator};
 use gate_reader::{Report, Sink, Source, serve_lines, serve_packets};
@@ -52,7 +53,12 @@ fn serve_agent<R: Wait + Clock, I: Source + Drop, O: Sink + Drop, K: Watch>(
     ensures number { result.0.number ≡ client.number }
     ensures queued { Extends client.queued result.0.queued result.1.answers }
 {
-    let mut lent = Waiting::new(rt, gate, GateClient::new(rt, gate, client));
+    let mut lent = Waiting::new(
+        rt,
+        gate,
+        GateClient::new(rt, gate, client),
+        AGENT_ROOM_MILLIS,
+    );
     let report = serve_packets(
         alloc,
         &mut connection.0,
@@ -84,7 +90,7 @@ fn serve_operator<R: Wait + Clock, I: Source + Drop, O: Sink + Drop, K: Watch>(
     ensures queued { Extends client.queued result.0.queued result.2.answers }
 {
     let operator = GateOperator::new(rt, alloc, gate, client, closer);
-    let mut lent = Waiting::new(rt, gate, operator);
+    let mut lent = Waiting::new(rt, gate, operator, OPERATOR_ROOM_MILLIS);
     let report = serve_lines(
         alloc,
         &mut connection.0,
@@ -185,9 +191,9 @@ fn end_of(client: Client, reports: Vec<Report>, cause: Cause) -> WorkerEnd
 /// It ends where the gate is closing, where `limits.sessions` connections were served, where memory
 /// for one more report is missing, and where there are no more connections. It looks at the gate
 /// before it asks for a connection and after it; a connection that comes after the close isn't
-/// served. A packet or a line for which the queue is full is submitted again for a second at most,
-/// while items are taken from the queue. It waits for the connections, for room in the queue and for
-/// other threads at it. Own rule.
+/// served. A packet for which the queue is full is submitted again for a minute at most, a line for 10
+/// seconds, while items are taken from the queue. It waits for the connections, for room in the queue
+/// and for other threads at it. Own rule.
 pub fn run_worker<R: Wait + Clock, C: Connections + Drop, K: Watch, H: Hold + Drop>(
     rt: &R,
     alloc: Global,

@@ -86,6 +86,8 @@ pub fn play_operator<R: Wait + Clock>(
 ) -> bool {
     match one_client(alloc, 1, shown) {
         Some((gate, taker, closer, client)) => {
+            // What finds the queue full doesn't wait: the items are taken once the worker has ended.
+            gate.stop_taking();
             show_end(
                 work(rt, alloc, &gate, client, Some(closer), 4, bytes),
                 shown,
