@@ -1,5 +1,5 @@
 -- A reader of JSON finds the document in its text: it is nested no deeper than a reader takes.
-use Rattle.std.proofs.Common.{◌≡◌, ℕ, ◌≤◌, Bool, List, [], ◌∷◌, ◌++◌, map, filter, Option, Some, None, Ok, Err, option_and_then, refl, sym, ap, ◌∙◌, arith, lit≤, append-nil}
+use Rattle.std.proofs.Common.{◌≡◌, ℕ, ◌≤◌, List, [], ◌∷◌, ◌++◌, map, filter, Option, Some, None, Ok, Err, option_and_then, refl, sym, ap, ◌∙◌, arith, lit≤, append-nil}
 use Rattle.std.specs.List.{flat_map}
 use Rattle.json.specs.Json.{Json, value, if_last, max_depth, document}
 use Rattle.json.specs.Lex.{tokens}

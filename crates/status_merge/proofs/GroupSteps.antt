@@ -1,5 +1,5 @@
 -- The rows of a key, as a map of groups has them, are those that a filter leaves.
-use Rattle.std.proofs.Common.{◌≡◌, ℕ, List, [], ◌∷◌, ◌++◌, Bool, true, false, cond, if◌then◌else◌, Option, Some, None, refl, sym, ◌∙◌, ap, map, inl, inr, filter, unwrap_or}
+use Rattle.std.proofs.Common.{◌≡◌, List, [], ◌∷◌, Bool, refl, ◌∙◌, inl, inr, filter, unwrap_or}
 use Rattle.std.proofs.lemmas.Bool.{cases_Bool}
 use Rattle.itertools.specs.Consumer.{group_of, keyed, values_of, some_list}
 

@@ -1,13 +1,13 @@
 -- What is known of `merged`: `merged_lists`.
-use Rattle.std.proofs.Common.{◌≡◌, ℕ, List, [], ◌∷◌, Bool, true, false, ◌&&◌, cond, if◌then◌else◌, Option, Some, None, refl, sym, ◌∙◌, ap, map, arith, inl, subst, inr, filter, find, unwrap_or}
+use Rattle.std.proofs.Common.{◌≡◌, List, [], ◌∷◌, Bool, true, false, ◌&&◌, if◌then◌else◌, Some, refl, sym, ◌∙◌, ap, map, arith, inl, subst, inr, filter, find, unwrap_or}
 use Rattle.std.specs.Cmp.{IsEquivalence}
-use Rattle.std.specs.List.{All, AllByRecursion, AllPass, Contains, IsDistinct, list_any}
+use Rattle.std.specs.List.{All, AllByRecursion, Contains}
 use Rattle.std.specs.Str.{bytes_eq}
 use Rattle.std.proofs.lemmas.Bool.{cases_Bool}
 use Rattle.std.proofs.lemmas.Cmp.{nat_list_eq_equiv}
 use Rattle.std.proofs.lemmas.List.Elements.{All-contains, All-contains_itself, All-filter, All-from_recursion, All-map, Contains-append_cases, Contains-append_left, Contains-append_right, Contains-push, Contains-push_cases, filter_agree, filter_passes}
 use Rattle.status_merge.specs.declared.gateway.MergedObject.{MergedObject}
-use Rattle.status_merge.specs.Groups.{firsts, groups}
+use Rattle.status_merge.specs.Groups.{firsts}
 use Rattle.status_merge.specs.Objects.{is_later, is_latest, latest, merged, same_name, IsListOf}
 use Rattle.status_merge.proofs.FirstLaws.{weaker, firsts-distinct, firsts-among, firsts-whole, like, picked-distinct, picked-whole}
 use Rattle.status_merge.proofs.LatestSteps.{kept, kept-latest}

@@ -82,7 +82,8 @@ text_of bytes = utf8_lossy (decode bytes)
 -- the value of the last of these encoded pairs that has this name
 abbrev pub value_of : List ℕ → List (List ℕ × List ℕ) → Option (List ℕ)
 value_of name pairs =
-    last_or None (map (λ (pair : List ℕ × List ℕ). text_of pair.1) (filter (λ pair. bytes_eq (text_of pair.0) name) pairs))
+    last_or None
+    (map (λ (pair : List ℕ × List ℕ). text_of pair.1) (filter (λ pair. bytes_eq (text_of pair.0) name) pairs))
 
 -- the choice that a query asks for, the text of the host, and the seconds, each with its default
 abbrev pub choice_asked : List (List ℕ × List ℕ) → Choice

@@ -74,7 +74,9 @@ comments_on part gateway = elim gateway.page [
 -- the same of its downtime entries
 abbrev pub downtimes_on : List ℕ → Gateway → List (Entry ShownDowntime)
 downtimes_on part gateway = elim gateway.page [
-  | Ok page ↦ map (downtime_by gateway.name page.moment) (filter (λ row. has_part row.host.now part) page.downtimes.items)
+  | Ok page ↦
+      map (downtime_by gateway.name page.moment)
+      (filter (λ row. has_part row.host.now part) page.downtimes.items)
   | Err fault ↦ []
 ]
 

@@ -34,7 +34,9 @@ merged rows = map latest (groups same_name rows)
 pub record IsListOf (rows shown : List MergedObject) : Type 0 where
   pub once : IsDistinct same_name shown
   pub whole : AllPass (λ row. list_any (same_name row) shown) rows
-  pub latest : All (λ object. Contains rows object × (is_latest (filter (λ row. same_name row object) rows) object ≡ true)) shown
+  pub latest : All
+      (λ object. Contains rows object × (is_latest (filter (λ row. same_name row object) rows) object ≡ true))
+      shown
 
 -- a row of a page, with its gateway's name and the page's moment
 abbrev pub shown_by : Bor (List ℕ) → ℕ → ShownObject → MergedObject

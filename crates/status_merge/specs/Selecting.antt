@@ -2,7 +2,6 @@
 use Rattle.std.specs.Prelude.{ℕ, Bool, true, ◌==◌, ◌&&◌, ◌||◌, nat_lt, List, [], ◌∷◌, length, filter}
 use Rattle.std.specs.List.{flat_map}
 use Rattle.memchr.specs.Find.{matches}
-use Rattle.gate_model.specs.declared.state.State.{State}
 use Rattle.gate_model.specs.State.{is_problem}
 use Rattle.status_reading.specs.declared.rows.ShownObject.{ShownObject}
 use Rattle.status_merge.specs.declared.gateway.MergedObject.{MergedObject}
@@ -28,7 +27,8 @@ is_selected choice part object = has_choice choice object.row && has_part object
 
 -- the selected objects of a rank
 abbrev pub of_rank : Choice → List ℕ → List MergedObject → ℕ → List MergedObject
-of_rank choice part objects urgency = filter (λ object. (rank object.row == urgency) && is_selected choice part object) objects
+of_rank choice part objects urgency =
+    filter (λ object. (rank object.row == urgency) && is_selected choice part object) objects
 
 -- the selected objects by rank, and within a rank in their order
 abbrev pub selected : Choice → List ℕ → List MergedObject → List MergedObject

@@ -5,7 +5,7 @@ use Rattle.std.proofs.lemmas.Grind.{flat_map-append}
 use Rattle.std.proofs.lemmas.List.{map-set, take_more_set, take_all, length-map, length-take, length-set}
 use Rattle.gate_grammar.specs.Spelling.{joined, holds, IsSplit}
 use Rattle.gate_grammar.specs.Faults.{Begins}
-use Rattle.status_reading.specs.inner.Reading.{texts_of}
+use Rattle.status_reading.specs.inner.Reading.{AreFieldsOf, texts_of}
 use Rattle.status_reading.proofs.CutSteps.{never_holds, same_front, tail}
 
 -- no text holds a semicolon
@@ -71,7 +71,7 @@ taken_more text fields index rest after field within taken is clean =
 
 pub all_taken : (text : List ℕ) (fields : List (Bor (List ℕ))) (count last : ℕ) (rest : Bor (List ℕ)) → count ≡ last → length fields ≡ last + 1
     → IsTaken text fields count rest.now
-    → (59 ∷ text ≡ joined (texts_of (set fields last rest))) × IsSplit (texts_of (set fields last rest))
+    → AreFieldsOf (texts_of (set fields last rest)) text
 all_taken text fields count last rest at size before =
     let taken : IsTaken text fields last rest.now = subst (λ n. IsTaken text fields n rest.now) at before in
     let front = take last (texts_of fields) in
@@ -80,11 +80,11 @@ all_taken text fields count last rest at size before =
     (taken.front ∙ sym (joined_last front rest.now) ∙ ap joined (sym whole), subst IsSplit (sym whole) (split_last front rest.now taken.clean))
 
 pub none_fits : (text : List ℕ) (fields : List (Bor (List ℕ))) (count : ℕ) (rest : List ℕ) → IsTaken text fields count rest → holds 59 rest ≡ false
-    → count + 1 < length fields → (others : List (List ℕ)) → length others ≡ length fields → IsSplit others → 59 ∷ text ≡ joined others → ⊥
-none_fits text fields count rest taken none few others size split is =
+    → count + 1 < length fields → (others : List (List ℕ)) → length others ≡ length fields → AreFieldsOf others text → ⊥
+none_fits text fields count rest taken none few others size are =
     too_few (take count (texts_of fields)) rest others taken.clean none
     (omega (arith, length-take count (texts_of fields), length-map fields (λ (reference : Bor (List ℕ)). reference.now)))
-    split (sym taken.front ∙ is)
+    are.1 (sym taken.front ∙ are.0)
 
 -- ---- the same fields
 

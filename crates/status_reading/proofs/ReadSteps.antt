@@ -7,7 +7,7 @@ use Rattle.std.proofs.lemmas.List.{get_or-map, length-map, drop_all}
 use Rattle.gate_grammar.specs.Spelling.{joined, holds, IsSplit}
 use Rattle.status_reading.specs.Page.{object_fields, comment_fields, downtime_fields}
 use Rattle.status_reading.specs.Readable.{AreApart}
-use Rattle.status_reading.specs.inner.Reading.{Reads, texts_of}
+use Rattle.status_reading.specs.inner.Reading.{AreFieldsOf, Reads, texts_of}
 use Rattle.status_reading.specs.inner.Rows.{RowView, Object, Comment, Downtime, Closing, content, row_word, row_fields}
 use Rattle.status_reading.proofs.CutSteps.{same_cut, tail}
 use Rattle.status_reading.proofs.FieldSteps.{same_fields}
@@ -19,7 +19,7 @@ reads_none readable written text view (Some x) is none = cc
 
 -- the fields that were cut are those of the row
 pub fields_are : (cuts : List (Bor (List ℕ))) (text : List ℕ) (fields : List (List ℕ)) → length cuts ≡ length fields
-    → (59 ∷ text ≡ joined (texts_of cuts)) × IsSplit (texts_of cuts) → AreApart fields → 59 ∷ text ≡ joined fields → texts_of cuts ≡ fields
+    → AreFieldsOf (texts_of cuts) text → AreApart fields → 59 ∷ text ≡ joined fields → texts_of cuts ≡ fields
 fields_are cuts text fields size found apart is =
     same_fields (texts_of cuts) fields (length-map cuts (λ (reference : Bor (List ℕ)). reference.now) ∙ size) found.1 apart.split (sym found.0 ∙ is)
 
@@ -46,7 +46,7 @@ listed count cuts none size = listed_from count 0 cuts none (omega arith)
 
 -- the fields of the row that was read
 pub apart_of : (cuts : List (Bor (List ℕ))) (text : List ℕ) (fields : List (List ℕ)) → texts_of cuts ≡ fields
-    → (59 ∷ text ≡ joined (texts_of cuts)) × IsSplit (texts_of cuts) → holds 10 text ≡ false
+    → AreFieldsOf (texts_of cuts) text → holds 10 text ≡ false
     → (59 ∷ text ≡ joined fields) × AreApart fields
 apart_of cuts text fields is found clean =
     let whole : 59 ∷ text ≡ joined fields = found.0 ∙ ap joined is in (

@@ -1,4 +1,5 @@
--- The text of a status page: `page_text`. Own rules: the lines of the page. The words are those that the gateway writes.
+-- The text of a status page: `page_text`. Own rules: the lines of the page. The words are those that the gateway
+-- writes.
 use Rattle.std.specs.Prelude.{ℕ, List, [], ◌∷◌, ◌++◌, Option, Some, None, codes}
 use Rattle.std.specs.List.{flat_map}
 use Rattle.std.specs.Fmt.{decimal}

@@ -1,5 +1,5 @@
--- The rows whose page can be read: their fields can be told apart on their lines, and their numbers have 32 bits.
--- `IsReadable` is the main definition.
+-- The rows whose page can be read: no field holds an LF, none but the last of a line a semicolon, and the numbers have
+-- 32 bits. `IsReadable` is the main definition.
 use Rattle.std.specs.Prelude.{◌≡◌, ℕ, ◌<◌, ◌^◌, List, false, IfSome, Option}
 use Rattle.std.specs.List.{AllByRecursion}
 use Rattle.gate_grammar.specs.Spelling.{joined, holds, IsSplit}

@@ -2,8 +2,8 @@
 
 ghost use Rattle.std.specs.Prelude.{◌≡◌, ◌∷◌, ◌++◌, ◌<◌, ℕ, List, length, false, IfSome, MatchOption};
 ghost use Rattle.std.specs.Bool.{OnTrue, OnFalse};
-ghost use Rattle.gate_grammar.specs.Spelling.{joined, holds, IsSplit};
-ghost use Rattle.status_reading.specs.inner.Reading.{texts_of};
+ghost use Rattle.gate_grammar.specs.Spelling.{holds};
+ghost use Rattle.status_reading.specs.inner.Reading.{AreFieldsOf, texts_of};
 
 use memchr::memchr;
 
@@ -11,20 +11,21 @@ use memchr::memchr;
 pub fn cut(text: &[u8], byte: u8) -> Option<(&[u8], &[u8])>
     ensures parts { MatchOption result
         (holds byte text.now ≡ false)
-        (λ parts. (text.now ≡ parts.0.now ++ byte ∷ parts.1.now) × (holds byte parts.0.now ≡ false)) }
+        (λ parts. (text.now ≡ parts.0.now ++ byte ∷ parts.1.now)
+        × (holds byte parts.0.now ≡ false)) }
     ensures shorter { IfSome result (λ parts. length parts.1.now < length text.now) }
 {
     let index = memchr(byte, text)?;
     Some((&text[..index], &text[index + 1..]))
 }
 
-/// Fills the list with the fields of a text, which semicolons separate. The last field is the rest of
-/// the text, and may hold semicolons. False where the text has fewer fields.
+/// Fills the list with the fields of a text, which semicolons separate. The last field is the rest
+/// of the text, and may hold semicolons. False where the text has fewer fields.
 pub fn split<'a>(text: &'a [u8], fields: &mut [&'a [u8]]) -> bool
     requires { 0 < length fields.old }
-    ensures found { OnTrue result ((59 ∷ text.now ≡ joined (texts_of fields.new)) × IsSplit (texts_of fields.new)) }
+    ensures found { OnTrue result (AreFieldsOf (texts_of fields.new) text.now) }
     ensures none { OnFalse result ((others : List (List ℕ)) → length others ≡ length fields.old
-        → IsSplit others → 59 ∷ text.now ≡ joined others → ⊥) }
+        → AreFieldsOf others text.now → ⊥) }
 {
     let last = fields.len() - 1;
     let mut rest = text;

@@ -3,11 +3,11 @@
 ghost use Rattle.std.specs.Prelude.{◌≡◌, ◌∷◌, false};
 ghost use Rattle.std.specs.Bool.{Decides};
 ghost use Rattle.std.specs.Option.{option_map};
-ghost use Rattle.gate_grammar.specs.Spelling.{joined, holds};
+ghost use Rattle.gate_grammar.specs.Spelling.{holds};
 ghost use Rattle.status_reading.specs.Rows.{object_view, comment_view, downtime_view};
 ghost use Rattle.status_reading.specs.Page.{object_fields, comment_fields, downtime_fields};
 ghost use Rattle.status_reading.specs.Readable.{IsReadableObject, IsReadableComment, IsReadableDowntime};
-ghost use Rattle.status_reading.specs.inner.Reading.{Reads};
+ghost use Rattle.status_reading.specs.inner.Reading.{Reads, ReadsFields};
 ghost use Rattle.status_reading.specs.inner.Rows.{row_view, content, IsReadableRow};
 
 use crate::cuts::{cut, split};
@@ -27,7 +27,7 @@ pub enum Row<'a> {
 /// The row of an object's fields.
 fn object<'a>(text: &'a [u8]) -> Option<ShownObject<'a>>
     requires { holds 10 text.now ≡ false }
-    ensures { Reads IsReadableObject (λ row. joined (object_fields row)) (59 ∷ text.now) (option_map object_view result) }
+    ensures { ReadsFields IsReadableObject object_fields text.now (option_map object_view result) }
 {
     let mut fields: [&[u8]; 8] = [b""; 8];
     if !split(text, &mut fields) {
@@ -48,7 +48,8 @@ fn object<'a>(text: &'a [u8]) -> Option<ShownObject<'a>>
 /// The row of a comment's fields.
 fn comment<'a>(text: &'a [u8]) -> Option<ShownComment<'a>>
     requires { holds 10 text.now ≡ false }
-    ensures { Reads IsReadableComment (λ row. joined (comment_fields row)) (59 ∷ text.now) (option_map comment_view result) }
+    ensures { ReadsFields IsReadableComment comment_fields text.now
+        (option_map comment_view result) }
 {
     let mut fields: [&[u8]; 8] = [b""; 8];
     if !split(text, &mut fields) {
@@ -69,7 +70,8 @@ fn comment<'a>(text: &'a [u8]) -> Option<ShownComment<'a>>
 /// The row of a downtime entry's fields.
 fn downtime<'a>(text: &'a [u8]) -> Option<ShownDowntime<'a>>
     requires { holds 10 text.now ≡ false }
-    ensures { Reads IsReadableDowntime (λ row. joined (downtime_fields row)) (59 ∷ text.now) (option_map downtime_view result) }
+    ensures { ReadsFields IsReadableDowntime downtime_fields text.now
+        (option_map downtime_view result) }
 {
     let mut fields: [&[u8]; 11] = [b""; 11];
     if !split(text, &mut fields) {

@@ -78,7 +78,8 @@ impl<'a> StatusPage<'a> {
 
     /// Adds a row.
     fn push(&mut self, row: Row<'a>) -> Result<(), ReadFault>
-        ensures ok { OnOk result (page_view self.new ≡ with_row (page_view self.old) (row_view row.entry)) }
+        ensures ok { OnOk result
+            (page_view self.new ≡ with_row (page_view self.old) (row_view row.entry)) }
         ensures err { IfErr result (λ fault. fault ≡ ReadFault.OutOfMemory) }
     {
         match row {
@@ -170,9 +171,12 @@ pub fn read_status_page<'a>(alloc: Global, text: &'a [u8]) -> Result<StatusPage<
     // What is read, written again, is the text.
     ensures written { IfOk result (λ page. text.now ≡ page_text (page_view page)) }
 
-    // The page of any rows is read as these rows, where its fields can be told apart.
+    // The page of any rows is read as these rows, where no field holds an LF, and none but the last of
+    // a line a semicolon.
     ensures read { (page : PageView) → IsReadable page → text.now ≡ page_text page
-        → MatchResult result (λ found. page_view found ≡ page) (λ fault. fault ≡ ReadFault.OutOfMemory) }
+        → MatchResult result
+        (λ found. page_view found ≡ page)
+        (λ fault. fault ≡ ReadFault.OutOfMemory) }
     ensures fault { IfErr result (IsFaultOf text.now) }
 
     // So is the page of a board, where its names and authors hold no semicolon.

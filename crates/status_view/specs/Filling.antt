@@ -1,5 +1,5 @@
 -- The page of some parts: each slot has its text (`filled`). `without_texts` is what the texts have no part in.
-use Rattle.std.specs.Prelude.{ℕ, List, [], ◌∷◌, Option, Some, None, map, slice_get, string_bytes}
+use Rattle.std.specs.Prelude.{ℕ, List, [], Some, None, map, slice_get, string_bytes}
 use Rattle.form_urlencoded.specs.Form.{byte_serialize}
 use Rattle.html_text.specs.Html.{Piece, Markup, Text, Number}
 use Rattle.html_text.specs.Fields.{field_text}

@@ -7,7 +7,7 @@ use Rattle.status_view.specs.declared.layout.Slot.TheVariants as slot
 use Rattle.status_view.specs.declared.layout.EntryText.TheVariants as text
 use Rattle.status_view.specs.Layout.{NodeView, Markup, Number, Text, nodes_if, each_indexed}
 use Rattle.status_view.specs.Times.{span_nodes, moment_nodes}
-use Rattle.status_view.specs.Shapes.{CommentShapeView, DowntimeShapeView, PageShapeView}
+use Rattle.status_view.specs.Shapes.{CommentShapeView, DowntimeShapeView}
 
 -- ---- what both have
 

@@ -1,5 +1,5 @@
 -- The page of a shape: `page_nodes`. Its markup and its numbers are those of the shape alone.
-use Rattle.std.specs.Prelude.{ℕ, List, [], ◌∷◌, ◌++◌, codes}
+use Rattle.std.specs.Prelude.{List, [], ◌∷◌, ◌++◌, codes}
 use Rattle.status_view.specs.Layout.{NodeView, Markup}
 use Rattle.status_view.specs.Shapes.{PageShapeView}
 use Rattle.status_view.specs.HeadLayout.{document_nodes, title_nodes, alarms_nodes}

@@ -1,5 +1,5 @@
 -- What decides the markup of a page: `page_shape`. A shape has states, marks, moments, counts and ids, and no text.
-use Rattle.std.specs.Prelude.{ℕ, Bool, false, not, ◌==◌, List, map, length, string_len, Option, is_some, Result, Ok, Err}
+use Rattle.std.specs.Prelude.{ℕ, Bool, false, not, ◌==◌, List, map, length, string_len, Option, is_some, Ok, Err}
 use Rattle.status_reading.specs.declared.rows.ShownSource.{ShownSource}
 use Rattle.status_merge.specs.declared.gateway.Gateway.{Gateway}
 use Rattle.status_merge.specs.declared.gateway.MergedObject.{MergedObject}

@@ -1,6 +1,6 @@
-use Rattle.std.proofs.Common.{◌≡◌, ℕ, List, refl, string_bytes, ap, ◌∙◌}
+use Rattle.std.proofs.Common.{◌≡◌, refl, string_bytes, ap, ◌∙◌}
 use Rattle.std.specs.Str.{IsUtf8}
-use Rattle.json.specs.Json.{Json, document}
+use Rattle.json.specs.Json.{document}
 use Rattle.json.specs.Lex.{tokens}
 use Rattle.json.specs.Tree.{json_tokens}
 use Rattle.status_export.specs.Document.{status_document, compact_text}

@@ -1,4 +1,4 @@
-use Rattle.std.proofs.Common.{◌≡◌, ◌∙◌}
+use Rattle.std.proofs.Common.{◌∙◌}
 use Rattle.status_merge.proofs.AskingSteps.{refresh-Ok, refresh-Err}
 use Rattle.status_merge.proofs.query.refresh_of.Goals as goal
 

@@ -7,9 +7,9 @@ loop-index-init c = record { front = refl; clean = tt }
 
 pub returns-in_default-clause-none : goal.returns-in_default-clause-none
 returns-in_default-clause-none c =
-    λ others size split is.
+    λ others size are.
     none_fits c.args.text.now c.loop-index.fields c.loop-index.index c.loop-index.rest.now c.loop-index.invariant c.in_default.ensures.parts
-    (omega arith) others (omega arith) split is
+    (omega arith) others (omega arith) are
 
 pub loop-index-preserved : goal.loop-index-preserved
 loop-index-preserved c =

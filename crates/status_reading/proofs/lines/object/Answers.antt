@@ -9,7 +9,7 @@ abbrev none : Bor (List ℕ)
 none = record { ref_ptr = (0, 0); now = [] }
 
 pub returns-then-not-split : goal.returns-then-not-split
-returns-then-not-split c = λ row readable same. c.if-not-split.ensures.none (object_fields row) (omega arith) readable.apart.split same
+returns-then-not-split c = λ row readable same. c.if-not-split.ensures.none (object_fields row) (omega arith) (same, readable.apart.split)
 
 pub returns-in_err-state : goal.returns-in_err-state
 returns-in_err-state c =

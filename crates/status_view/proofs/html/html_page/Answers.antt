@@ -1,5 +1,3 @@
-use Rattle.status_view.specs.Shapes.{page_shape}
-use Rattle.status_view.specs.Page.{page_nodes}
 use Rattle.status_view.proofs.FillingSteps.{alone}
 use Rattle.status_view.proofs.html.html_page.Goals as goal
 

@@ -1,7 +1,7 @@
 use Rattle.std.proofs.Common.{◌≡◌, ◌++◌, drop}
 use Rattle.std.specs.List.{flat_map, enumerate_from}
 use Rattle.status_view.specs.Layout.{each_indexed}
-use Rattle.status_view.specs.declared.layout.Slot.TheVariants.{CommentGateway, DowntimeGateway}
+use Rattle.status_view.specs.declared.layout.Slot.TheVariants.{DowntimeGateway}
 use Rattle.status_view.specs.ListsLayout.{origin_nodes}
 use Rattle.status_view.proofs.lists_layout.lay_out_downtime_origins.Given as goal
 
