@@ -11,7 +11,7 @@ use std::sync::atomic::{AtomicU64, Ordering};
 use std::thread;
 
 // How often a held thread looks whether it may go on.
-const TURNS: u64 = 1_000_000;
+const TURNS: u64 = 10_000_000;
 
 // Some connections, each of which sends these bytes. What is written to them is dropped.
 #[derive(Drop)]
