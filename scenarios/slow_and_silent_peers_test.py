@@ -363,17 +363,28 @@ def hold(thread, seconds):
 
 
 def play_a_standstill(program, folder):
-    """No packet of a burst is lost where the applier stands still for longer than a line waits for room."""
+    """While the applier stands still, a line is answered `full` after 10 seconds; no packet of a burst is lost."""
     daemon = Daemon(program, folder, limited(items=100000, limit=200000))
     applier = applier_of(daemon)
     senders, sent = send_burst(daemon, 20)
     while len(sent) < 8:
         time.sleep(0.001)
-    if not hold(applier, 11.0):
-        print("a standstill ... not held: the system lets nobody hold a thread", flush=True)
+    held = []
+    holder = threading.Thread(target=lambda: held.append(hold(applier, 14.0)))
+    holder.start()
+    time.sleep(0.5)
+    began = time.monotonic()
+    answers = ask(daemon, "[1] ADD_HOST_COMMENT;web1;0;ann;hi")
+    took = time.monotonic() - began
+    holder.join()
+    if held == [True]:
+        check("a standstill: a line is answered", answers, ["full"])
+        check("a standstill: it waited for 10 s", 10.0 <= took < 13.0, True)
+    else:
+        print("a standstill ... skipped: the system lets nobody hold a thread", flush=True)
     end_burst(daemon, senders)
     output = shut_down(daemon, "a standstill", END)[1]
-    check("a standstill: each packet is logged", output.split("\n", 1)[0], "log 80001")
+    check("a standstill: each packet is logged", output.split("\n", 1)[0], f"log {80001 + answers.count('queued 1')}")
 
 
 def play_many_lines(program, folder):
