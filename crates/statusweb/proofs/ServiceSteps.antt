@@ -1,14 +1,16 @@
 -- What is sent, of the gateways whose texts were read, and to which request.
-use Rattle.std.proofs.Common.{◌≡◌, ℕ, Bool, true, false, List, [], ◌∷◌, Result, Ok, Err, OnOk, Option, unwrap_or, codes, sym, subst}
+use Rattle.std.proofs.Common.{◌≡◌, ℕ, Bool, true, false, List, [], ◌∷◌, Result, Ok, Err, OnOk, Option, Some, unwrap_or, codes, sym, subst}
 use Rattle.http.specs.declared.request.Request.{Request}
 use Rattle.http.specs.Request.{head_of}
 use Rattle.http.specs.Uri.{uri_path, uri_query}
 use Rattle.http_server.specs.declared.response.Response.{Response}
 use Rattle.status_merge.specs.declared.gateway.Gateway.{Gateway}
+use Rattle.status_merge.specs.declared.gateway.PageFault.{PageFault}
 use Rattle.statusweb.specs.declared.words.Place.{Place}
 use Rattle.statusweb.specs.declared.words.Settings.{Settings}
 use Rattle.statusweb.specs.declared.service.Form.{Form}
 use Rattle.statusweb.specs.declared.service.Route.{Route}
+use Rattle.statusweb.specs.declared.service.Route.TheVariants.{Status}
 use Rattle.statusweb.specs.Answers.{IsRefusal}
 use Rattle.statusweb.specs.Pages.{AreShown}
 use Rattle.statusweb.specs.Service.{is_reading, route_of, IsStatus, IsShownAt, IsAnswer}
@@ -17,15 +19,17 @@ pub on_ok : {T E P Q : Type 0} (result : Result T E) → (P → Q) → OnOk resu
 on_ok (Ok value) step known = step known
 on_ok (Err error) step known = tt
 
-pub shown_as : (settings : Settings) (places : List Place) (shown gateways : List Gateway) (query : List ℕ)
-    (form known : Form) (response : Response)
-    → places ≡ settings.places.items → gateways ≡ shown → AreShown places shown → form ≡ known
-    → IsStatus settings gateways query known response
-    → (x : List Gateway) × AreShown settings.places.items x × IsStatus settings x query form response
-shown_as settings places shown gateways query form known response same shows are is status = (
-  gateways,
-  subst (λ (places : List Place). AreShown places gateways) same (subst (AreShown places) (sym shows) are),
-  subst (λ (form : Form). IsStatus settings gateways query form response) (sym is) status,
+pub shown_as : (settings : Settings) (places : List Place) (fetched : List (Result (List ℕ) PageFault))
+    (shown gateways : List Gateway) (query : List ℕ) (form known : Form) (response : Response)
+    → places ≡ settings.places.items → gateways ≡ shown → AreShown places fetched shown → form ≡ known
+    → IsStatus settings gateways query known response → IsShownAt settings query (Some (Status form)) response
+shown_as settings places fetched shown gateways query form known response same shows are is status = (
+  fetched,
+  (
+    gateways,
+    subst (λ (places : List Place). AreShown places fetched gateways) same (subst (AreShown places fetched) (sym shows) are),
+    subst (λ (form : Form). IsStatus settings gateways query form response) (sym is) status,
+  ),
 )
 
 pub answered : (settings : Settings) (request : Request (List ℕ)) (response : Response) (query : List ℕ) (route : Option Route)

@@ -2,4 +2,3 @@ pub mod Words
 pub mod Answers
 pub mod Pages
 pub mod Service
-pub mod inner

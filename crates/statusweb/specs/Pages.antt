@@ -1,6 +1,7 @@
--- What is shown of gateways: a text of each is read (`AreShown`), and the pages are merged, selected by the query of a
--- URL, and laid out as HTML (`IsPage`), as JSON (`json_body`) or as metrics (`metrics_body`).
-use Rattle.std.specs.Prelude.{◌≡◌, ℕ, ⊤, List, [], ◌∷◌, map, Result, Ok, Err, string_bytes}
+-- What is shown of gateways: the text of each is read (`AreShown`), and the pages are merged, selected by the query of
+-- a URL, and laid out as HTML (`IsPage`), as JSON (`json_body`) or as metrics (`metrics_body`).
+use Rattle.std.specs.Prelude.{◌≡◌, ℕ, ◌+◌, ⊤, List, [], ◌∷◌, map, get_or, Result, Ok, Err, Vec, string_bytes}
+use Rattle.std.specs.declared.alloc.Global.{Global}
 use Rattle.std.specs.List.{flat_map}
 use Rattle.form_urlencoded.specs.Form.{raw_pairs}
 use Rattle.html_text.specs.Html.{html_bytes}
@@ -28,6 +29,11 @@ use Rattle.statusweb.specs.declared.words.Settings.{Settings}
 
 -- ---- what is read
 
+-- what a fetch gave: a text or a fault
+abbrev pub text_of : Result (Vec ℕ Global) PageFault → Result (List ℕ) PageFault
+text_of (Ok text) = Ok text.items
+text_of (Err fault) = Err fault
+
 -- a text is read as this page, or this is why it is none
 abbrev pub IsReadAs : List ℕ → Result StatusPage PageFault → Type 0
 IsReadAs text (Ok page) = text ≡ page_text (page_view page)
@@ -41,16 +47,24 @@ abbrev pub IsShownOf : Result (List ℕ) PageFault → Result StatusPage PageFau
 IsShownOf (Ok text) page = IsReadAs text page
 IsShownOf (Err fault) page = page ≡ Err fault
 
--- a gateway of this place, with the page of some text, or a fault
-abbrev pub IsShown : Place → Gateway → Type 0
-IsShown place gateway =
-    (gateway.name.now ≡ place.name.now) × ((fetched : Result (List ℕ) PageFault) × IsShownOf fetched gateway.page)
+-- what was fetched from the place of this index; out of memory where nothing was
+abbrev pub fetched_at : List (Result (List ℕ) PageFault) → ℕ → Result (List ℕ) PageFault
+fetched_at fetched index = get_or fetched index (Err OutOfMemory)
 
--- the gateways of these places, in their order
-abbrev pub AreShown : List Place → List Gateway → Type 0
-AreShown [] [] = ⊤
-AreShown (place ∷ places) (gateway ∷ gateways) = IsShown place gateway × AreShown places gateways
-AreShown _ _ = ⊥
+-- the gateway of this place, with the page of what was fetched
+abbrev pub IsShown : Place → Result (List ℕ) PageFault → Gateway → Type 0
+IsShown place fetched gateway = (gateway.name.now ≡ place.name.now) × IsShownOf fetched gateway.page
+
+-- the gateways of these places, which stand from this index on
+abbrev pub AreShownFrom : ℕ → List Place → List (Result (List ℕ) PageFault) → List Gateway → Type 0
+AreShownFrom index [] fetched [] = ⊤
+AreShownFrom index (place ∷ places) fetched (gateway ∷ gateways) =
+    IsShown place (fetched_at fetched index) gateway × AreShownFrom (index + 1) places fetched gateways
+AreShownFrom index _ fetched _ = ⊥
+
+-- the gateways of these places, in their order, with what was fetched from each
+abbrev pub AreShown : List Place → List (Result (List ℕ) PageFault) → List Gateway → Type 0
+AreShown places fetched gateways = AreShownFrom 0 places fetched gateways
 
 -- ---- what is shown of it
 
@@ -62,9 +76,10 @@ objects_of gateways = merged (flat_map objects_on gateways)
 abbrev pub asked_of : List Gateway → List ℕ → List MergedObject
 asked_of gateways query = selected (choice_asked (raw_pairs query)) (host_asked (raw_pairs query)) (objects_of gateways)
 
--- a page of these gateways for a query shows this
-pub record Views (settings : Settings) (gateways : List Gateway) (query : List ℕ) (view : View) : Type 0 where
+-- a page of these gateways for a query at this clock shows this
+pub record Views (settings : Settings) (gateways : List Gateway) (query : List ℕ) (now : ℕ) (view : View) : Type 0 where
   pub title : view.title.now ≡ settings.title.now
+  pub clock : view.clock ≡ now
   pub refresh : view.refresh ≡ settings.refresh
   pub choice : view.query.now.choice ≡ choice_asked (raw_pairs query)
   pub host : string_bytes view.query.now.host ≡ host_asked (raw_pairs query)
@@ -75,10 +90,10 @@ pub record Views (settings : Settings) (gateways : List Gateway) (query : List �
   pub comments : map comment_view view.comments.now ≡ comment_lines (host_asked (raw_pairs query)) gateways
   pub downtimes : map downtime_view view.downtimes.now ≡ downtime_lines (host_asked (raw_pairs query)) gateways
 
--- the page for a browser, at some clock
-abbrev pub IsPage : Settings → List Gateway → List ℕ → List ℕ → Type 0
-IsPage settings gateways query body =
-    (view : View) × Views settings gateways query view
+-- the page for a browser at this clock
+abbrev pub IsPage : Settings → List Gateway → List ℕ → ℕ → List ℕ → Type 0
+IsPage settings gateways query clock body =
+    (view : View) × Views settings gateways query clock view
     × (body ≡ html_bytes (filled view (page_nodes (page_shape view))))
 
 -- the same as JSON

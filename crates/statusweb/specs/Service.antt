@@ -1,11 +1,12 @@
 -- What is answered to a request: `IsAnswer`. Own rules, but for 404 and 405 (RFC 9110, sections 15.5.5 and 15.5.6).
-use Rattle.std.specs.Prelude.{ℕ, Bool, true, false, ◌||◌, List, [], ◌∷◌, Option, Some, None, unwrap_or, codes, if◌then◌else◌}
+use Rattle.std.specs.Prelude.{ℕ, Bool, true, false, ◌||◌, List, [], ◌∷◌, Option, Some, None, Result, unwrap_or, codes, if◌then◌else◌}
 use Rattle.std.specs.Str.{bytes_eq}
 use Rattle.http.specs.declared.request.Request.{Request}
 use Rattle.http.specs.Request.{head_of}
 use Rattle.http.specs.Uri.{uri_path, uri_query}
 use Rattle.http_server.specs.declared.response.Response.{Response}
 use Rattle.status_merge.specs.declared.gateway.Gateway.{Gateway}
+use Rattle.status_merge.specs.declared.gateway.PageFault.{PageFault}
 use Rattle.status_view.specs.declared.style.TheConstants.{STYLE}
 use Rattle.statusweb.specs.declared.words.Settings.{Settings}
 use Rattle.statusweb.specs.declared.service.Form.{Form}
@@ -31,16 +32,19 @@ route_of path =
 -- the status of these gateways in this form
 abbrev pub IsStatus : Settings → List Gateway → List ℕ → Form → Response → Type 0
 IsStatus settings gateways query Html response =
-    (body : List ℕ) × IsPage settings gateways query body × IsSent (codes "text/html; charset=utf-8") body response
+    (clock : ℕ) × ((body : List ℕ) × IsPage settings gateways query clock body
+    × IsSent (codes "text/html; charset=utf-8") body response)
 IsStatus settings gateways query Json response = IsSent (codes "application/json") (json_body gateways query) response
 IsStatus settings gateways query Metrics response =
     IsSent (codes "text/plain; version=0.0.4; charset=utf-8") (metrics_body gateways) response
 
--- what is answered at a path. That the gateways' texts are those that were sent last, no clause can say.
+-- what is answered at a path. That the texts are those that the gateways sent last, and the clock the system's, no
+-- clause can say.
 abbrev pub IsShownAt : Settings → List ℕ → Option Route → Response → Type 0
 IsShownAt settings query None response = IsRefusal 404 [] response
 IsShownAt settings query (Some (Status form)) response =
-    (gateways : List Gateway) × AreShown settings.places.items gateways × IsStatus settings gateways query form response
+    (fetched : List (Result (List ℕ) PageFault)) × ((gateways : List Gateway)
+    × AreShown settings.places.items fetched gateways × IsStatus settings gateways query form response)
 IsShownAt settings query (Some Style) response = IsKept (codes "text/css; charset=utf-8") STYLE.now response
 
 -- what is answered to a request

@@ -1,7 +1,6 @@
 //! The bodies of pages: the gateways' texts read, merged, selected by a query and shown.
 ghost use Rattle.std.specs.Prelude.{◌≡◌, map, IfOk, Ok, string_bytes};
-ghost use Rattle.statusweb.specs.Pages.{IsShownOf, AreShown, IsPage, json_body, metrics_body};
-ghost use Rattle.statusweb.specs.inner.Fetches.{text_of};
+ghost use Rattle.statusweb.specs.Pages.{text_of, IsShownOf, AreShown, IsPage, json_body, metrics_body};
 
 use crate::fetching::Fetched;
 use crate::words::{Place, Settings};
@@ -35,7 +34,8 @@ pub fn gateways_of<'t>(
     places: &[Place<'t>],
     fetched: &'t [Fetched],
 ) -> Result<Vec<Gateway<'t>>, AllocError>
-    ensures { IfOk result (λ gateways. AreShown places.now gateways.items) }
+    ensures { IfOk result (λ gateways.
+        AreShown places.now (map text_of fetched.now) gateways.items) }
 {
     let mut gateways = Vec::new(alloc);
     for (index, place) in places.iter().enumerate() {
@@ -59,7 +59,8 @@ pub fn html_body(
     query: &str,
     clock: u32,
 ) -> Result<Vec<u8>, AllocError>
-    ensures { IfOk result (λ body. IsPage settings.now gateways.now query.now body.items) }
+    ensures { IfOk result (λ body.
+        IsPage settings.now gateways.now query.now clock body.items) }
 {
     let query = read_query(alloc, query, settings.refresh)?;
     let all = merge(alloc, gateways)?;

@@ -20,8 +20,9 @@ returns c =
       downtimes = c.as_slice-5.result;
     } in
     if_ok c.bytes-2.result
-    (λ body known. page_of _ _ _ _ _ view c.in_ok-html_page.ensures.page (record {
+    (λ body known. page_of _ _ _ _ _ _ view c.in_ok-html_page.ensures.page (record {
       title = refl;
+      clock = refl;
       refresh = refl;
       choice = asked.choice;
       host = asked.host;
