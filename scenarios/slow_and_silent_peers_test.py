@@ -363,8 +363,9 @@ def hold(thread, seconds):
 
 
 def play_a_standstill(program, folder):
-    """While the applier stands still, a line is answered `full` after 10 seconds; no packet of a burst is lost."""
-    daemon = Daemon(program, folder, limited(items=100000, limit=200000))
+    """While the applier stands still, a line is answered `full` after 10 seconds; no packet of a burst is lost, nor the first
+    one of a connection."""
+    daemon = Daemon(program, folder, limited(items=100000, limit=200000, workers=5))
     applier = applier_of(daemon)
     senders, sent = send_burst(daemon, 20)
     while len(sent) < 8:
@@ -373,6 +374,7 @@ def play_a_standstill(program, folder):
     holder = threading.Thread(target=lambda: held.append(hold(applier, 14.0)))
     holder.start()
     time.sleep(0.5)
+    check("a standstill: a new sender is greeted", send_one(daemon, b"the first one"), True)
     began = time.monotonic()
     answers = ask(daemon, "[1] ADD_HOST_COMMENT;web1;0;ann;hi")
     took = time.monotonic() - began
@@ -384,7 +386,7 @@ def play_a_standstill(program, folder):
         print("a standstill ... skipped: the system lets nobody hold a thread", flush=True)
     end_burst(daemon, senders)
     output = shut_down(daemon, "a standstill", END)[1]
-    check("a standstill: each packet is logged", output.split("\n", 1)[0], f"log {80001 + answers.count('queued 1')}")
+    check("a standstill: each packet is logged", output.split("\n", 1)[0], f"log {80002 + answers.count('queued 1')}")
 
 
 def play_many_lines(program, folder):
