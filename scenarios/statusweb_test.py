@@ -122,17 +122,22 @@ class Web:
 
 
 class Tags(html.parser.HTMLParser):
-    """The tags of a page with their attributes, but for the values that hold texts; and its texts."""
+    """The tags of a page with their attributes, but for the values that hold texts; and its text without that of the
+    form: a line for each row of a table, each paragraph and each group of counts."""
 
     def __init__(self, page):
         super().__init__(convert_charrefs=True)
-        self.tags, self.texts, self.rows, self.cell = [], [], [], None
+        self.tags, self.rows, self.cell, self.form, self.text = [], [], None, None, ''
         self.feed(page.decode('utf-8', 'replace'))
         self.close()
+        lines = [' '.join(line.split()).strip('| ') for line in self.text.split('\0')]
+        self.text = ''.join(line + '\n' for line in lines if line)
 
     def handle_starttag(self, tag, attributes):
         held = {'href', 'value'}
         self.tags.append((tag, [(name, '' if name in held else value) for name, value in attributes]))
+        if tag == 'form':
+            self.form = True
         if tag == 'tr':
             self.rows.append([])
         if tag == 'td' and self.rows:
@@ -141,11 +146,16 @@ class Tags(html.parser.HTMLParser):
 
     def handle_endtag(self, tag):
         self.tags.append(('/' + tag, []))
+        self.text += {'td': ' | ', 'th': ' | ', 'a': ' ', 'span': ' '}.get(
+            tag, '\0' if tag in ('title', 'h1', 'h2', 'p', 'div', 'tr', 'footer') else '')
+        if tag == 'form':
+            self.form = None
         if tag == 'td':
             self.cell = None
 
     def handle_data(self, data):
-        self.texts.append(data)
+        if not self.form:
+            self.text += data
         if self.cell:
             self.rows[-1][-1] += data
 
@@ -197,54 +207,41 @@ def east(now):
     return (b'status %d\n' % now
             + b'object;web1;;UP;%d;fresh;-;0;up\n' % (now - 10)
             + b'object;web1;HTTP;CRITICAL;%d;fresh;sticky;0;acknowledged\n' % (now - 10)
-            + b'object;db1;;UP;%d;stale;-;0;quiet\n' % (now - 500)
-            + b'object;db1;SQL;WARNING;%d;fresh;-;0;old\n' % (now - 90)
-            + b'object;db1;Disk;PENDING;-;fresh;-;0;\n'
-            + b'comment;1;db1;;user;1;%d;ann;both\n' % (now - 70)
-            + b'comment;2;web1;;user;1;%d;ann;east alone\n' % (now - 70)
-            + b'downtime;4;db1;SQL;fixed;0;%d;%d;0;%d;ann;a move\n' % (now - 60, now + 600, now - 60))
+            + b'object;app1;;DOWN;%d;fresh;-;0;down\n' % (now - 20))
 
 
-def west(now):
-    return (b'status %d\n' % now
-            + b'object;db1;SQL;DOWN;-;fresh;-;0;never\n'
-            + b'object;db1;SQL;OK;%d;fresh;-;0;new\n' % (now - 30)
-            + b'object;app1;;DOWN;%d;fresh;-;0;down\n' % (now - 20)
-            + b'object;web1;;DOWN;%d;fresh;-;0;of equals the second\n' % (now - 10)
-            + b'comment;7;db1;;user;1;%d;ann;both\n' % (now - 70)
-            + b'downtime;9;db1;SQL;fixed;0;%d;%d;0;%d;ann;a move\n' % (now - 60, now + 600, now - 60)
-            + b'downtime;10;db1;SQL;fixed;0;%d;%d;0;%d;ann;another\n' % (now - 60, now + 600, now - 60))
+PAGES = 'scenarios/status_pages/'
 
 
-def test_merging(now):
-    with Web(('east', shows(east(now)).port), ('west', shows(west(now)).port)) as web:
-        read, page = web.json(), Tags(web.text('/'))
-        by_name = {(row['host'], row['service']): row for row in read['objects']}
-        test('each object stands once', len(by_name) == len(read['objects']) == 6, read['objects'])
-        test('the latest row is shown', by_name['db1', 'SQL']['output'] == 'new', by_name)
-        test('of equals the first is shown', by_name['web1', None]['output'] == 'up', by_name)
-        order = [(row['host'], row['service']) for row in read['objects']]
-        test('problems stand first', order == [
-            ('app1', None), ('db1', None), ('web1', 'HTTP'), ('db1', 'Disk'), ('web1', None), ('db1', 'SQL')], order)
-        comments = [row for row in page.rows if 'both' in row]
-        test('a comment of two gateways is one line', len(comments) == 1
-             and comments[0][-1] == '1 at east, 7 at west', comments)
-        downtimes = [row for row in page.rows if 'a move' in row]
-        test('a downtime entry of two gateways is one line', len(downtimes) == 1
-             and downtimes[0][-1] == '4 at east, 9 at west', downtimes)
-        test('JSON has each by itself', [(row['gateway'], row['id']) for row in read['downtimes']]
-             == [('east', 4), ('west', 9), ('west', 10)], read['downtimes'])
-        test('the counts are those of the merged list', b'<b>6</b> objects' in web.text('/'))
-        for query in ['state=critical', 'state=DOWN', 'host=db', 'state=nothing', 'state=stale&host=web']:
-            other = web.text('/?' + query)
-            begin, end = other.index(b'<nav'), other.index(b'</nav>')
-            counts = [piece.split(b'</b>')[0] for piece in other[begin:end].split(b'<b>')[1:]]
-            test(f'no filter changes a count: {query}',
-                 counts == [b'1', b'1', b'6', b'1', b'0', b'2', b'0', b'1', b'0', b'0', b'1', b'1'], counts)
-        chosen = web.json('/status.json?state=Down&host=ap')['objects']
-        test('a filter by state and host', [row['host'] for row in chosen] == ['app1'], chosen)
-        unhandled = web.json('/status.json?state=unhandled')['objects']
-        test('a filter by unhandled problems', [row['host'] for row in unhandled] == ['app1'], unhandled)
+def data(file):
+    with open(PAGES + file, 'rb') as opened:
+        return opened.read()
+
+
+def run_pages(name, files):
+    """Whether the files of a name are what is shown of its pages, which are those of the gateways."""
+    pages = sorted((file for file in files if file.endswith('.page')), key=lambda file: (file != name + '.page', file))
+    gateways = [('east' if file == name + '.page' else file.split('.')[1], shows(data(file)).port) for file in pages]
+    query = '?' + data(name + '.query').decode().strip() if name + '.query' in files else ''
+    kinds = [file.rpartition('.')[2] for file in files if file not in pages and file != name + '.query']
+    test(f'{name} has pages and what they show', pages and kinds and {*kinds} <= {'json', 'metrics', 'text'}, files)
+    with Web(*gateways) as web:
+        if 'json' in kinds:
+            expected = json.dumps(json.loads(data(name + '.json')), ensure_ascii=False, separators=(',', ':')).encode()
+            answer = web.text('/status.json' + query)
+            test(f'{name}.json', answer == expected, answer)
+        if 'metrics' in kinds:
+            answer = web.text('/metrics' + query)
+            test(f'{name}.metrics', answer == data(name + '.metrics'), answer)
+        if 'text' in kinds:
+            text = Tags(web.text('/' + query)).text
+            test(f'{name}.text', text.encode() == data(name + '.text'), text)
+
+
+def test_pages():
+    files = os.listdir(PAGES)
+    for name in sorted({file.split('.')[0] for file in files}):
+        run_pages(name, [file for file in files if file.split('.')[0] == name])
 
 
 def test_faults(now):
@@ -265,7 +262,7 @@ def test_faults(now):
         test('all three come of one fetch', mute.count == 1, mute.count)
         for name, cause in [('down', "it can&#39;t be reached"), ('mute', 'its page takes too long'),
                             ('endless', 'its page is too long'), ('dripping', 'its page takes too long'),
-                            ('cut', 'damaged or cut off'), ('http', 'does not show a status page'),
+                            ('cut', 'damaged or cut off at line 4'), ('http', 'does not show a status page'),
                             ('empty', 'does not show a status page'), ('still', 'stands still'),
                             ('closing', 'is closing')]:
             alarm = f'<p class="alarm"><strong>Gateway {name}</strong>'
@@ -470,116 +467,17 @@ def test_words():
         taken.listen(1)
         address = '%s:%d' % taken.getsockname()
         run = subprocess.run([PROGRAM, '--gateway', here, '--listen', address], capture_output=True, timeout=10)
-        test('an address that is taken', run.returncode == 4 and run.stderr == b'statusweb: bind\n', run)
+        test('an address that is taken', run.returncode == 4
+             and run.stderr == f'statusweb: bind {address}\n'.encode(), run)
+    run = subprocess.run([PROGRAM, '--gateway', here, b'\xff'], capture_output=True, timeout=10)
+    test('words that are no text', run.returncode == 2 and run.stderr == b'statusweb: bad arguments\n', run)
+    with open('/dev/full', 'wb') as full:
+        run = subprocess.run([PROGRAM, '--gateway', here, '--listen', here], stdout=full, stderr=subprocess.PIPE,
+                             timeout=10)
+    test('an output that can not be written', run.returncode == 3 and run.stderr == b'statusweb: WriteFault\n', run)
 
 
-def escaped(text):
-    """A text as a gateway's page shows it."""
-    return b''.join(b'\\\\' if byte == 92 else b'\\x%02x' % byte if byte < 32 or byte == 127 else bytes([byte])
-                    for byte in text)
-
-
-EVERY_BYTE = bytes(range(256)).replace(b';', b'')
-LARGEST = 2 ** 32 - 1
-
-
-def a_object(host, service=None, state='UP', last=None, stale=False, acknowledgement='none', depth=0, unhandled=False,
-             output=''):
-    return dict(gateway='east', host=host, service=service, state=state, last=last, stale=stale,
-                acknowledgement=acknowledgement, depth=depth, unhandled=unhandled, output=output)
-
-
-def a_comment(id, host, service, source, persistent, moment, author, text):
-    return dict(gateway='east', id=id, host=host, service=service, source=source, persistent=persistent, moment=moment,
-                author=author, text=text)
-
-
-def a_downtime(id, host, service, fixed, trigger, start, end, duration, begin, author, text):
-    return dict(gateway='east', id=id, host=host, service=service, fixed=fixed, trigger=trigger, start=start, end=end,
-                duration=duration, begin=begin, author=author, text=text)
-
-
-# What is asked of a gateway's page, and the member of the JSON that answers it.
-JSON_ROWS = [
-    ('a host has no service, and an object without a result no last one', b'object;a;;PENDING;-;fresh;-;0;\n', '',
-     'objects', [a_object('a', state='PENDING')]),
-    ('each state and mark', b'object;a;;DOWN;1;fresh;-;0;d\nobject;a;1;CRITICAL;2;stale;normal;1;c\n'
-     b'object;a;2;UNKNOWN;3;fresh;sticky;0;u\nobject;a;3;WARNING;4;fresh;-;4294967295;w\n'
-     b'object;b;;UNREACHABLE;5;fresh;-;0;x\nobject;b;1;OK;4294967295;stale;-;0;o\nobject;c;;UP;0;fresh;-;0;y\n', '',
-     'objects', [a_object('a', None, 'DOWN', 1, unhandled=True, output='d'),
-                 a_object('b', None, 'UNREACHABLE', 5, unhandled=True, output='x'),
-                 a_object('b', '1', 'OK', LARGEST, True, output='o'),
-                 a_object('a', '1', 'CRITICAL', 2, True, 'normal', 1, output='c'),
-                 a_object('a', '2', 'UNKNOWN', 3, False, 'sticky', output='u'),
-                 a_object('a', '3', 'WARNING', 4, depth=LARGEST, output='w'),
-                 a_object('c', None, 'UP', 0, output='y')]),
-    ('every byte of an output', b'object;a;;UP;1;fresh;-;0;' + escaped(EVERY_BYTE) + b';\n', '',
-     'objects', [a_object('a', last=1, output=EVERY_BYTE.decode('utf-8', 'replace') + ';')]),
-    ('every byte of a name', b'object;%s;%s;OK;1;fresh;-;0;\n' % (escaped(EVERY_BYTE), escaped(EVERY_BYTE[::-1])), '',
-     'objects', [a_object(EVERY_BYTE.decode('utf-8', 'replace'), EVERY_BYTE[::-1].decode('utf-8', 'replace'), 'OK', 1)]),
-    ('a backslash that begins no escape', b'object;a;;UP;1;fresh;-;0;\\y \\x4 \\xG0 \\x0A \\\\x41 \\x41\\\n', '',
-     'objects', [a_object('a', last=1, output='\\y \\x4 \\xG0 \\x0A \\x41 A\\')]),
-    ('texts that are UTF-8', 'object;höst;€;OK;1;fresh;-;0;\\x0a🐌\n'.encode(), '',
-     'objects', [a_object('höst', '€', 'OK', 1, output='\n🐌')]),
-    ('each source of a comment', b'comment;1;a;;user;1;2;ann;"t";\ncomment;4294967295;a;b;ack;0;3;%s;t\n'
-     b'comment;3;a;;downtime;0;4294967295;;%s\n' % (escaped(EVERY_BYTE), escaped(EVERY_BYTE)), '',
-     'comments', [a_comment(1, 'a', None, 'user', True, 2, 'ann', '"t";'),
-                  a_comment(LARGEST, 'a', 'b', 'ack', False, 3, EVERY_BYTE.decode('utf-8', 'replace'), 't'),
-                  a_comment(3, 'a', None, 'downtime', False, LARGEST, '', EVERY_BYTE.decode('utf-8', 'replace'))]),
-    ('each kind of downtime', b'downtime;1;a;;fixed;0;2;3;4;-;ann;t\ndowntime;5;a;b;flexible;6;7;8;9;10;bob;\\\\;\n', '',
-     'downtimes', [a_downtime(1, 'a', None, True, 0, 2, 3, 4, None, 'ann', 't'),
-                   a_downtime(5, 'a', 'b', False, 6, 7, 8, 9, 10, 'bob', '\\;')]),
-    ('objects of a state', b'object;a;;UP;1;fresh;-;0;\nobject;b;;DOWN;1;fresh;-;0;\n', '?state=up',
-     'objects', [a_object('a', last=1)]),
-    ('comments by the text of a host, whatever the state', b'comment;1;abc;;user;1;2;;\ncomment;2;a;bc;user;1;2;;\n',
-     '?state=down&host=bc', 'comments', [a_comment(1, 'abc', None, 'user', True, 2, '', '')]),
-    ('downtime by the text of a host, whatever the state',
-     b'downtime;1;a b;;fixed;0;2;3;4;-;;\ndowntime;2;ab;;fixed;0;2;3;4;-;;\n', '?host=a+b&state=down',
-     'downtimes', [a_downtime(1, 'a b', None, True, 0, 2, 3, 4, None, '', '')]),
-    ('a gateway that is closing', b'closing;4294967295\n', '',
-     'gateways', [dict(name='east', reachable=True, moment=60, closing=LARGEST)]),
-]
-
-
-def test_json():
-    """The JSON of each row, read by another parser, and the same bytes as another writer's."""
-    for name, lines, query, member, expected in JSON_ROWS:
-        with Web(('east', shows(b'status 60\n' + lines).port)) as web:
-            response, answer = web.ask('/status.json' + query)
-        read = json.loads(answer)
-        test(f'JSON: {name}', read[member] == expected, read[member])
-        test(f'JSON as another program writes it: {name}', answer == json.dumps(
-            read, ensure_ascii=False, separators=(',', ':')).encode(), answer)
-        test(f'the members and their order: {name}',
-             list(read) == ['gateways', 'objects', 'comments', 'downtimes']
-             and [list(row) for row in read[member]] == [list(row) for row in expected], answer)
-    test('the type of JSON', response.getheader('content-type') == 'application/json', response.headers)
-    with Web(('e\\"\nä', shows(b'status 0\n').port), ('west', free_port())) as web:
-        read = web.json()
-        test('JSON of gateways', read == dict(gateways=[
-            dict(name='e\\"\nä', reachable=True, moment=0, closing=None),
-            dict(name='west', reachable=False, fault="it can't be reached")],
-            objects=[], comments=[], downtimes=[]), read)
-
-
-KINDS = {'host': ['UP', 'DOWN', 'UNREACHABLE', 'PENDING'], 'service': ['OK', 'WARNING', 'CRITICAL', 'UNKNOWN', 'PENDING']}
 GATEWAY = 'e\\"\nä,{}'
-
-
-def samples_over_two(now):
-    """All samples of `east` and `west`, and of a gateway that is down: each object counts once."""
-    states = {('host', 'UP'): 2, ('host', 'DOWN'): 1, ('service', 'OK'): 1, ('service', 'WARNING'): 1,
-              ('service', 'CRITICAL'): 1, ('service', 'PENDING'): 1}
-    pages = {'nscagate_page_seconds': (now, now), 'nscagate_closing': (0, 1), 'nscagate_page_objects': (5, 5),
-             'nscagate_comments': (2, 1), 'nscagate_downtimes': (1, 2)}
-    return {('nscagate_objects_stale', ()): 1, ('nscagate_problems_unhandled', ()): 1,
-            ('nscagate_objects_acknowledged', ()): 2, ('nscagate_objects_in_downtime', ()): 1,
-            ('nscagate_up', (('gateway', GATEWAY),)): 1, ('nscagate_up', (('gateway', 'west'),)): 1,
-            ('nscagate_up', (('gateway', 'down'),)): 0,
-            **{(name, (('gateway', GATEWAY),)): numbers[0] for name, numbers in pages.items()},
-            **{(name, (('gateway', 'west'),)): numbers[1] for name, numbers in pages.items()},
-            **{('nscagate_objects', (('kind', kind), ('state', state))): states.get((kind, state), 0)
-               for kind in KINDS for state in KINDS[kind]}}
 
 
 def samples_of(text):
@@ -640,13 +538,23 @@ def scraped(port, folder):
         process.wait()
 
 
-def test_metrics(now):
-    more = b'object;app1;Web;WARNING;%d;fresh;normal;2;\n' % now
-    closing = west(now).replace(b'comment;', more + b'comment;', 1) + b'closing;%d\n' % now
-    with Web((GATEWAY, shows(east(now)).port), ('west', shows(closing).port), ('down', free_port())) as web:
+def test_names():
+    """The JSON and the metrics of a gateway whose name has what both escape, and of one that is down."""
+    page = data('three_gateways_one_of_them_cut_off.page')
+    with Web((GATEWAY, shows(page).port), ('down', free_port())) as web:
+        response, answer = web.ask('/status.json')
+        read = json.loads(answer)
+        test('JSON of gateways', read['gateways'] == [
+            dict(name=GATEWAY, reachable=True, moment=4000000000, closing=None),
+            dict(name='down', reachable=False, fault="it can't be reached")], read)
+        test('JSON as another program writes it', answer == json.dumps(
+            read, ensure_ascii=False, separators=(',', ':')).encode(), answer)
+        test('the type of JSON', response.getheader('content-type') == 'application/json', response.headers)
         response, text = web.ask('/metrics?state=down')
         found = samples_of(text)
-        test('the metrics of three gateways', found == samples_over_two(now), text)
+        up = [found['nscagate_up', (('gateway', name),)] for name in (GATEWAY, 'down')]
+        objects = found['nscagate_page_objects', (('gateway', GATEWAY),)]
+        test('the metrics of gateways', up == [1, 0] and objects == 5, text)
         test('the type of metrics', response.getheader('content-type') == 'text/plain; version=0.0.4; charset=utf-8',
              response.headers)
         if shutil.which('promtool'):
@@ -658,8 +566,8 @@ def test_metrics(now):
             print('promtool ... skipped: it is not installed')
         if shutil.which('prometheus'):
             with tempfile.TemporaryDirectory() as folder:
-                found = scraped(web.port, folder)
-            test('Prometheus reads the same samples', found == samples_over_two(now), found)
+                scrape = scraped(web.port, folder)
+            test('Prometheus reads the same samples', scrape == found, scrape)
         else:
             print('Prometheus ... skipped: it is not installed')
 
@@ -692,10 +600,9 @@ def main():
         except Exception as error:
             test(check.__name__, False, repr(error))
     now = int(time.time())
-    at_once(lambda: run(test_words), lambda: run(test_json), *[
+    at_once(*[lambda check=check: run(check) for check in [test_words, test_pages, test_names]], *[
         lambda check=check: run(check, now) for check in [
-            test_texts, test_merging, test_faults, test_sharing, test_descriptors, test_ends, test_requests,
-            test_metrics, test_browser]])
+            test_texts, test_faults, test_sharing, test_descriptors, test_ends, test_requests, test_browser]])
     # What takes the processors for itself.
     run(test_slow_browsers, int(time.time()))
     run(test_memory, int(time.time()))

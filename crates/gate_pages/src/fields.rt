@@ -9,11 +9,11 @@ use gate_model::{Text, push_escaped, push_number};
 use std::alloc::AllocError;
 
 /// Appends a field with a word of the page's own.
-pub fn push_word(out: &mut Vec<u8>, word: &[u8]) -> Result<(), AllocError>
+pub fn push_word(out: &mut Vec<u8>, word: &str) -> Result<(), AllocError>
     ensures { OnOk result (out.new.items ≡ out.old.items ++ 59 ∷ word.now) }
 {
     out.extend_from_slice(b";")?;
-    out.extend_from_slice(word)
+    out.extend_from_slice(word.as_bytes())
 }
 
 /// Appends a field with a text, escaped.

@@ -11,3 +11,4 @@ mod status_lines;
 
 pub use board::{Board, publish, status_page};
 pub use log_lines::{log_page, outcome_name};
+pub use status_lines::{plan_name, state_name};

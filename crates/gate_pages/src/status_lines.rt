@@ -9,18 +9,19 @@ use crate::rows::{CommentRow, DowntimeRow, ObjectRow};
 use gate_model::{Acknowledgement, CheckResult, Moment, Source, State};
 use std::alloc::AllocError;
 
-fn state_name(state: State) -> &'static [u8]
+/// The name of a state (Nagios Core 4 manual, Passive Checks).
+pub fn state_name(state: State) -> &'static str
     ensures { result.now ≡ state_name state }
 {
     match state {
-        State::Pending => b"PENDING",
-        State::Ok => b"OK",
-        State::Warning => b"WARNING",
-        State::Critical => b"CRITICAL",
-        State::Unknown => b"UNKNOWN",
-        State::Up => b"UP",
-        State::Down => b"DOWN",
-        State::Unreachable => b"UNREACHABLE",
+        State::Pending => "PENDING",
+        State::Ok => "OK",
+        State::Warning => "WARNING",
+        State::Critical => "CRITICAL",
+        State::Unknown => "UNKNOWN",
+        State::Up => "UP",
+        State::Down => "DOWN",
+        State::Unreachable => "UNREACHABLE",
     }
 }
 
@@ -33,41 +34,42 @@ fn last_moment(last: Option<CheckResult>) -> Option<u32>
     }
 }
 
-fn freshness_name(stale: bool) -> &'static [u8]
+fn freshness_name(stale: bool) -> &'static str
     ensures { result.now ≡ freshness_name stale }
 {
-    if stale { b"stale" } else { b"fresh" }
+    if stale { "stale" } else { "fresh" }
 }
 
-fn acknowledgement_name(acknowledgement: Option<Acknowledgement>) -> &'static [u8]
+fn acknowledgement_name(acknowledgement: Option<Acknowledgement>) -> &'static str
     ensures { result.now ≡ acknowledgement_name acknowledgement }
 {
     match acknowledgement {
-        None => b"-",
-        Some(made) => { if made.sticky { b"sticky" } else { b"normal" } }
+        None => "-",
+        Some(made) => { if made.sticky { "sticky" } else { "normal" } }
     }
 }
 
-fn source_name(source: Source) -> &'static [u8]
+fn source_name(source: Source) -> &'static str
     ensures { result.now ≡ source_name source }
 {
     match source {
-        Source::User => b"user",
-        Source::Ack => b"ack",
-        Source::Downtime(_) => b"downtime",
+        Source::User => "user",
+        Source::Ack => "ack",
+        Source::Downtime(_) => "downtime",
     }
 }
 
-fn persistence_digit(persistent: bool) -> &'static [u8]
+fn persistence_digit(persistent: bool) -> &'static str
     ensures { result.now ≡ persistence_digit persistent }
 {
-    if persistent { b"1" } else { b"0" }
+    if persistent { "1" } else { "0" }
 }
 
-fn plan_name(fixed: bool) -> &'static [u8]
+/// The kind of a downtime entry, by whether it is fixed.
+pub fn plan_name(fixed: bool) -> &'static str
     ensures { result.now ≡ plan_name fixed }
 {
-    if fixed { b"fixed" } else { b"flexible" }
+    if fixed { "fixed" } else { "flexible" }
 }
 
 fn push_object(out: &mut Vec<u8>, row: &ObjectRow) -> Result<(), AllocError>

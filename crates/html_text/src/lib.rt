@@ -1,9 +1,7 @@
-//! A document of HTML that no text can change: markup is the program's own, and every other byte is
-//! escaped.
+//! A document of HTML that no text can change: markup is the program's own, and a text is escaped.
 #![tactic(auto)]
 
 mod escaping;
-mod fields;
 mod html;
 
-pub use html::{Html, escaped};
+pub use html::Html;

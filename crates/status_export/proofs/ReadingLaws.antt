@@ -1,5 +1,5 @@
 -- A reader of JSON finds the document in its text: it is nested no deeper than a reader takes.
-use Rattle.std.proofs.Common.{◌≡◌, ℕ, ◌≤◌, List, [], ◌∷◌, ◌++◌, map, filter, Option, Some, None, Ok, Err, option_and_then, refl, sym, ap, ◌∙◌, arith, lit≤, append-nil}
+use Rattle.std.proofs.Common.{◌≡◌, ℕ, ◌≤◌, List, [], ◌∷◌, map, Option, Some, None, Ok, Err, option_and_then, string_bytes, refl, sym, ap, ◌∙◌, arith, lit≤, append-nil}
 use Rattle.std.specs.List.{flat_map}
 use Rattle.json.specs.Json.{Json, value, if_last, max_depth, document}
 use Rattle.json.specs.Lex.{tokens}
@@ -10,8 +10,9 @@ use Rattle.status_reading.specs.declared.rows.ShownDowntime.{ShownDowntime}
 use Rattle.status_reading.specs.declared.page.StatusPage.{StatusPage}
 use Rattle.status_merge.specs.declared.gateway.Gateway.{Gateway}
 use Rattle.status_merge.specs.declared.gateway.MergedObject.{MergedObject}
-use Rattle.status_merge.specs.Selecting.{has_part}
-use Rattle.status_export.specs.Document.{optional_json, service_json, items_of, reachable_json, unreachable_json, gateway_json, object_json, comment_json, downtime_json, comments_json, downtimes_json, status_document}
+use Rattle.status_merge.specs.declared.entries.Entry.{Entry}
+use Rattle.status_merge.specs.Entries.{comments_on, downtimes_on}
+use Rattle.status_export.specs.Document.{optional_json, service_json, items_of, reachable_json, unreachable_json, gateway_json, object_json, comment_json, downtime_json, status_document}
 
 -- the text of these tokens is read as their value
 pub read_tokens : (j : Json) (text : List ℕ) → tokens text ≡ json_tokens j → depth j ≤ max_depth → document text ≡ Some j
@@ -36,7 +37,7 @@ shallow_gateway : (gateway : Gateway) → depth (gateway_json gateway) ≤ 1
 shallow_gateway gateway =
     elim gateway.page as (λ page. depth (elim page [
       | Ok page ↦ reachable_json gateway.name.now page
-      | Err fault ↦ unreachable_json gateway.name.now fault
+      | Err cause ↦ unreachable_json gateway.name.now (string_bytes cause)
     ]) ≤ 1) [
       | Ok page ↦ shallow_page gateway.name.now page
       | Err fault ↦ lit≤ tt
@@ -46,13 +47,13 @@ shallow_object : (shown : MergedObject) → depth (object_json shown) ≤ 1
 unfolding object_json
 shallow_object shown = rw (flat_service shown.row.service.now, flat_optional shown.row.last) (lit≤ tt)
 
-shallow_comment : (name : List ℕ) (row : ShownComment) → depth (comment_json name row) ≤ 1
+shallow_comment : (entry : Entry ShownComment) → depth (comment_json entry) ≤ 1
 unfolding comment_json
-shallow_comment name row = rw (flat_service row.service.now) (lit≤ tt)
+shallow_comment entry = rw (flat_service entry.row.service.now) (lit≤ tt)
 
-shallow_downtime : (name : List ℕ) (row : ShownDowntime) → depth (downtime_json name row) ≤ 1
+shallow_downtime : (entry : Entry ShownDowntime) → depth (downtime_json entry) ≤ 1
 unfolding downtime_json
-shallow_downtime name row = rw (flat_service row.service.now, flat_optional row.begin) (lit≤ tt)
+shallow_downtime entry = rw (flat_service entry.row.service.now, flat_optional entry.row.begin) (lit≤ tt)
 
 -- ---- lists of them
 
@@ -60,43 +61,12 @@ shallow_map : {X : Type 0} (f : X → Json) → ((x : X) → depth (f x) ≤ 1) 
 shallow_map f each [] = lit≤ tt
 shallow_map f each (x ∷ xs) = omega (arith, each x, shallow_map f each xs)
 
-shallow_append : (xs ys : List Json) → items_depth (items_of xs) ≤ 1 → items_depth (items_of ys) ≤ 1 → items_depth (items_of (xs ++ ys)) ≤ 1
-shallow_append [] ys one other = other
-shallow_append (x ∷ xs) ys one other =
-    let rest : items_depth (items_of xs) ≤ 1 = omega arith in
-    let more = shallow_append xs ys rest other in
-    omega arith
-
-shallow_flat : {X : Type 0} (f : X → List Json) → ((x : X) → items_depth (items_of (f x)) ≤ 1) → (xs : List X) → items_depth (items_of (flat_map f xs)) ≤ 1
-shallow_flat f each [] = lit≤ tt
-shallow_flat f each (x ∷ xs) = shallow_append (f x) (flat_map f xs) (each x) (shallow_flat f each xs)
-
-shallow_comments : (part : List ℕ) (gateway : Gateway) → items_depth (items_of (comments_json part gateway)) ≤ 1
-shallow_comments part gateway =
-    elim gateway.page as (λ page. items_depth (items_of (elim page [
-      | Ok page ↦ map (comment_json gateway.name.now) (filter (λ row. has_part row.host.now part) page.comments.items)
-      | Err fault ↦ []
-    ])) ≤ 1) [
-      | Ok page ↦ shallow_map (comment_json gateway.name.now) (shallow_comment gateway.name.now) _
-      | Err fault ↦ lit≤ tt
-    ]
-
-shallow_downtimes : (part : List ℕ) (gateway : Gateway) → items_depth (items_of (downtimes_json part gateway)) ≤ 1
-shallow_downtimes part gateway =
-    elim gateway.page as (λ page. items_depth (items_of (elim page [
-      | Ok page ↦ map (downtime_json gateway.name.now) (filter (λ row. has_part row.host.now part) page.downtimes.items)
-      | Err fault ↦ []
-    ])) ≤ 1) [
-      | Ok page ↦ shallow_map (downtime_json gateway.name.now) (shallow_downtime gateway.name.now) _
-      | Err fault ↦ lit≤ tt
-    ]
-
 -- ---- the document
 
 pub shallow : (gateways : List Gateway) (objects : List MergedObject) (part : List ℕ) → depth (status_document gateways objects part) ≤ max_depth
 shallow gateways objects part =
     let ones = shallow_map gateway_json shallow_gateway gateways in
     let twos = shallow_map object_json shallow_object objects in
-    let threes = shallow_flat (comments_json part) (shallow_comments part) gateways in
-    let fours = shallow_flat (downtimes_json part) (shallow_downtimes part) gateways in
+    let threes = shallow_map comment_json shallow_comment (flat_map (comments_on part) gateways) in
+    let fours = shallow_map downtime_json shallow_downtime (flat_map (downtimes_on part) gateways) in
     omega arith

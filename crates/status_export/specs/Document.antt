@@ -1,8 +1,9 @@
 -- The status pages of gateways as JSON (RFC 8259): `status_document` is the document, and `compact_text` its text on
 -- one line. Moments are in seconds since 1970. Own rules: the members, their order and their words.
-use Rattle.std.specs.Prelude.{ℕ, true, false, List, [], ◌∷◌, map, filter, Option, Some, None, Ok, Err, codes}
+use Rattle.std.specs.Prelude.{ℕ, true, false, List, [], ◌∷◌, map, Option, Some, None, Ok, Err, codes, string_bytes}
 use Rattle.std.specs.List.{flat_map}
 use Rattle.std.specs.Fmt.{decimal}
+use Rattle.std.specs.Str.Lossy.{utf8_lossy}
 use Rattle.json.specs.Json.{Json, null, boolean, number, string, array, object, Items, no_items, item, Members, no_members, member}
 use Rattle.json.specs.Print.{print}
 use Rattle.json.specs.Tree.{json_tokens}
@@ -13,13 +14,12 @@ use Rattle.status_reading.specs.declared.rows.ShownComment.{ShownComment}
 use Rattle.status_reading.specs.declared.rows.ShownDowntime.{ShownDowntime}
 use Rattle.status_reading.specs.declared.page.StatusPage.{StatusPage}
 use Rattle.status_reading.specs.Page.{shown_source}
+use Rattle.status_reading.specs.Plain.{plain_bytes}
 use Rattle.status_merge.specs.declared.gateway.Gateway.{Gateway}
 use Rattle.status_merge.specs.declared.gateway.MergedObject.{MergedObject}
-use Rattle.status_merge.specs.declared.gateway.PageFault.{PageFault}
-use Rattle.status_merge.specs.Causes.{cause}
 use Rattle.status_merge.specs.Ranks.{is_unhandled}
-use Rattle.status_merge.specs.Selecting.{has_part}
-use Rattle.status_export.specs.Plain.{plain_text}
+use Rattle.status_merge.specs.declared.entries.Entry.{Entry}
+use Rattle.status_merge.specs.Entries.{comments_on, downtimes_on}
 
 -- ---- JSON by lists
 
@@ -47,6 +47,10 @@ number_json n = number (decimal n)
 abbrev pub optional_json : Option ℕ → Json
 optional_json None = null
 optional_json (Some n) = number_json n
+
+-- the text that a field of a page stands for, with U+FFFD for bytes that are no UTF-8
+abbrev pub plain_text : List ℕ → List ℕ
+plain_text field = utf8_lossy (plain_bytes field)
 
 -- what a field of a page stands for
 abbrev pub field_json : List ℕ → Json
@@ -76,20 +80,20 @@ reachable_json name page =
     ∷ []
     ))
 
--- a gateway that shows no page
-abbrev pub unreachable_json : List ℕ → PageFault → Json
-unreachable_json name fault =
+-- a gateway that shows no page, for this cause
+abbrev pub unreachable_json : List ℕ → List ℕ → Json
+unreachable_json name cause =
     object (members_of (
     (codes "name", string name)
     ∷ (codes "reachable", boolean false)
-    ∷ (codes "fault", string (cause fault))
+    ∷ (codes "fault", string cause)
     ∷ []
     ))
 
 abbrev pub gateway_json : Gateway → Json
 gateway_json gateway = elim gateway.page [
   | Ok page ↦ reachable_json gateway.name.now page
-  | Err fault ↦ unreachable_json gateway.name.now fault
+  | Err cause ↦ unreachable_json gateway.name.now (string_bytes cause)
 ]
 
 unfoldable pub object_json : MergedObject → Json
@@ -108,11 +112,12 @@ object_json shown =
     ∷ []
     ))
 
--- a comment on the page of the gateway of this name
-unfoldable pub comment_json : List ℕ → ShownComment → Json
-comment_json name row =
+-- a comment, with the gateway that has it
+unfoldable pub comment_json : Entry ShownComment → Json
+comment_json entry =
+    let row = entry.row in
     object (members_of (
-    (codes "gateway", string name)
+    (codes "gateway", string entry.origin.gateway.now)
     ∷ (codes "id", number_json row.id)
     ∷ (codes "host", field_json row.host.now)
     ∷ (codes "service", service_json row.service.now)
@@ -124,11 +129,12 @@ comment_json name row =
     ∷ []
     ))
 
--- a downtime entry on the page of the gateway of this name
-unfoldable pub downtime_json : List ℕ → ShownDowntime → Json
-downtime_json name row =
+-- a downtime entry, with the gateway that has it
+unfoldable pub downtime_json : Entry ShownDowntime → Json
+downtime_json entry =
+    let row = entry.row in
     object (members_of (
-    (codes "gateway", string name)
+    (codes "gateway", string entry.origin.gateway.now)
     ∷ (codes "id", number_json row.id)
     ∷ (codes "host", field_json row.host.now)
     ∷ (codes "service", service_json row.service.now)
@@ -145,27 +151,13 @@ downtime_json name row =
 
 -- ---- the document
 
--- the comments on a gateway's page whose host's name contains a text, in the page's order
-abbrev pub comments_json : List ℕ → Gateway → List Json
-comments_json part gateway = elim gateway.page [
-  | Ok page ↦ map (comment_json gateway.name.now) (filter (λ row. has_part row.host.now part) page.comments.items)
-  | Err fault ↦ []
-]
-
--- the downtime entries on a gateway's page whose host's name contains a text, in the page's order
-abbrev pub downtimes_json : List ℕ → Gateway → List Json
-downtimes_json part gateway = elim gateway.page [
-  | Ok page ↦ map (downtime_json gateway.name.now) (filter (λ row. has_part row.host.now part) page.downtimes.items)
-  | Err fault ↦ []
-]
-
 -- the gateways, these objects, and the comments and downtime entries whose host's name contains a text
 abbrev pub status_document : List Gateway → List MergedObject → List ℕ → Json
 status_document gateways objects part =
     object (members_of (
     (codes "gateways", array (items_of (map gateway_json gateways)))
     ∷ (codes "objects", array (items_of (map object_json objects)))
-    ∷ (codes "comments", array (items_of (flat_map (comments_json part) gateways)))
-    ∷ (codes "downtimes", array (items_of (flat_map (downtimes_json part) gateways)))
+    ∷ (codes "comments", array (items_of (map comment_json (flat_map (comments_on part) gateways))))
+    ∷ (codes "downtimes", array (items_of (map downtime_json (flat_map (downtimes_on part) gateways))))
     ∷ []
     ))

@@ -1,4 +1,3 @@
-pub mod Plain
 pub mod Document
 pub mod Gauges
 pub mod Metrics

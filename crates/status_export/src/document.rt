@@ -5,14 +5,13 @@ ghost use Rattle.std.specs.Str.{IsUtf8};
 ghost use Rattle.json.specs.Json.{array, document};
 ghost use Rattle.json.specs.Tree.{json_tokens};
 ghost use Rattle.gate_model.specs.Escaping.{escaped};
-ghost use Rattle.status_export.specs.Plain.{plain_bytes, plain_text};
-ghost use Rattle.status_export.specs.Document.{acknowledgement_word, reachable_json, unreachable_json, gateway_json, object_json, items_of, compact_text, status_document};
+ghost use Rattle.status_export.specs.Document.{plain_text, acknowledgement_word, reachable_json, unreachable_json, gateway_json, object_json, items_of, compact_text, status_document};
 ghost use Rattle.status_export.specs.inner.Writing.{Adds, member_tokens};
 
 use crate::entries::{push_comments, push_downtimes};
 use crate::members;
 use json::Writer;
-use status_merge::{Gateway, MergedObject, PageFault, Query, is_unhandled};
+use status_merge::{Gateway, MergedObject, Query, is_unhandled};
 use status_reading::{ShownAcknowledgement, StatusPage, state_name};
 use std::alloc::{AllocError, Global};
 
@@ -38,14 +37,14 @@ fn push_reachable(writer: &mut Writer, name: &str, page: &StatusPage<'_>) -> Res
     writer.end_object()
 }
 
-fn push_unreachable(writer: &mut Writer, name: &str, fault: PageFault) -> Result<(), AllocError>
+fn push_unreachable(writer: &mut Writer, name: &str, cause: &str) -> Result<(), AllocError>
     ensures { OnOk result
-        (Adds writer.old writer.new (json_tokens (unreachable_json name.now fault))) }
+        (Adds writer.old writer.new (json_tokens (unreachable_json name.now cause.now))) }
 {
     writer.begin_object()?;
     members::text(writer, "name", name)?;
     members::flag(writer, "reachable", false)?;
-    members::text(writer, "fault", fault.cause())?;
+    members::text(writer, "fault", cause)?;
     writer.end_object()
 }
 
@@ -55,7 +54,7 @@ fn push_gateway(writer: &mut Writer, gateway: &Gateway<'_>) -> Result<(), AllocE
 {
     match &gateway.page {
         Ok(page) => push_reachable(writer, gateway.name, page),
-        Err(fault) => push_unreachable(writer, gateway.name, *fault),
+        Err(cause) => push_unreachable(writer, gateway.name, cause.as_str()),
     }
 }
 
@@ -119,7 +118,7 @@ fn push_objects(
 /// Comments and downtime entries stand in the order of the gateways and of their pages, each with
 /// its gateway. A text stands without the page's escapes, and with U+FFFD for bytes that are no
 /// UTF-8. Moments are in seconds since 1970. Own rule: the members and their order.
-#[tactic(auto, using(crate::proofs::PlainLaws::plain_escaped, crate::proofs::PlainLaws::plain_utf8))]
+#[tactic(auto, using(crate::proofs::PlainLaws::plain_utf8))]
 pub fn json_text(
     alloc: Global,
     gateways: &[Gateway<'_>],
@@ -133,9 +132,7 @@ pub fn json_text(
     ensures read { IfOk result (λ text. document text.items
         ≡ Some (status_document gateways.now objects.now (string_bytes query.now.host))) }
 
-    // The field that shows a text on a page stands for its bytes, and for the text itself where
-    // they are UTF-8.
-    ensures undone { (text : List ℕ) → plain_bytes (escaped text) ≡ text }
+    // The field that shows a text on a page stands for this text where its bytes are UTF-8.
     ensures kept { (text : List ℕ) → IsUtf8 text → plain_text (escaped text) ≡ text }
 {
     let mut writer = Writer::new(Vec::new(alloc));

@@ -1,40 +1,29 @@
 //! Comments and downtime entries as JSON.
 
-ghost use Rattle.std.specs.Prelude.{◌≡◌, ◌∷◌, OnOk, codes, map, filter, string_bytes};
+ghost use Rattle.std.specs.Prelude.{◌≡◌, ◌∷◌, OnOk, codes, map, string_bytes};
 ghost use Rattle.std.specs.List.{flat_map};
 ghost use Rattle.json.specs.Json.{array};
 ghost use Rattle.json.specs.Tree.{json_tokens};
-ghost use Rattle.status_reading.specs.Page.{shown_source};
-ghost use Rattle.status_export.specs.Document.{items_of, comment_json, downtime_json, comments_json, downtimes_json};
+ghost use Rattle.status_merge.specs.Entries.{comments_on, downtimes_on};
+ghost use Rattle.status_export.specs.Document.{items_of, comment_json, downtime_json};
 ghost use Rattle.status_export.specs.inner.Writing.{Adds, member_tokens};
 
 use crate::members;
 use json::Writer;
-use status_merge::{Gateway, Query, takes_host};
-use status_reading::{ShownComment, ShownDowntime, ShownSource};
+use status_merge::{Entry, Gateway, Query, comments_of, downtimes_of};
+use status_reading::{ShownComment, ShownDowntime, source_word};
 use std::alloc::{AllocError, Global};
-
-fn source_word(source: ShownSource) -> &'static str
-    ensures { result.now ≡ shown_source source }
-{
-    match source {
-        ShownSource::User => "user",
-        ShownSource::Acknowledgement => "ack",
-        ShownSource::Downtime => "downtime",
-    }
-}
 
 fn push_comment(
     alloc: Global,
     writer: &mut Writer,
-    gateway: &str,
-    row: &ShownComment<'_>,
+    entry: &Entry<'_, ShownComment<'_>>,
 ) -> Result<(), AllocError>
-    ensures { OnOk result
-        (Adds writer.old writer.new (json_tokens (comment_json gateway.now row.now))) }
+    ensures { OnOk result (Adds writer.old writer.new (json_tokens (comment_json entry.now))) }
 {
+    let row = &entry.row;
     writer.begin_object()?;
-    members::text(writer, "gateway", gateway)?;
+    members::text(writer, "gateway", entry.origin.gateway)?;
     members::number(writer, "id", row.id)?;
     members::field(alloc, writer, "host", row.host)?;
     members::service(alloc, writer, "service", row.service)?;
@@ -49,14 +38,13 @@ fn push_comment(
 fn push_downtime(
     alloc: Global,
     writer: &mut Writer,
-    gateway: &str,
-    row: &ShownDowntime<'_>,
+    entry: &Entry<'_, ShownDowntime<'_>>,
 ) -> Result<(), AllocError>
-    ensures { OnOk result
-        (Adds writer.old writer.new (json_tokens (downtime_json gateway.now row.now))) }
+    ensures { OnOk result (Adds writer.old writer.new (json_tokens (downtime_json entry.now))) }
 {
+    let row = &entry.row;
     writer.begin_object()?;
-    members::text(writer, "gateway", gateway)?;
+    members::text(writer, "gateway", entry.origin.gateway)?;
     members::number(writer, "id", row.id)?;
     members::field(alloc, writer, "host", row.host)?;
     members::service(alloc, writer, "service", row.service)?;
@@ -71,48 +59,6 @@ fn push_downtime(
     writer.end_object()
 }
 
-// The comments on a gateway's page that a query takes.
-fn push_comments_on(
-    alloc: Global,
-    writer: &mut Writer,
-    gateway: &Gateway<'_>,
-    query: &Query,
-) -> Result<(), AllocError>
-    ensures { OnOk result (Adds writer.old writer.new
-        (flat_map json_tokens (comments_json (string_bytes query.now.host) gateway.now))) }
-{
-    let Ok(page) = &gateway.page else {
-        return Ok(());
-    };
-    for row in page.comments.as_slice() {
-        if takes_host(query, row.host) {
-            push_comment(alloc, writer, gateway.name, row)?;
-        }
-    }
-    Ok(())
-}
-
-// The downtime entries on a gateway's page that a query takes.
-fn push_downtimes_on(
-    alloc: Global,
-    writer: &mut Writer,
-    gateway: &Gateway<'_>,
-    query: &Query,
-) -> Result<(), AllocError>
-    ensures { OnOk result (Adds writer.old writer.new
-        (flat_map json_tokens (downtimes_json (string_bytes query.now.host) gateway.now))) }
-{
-    let Ok(page) = &gateway.page else {
-        return Ok(());
-    };
-    for row in page.downtimes.as_slice() {
-        if takes_host(query, row.host) {
-            push_downtime(alloc, writer, gateway.name, row)?;
-        }
-    }
-    Ok(())
-}
-
 /// The comments on the hosts that a query takes, as a member.
 pub fn push_comments(
     alloc: Global,
@@ -121,13 +67,14 @@ pub fn push_comments(
     query: &Query,
 ) -> Result<(), AllocError>
     ensures { OnOk result (Adds writer.old writer.new (member_tokens (codes "comments")
-        (array (items_of
-        (flat_map (comments_json (string_bytes query.now.host)) gateways.now))))) }
+        (array (items_of (map comment_json
+        (flat_map (comments_on (string_bytes query.now.host)) gateways.now)))))) }
 {
+    let entries = comments_of(alloc, gateways, query)?;
     writer.key("comments")?;
     writer.begin_array()?;
-    for gateway in gateways {
-        push_comments_on(alloc, writer, gateway, query)?;
+    for entry in entries.as_slice() {
+        push_comment(alloc, writer, entry)?;
     }
     writer.end_array()
 }
@@ -140,13 +87,14 @@ pub fn push_downtimes(
     query: &Query,
 ) -> Result<(), AllocError>
     ensures { OnOk result (Adds writer.old writer.new (member_tokens (codes "downtimes")
-        (array (items_of
-        (flat_map (downtimes_json (string_bytes query.now.host)) gateways.now))))) }
+        (array (items_of (map downtime_json
+        (flat_map (downtimes_on (string_bytes query.now.host)) gateways.now)))))) }
 {
+    let entries = downtimes_of(alloc, gateways, query)?;
     writer.key("downtimes")?;
     writer.begin_array()?;
-    for gateway in gateways {
-        push_downtimes_on(alloc, writer, gateway, query)?;
+    for entry in entries.as_slice() {
+        push_downtime(alloc, writer, entry)?;
     }
     writer.end_array()
 }

@@ -10,7 +10,7 @@ ghost use Rattle.status_export.specs.inner.Writing.{Appends};
 use itoa::Buffer;
 use std::alloc::AllocError;
 
-fn push_text(out: &mut Vec<u8>, text: &str) -> Result<(), AllocError>
+fn push_str(out: &mut Vec<u8>, text: &str) -> Result<(), AllocError>
     ensures { OnOk result (out.new.items ≡ out.old.items ++ text.now) }
 {
     out.extend_from_slice(text.as_bytes())
@@ -20,16 +20,16 @@ fn push_number(out: &mut Vec<u8>, number: u64) -> Result<(), AllocError>
     ensures { OnOk result (out.new.items ≡ out.old.items ++ decimal number) }
 {
     let mut digits = Buffer::new();
-    push_text(out, digits.format(number))
+    push_str(out, digits.format(number))
 }
 
 fn push_value_byte(out: &mut Vec<u8>, byte: u8) -> Result<(), AllocError>
     ensures { OnOk result (out.new.items ≡ out.old.items ++ value_byte byte) }
 {
     match byte {
-        b'\\' => push_text(out, "\\\\"),
-        b'"' => push_text(out, "\\\""),
-        b'\n' => push_text(out, "\\n"),
+        b'\\' => push_str(out, "\\\\"),
+        b'"' => push_str(out, "\\\""),
+        b'\n' => push_str(out, "\\n"),
         _ => {
             out.push(byte)?;
             Ok(())
@@ -49,10 +49,10 @@ fn push_value(out: &mut Vec<u8>, value: &str) -> Result<(), AllocError>
 fn push_label(out: &mut Vec<u8>, name: &str, value: &str) -> Result<(), AllocError>
     ensures { OnOk result (out.new.items ≡ out.old.items ++ label_text (name.now, value.now)) }
 {
-    push_text(out, name)?;
-    push_text(out, "=\"")?;
+    push_str(out, name)?;
+    push_str(out, "=\"")?;
     push_value(out, value)?;
-    push_text(out, "\"")
+    push_str(out, "\"")
 }
 
 fn push_labels(out: &mut Vec<u8>, labels: &[(&str, &str)]) -> Result<(), AllocError>
@@ -61,13 +61,13 @@ fn push_labels(out: &mut Vec<u8>, labels: &[(&str, &str)]) -> Result<(), AllocEr
     let Some((first, rest)) = labels.split_first() else {
         return Ok(());
     };
-    push_text(out, "{")?;
+    push_str(out, "{")?;
     push_label(out, first.0, first.1)?;
     for label in rest {
-        push_text(out, ",")?;
+        push_str(out, ",")?;
         push_label(out, label.0, label.1)?;
     }
-    push_text(out, "}")
+    push_str(out, "}")
 }
 
 /// Appends the line of a sample.
@@ -81,11 +81,11 @@ pub fn push_sample(
     ensures { OnOk result
         (out.new.items ≡ out.old.items ++ sample_text name.now (sample_of labels.now number)) }
 {
-    push_text(out, name)?;
+    push_str(out, name)?;
     push_labels(out, labels)?;
-    push_text(out, " ")?;
+    push_str(out, " ")?;
     push_number(out, number)?;
-    push_text(out, "\n")
+    push_str(out, "\n")
 }
 
 /// Appends what a gauge is: the lines before its samples.
@@ -94,11 +94,11 @@ pub fn push_head(out: &mut Vec<u8>, name: &str, help: &str) -> Result<(), AllocE
     ensures { OnOk result
         (Appends out.old.items out.new.items (head_text name.now help.now)) }
 {
-    push_text(out, "# HELP ")?;
-    push_text(out, name)?;
-    push_text(out, " ")?;
-    push_text(out, help)?;
-    push_text(out, "\n# TYPE ")?;
-    push_text(out, name)?;
-    push_text(out, " gauge\n")
+    push_str(out, "# HELP ")?;
+    push_str(out, name)?;
+    push_str(out, " ")?;
+    push_str(out, help)?;
+    push_str(out, "\n# TYPE ")?;
+    push_str(out, name)?;
+    push_str(out, " gauge\n")
 }

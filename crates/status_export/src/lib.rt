@@ -7,7 +7,6 @@ mod entries;
 mod gauges;
 mod members;
 mod metrics;
-mod plain;
 
 pub use document::json_text;
 pub use metrics::metrics_text;

@@ -5,8 +5,8 @@ ghost use Rattle.json.specs.Json.{string, boolean};
 ghost use Rattle.status_export.specs.Document.{number_json, optional_json, field_json, service_json};
 ghost use Rattle.status_export.specs.inner.Writing.{Adds, member_tokens};
 
-use crate::plain::plain_text;
 use json::Writer;
+use status_reading::plain_bytes;
 use std::alloc::{AllocError, Global};
 
 pub fn text(writer: &mut Writer, name: &str, text: &str) -> Result<(), AllocError>
@@ -43,12 +43,13 @@ pub fn optional(writer: &mut Writer, name: &str, number: Option<u32>) -> Result<
     }
 }
 
-/// The text that a field of a page stands for.
+/// The text that a field of a page stands for. Bytes that are no UTF-8 become U+FFFD.
 pub fn field(alloc: Global, writer: &mut Writer, name: &str, field: &[u8]) -> Result<(), AllocError>
     ensures { OnOk result
         (Adds writer.old writer.new (member_tokens name.now (field_json field.now))) }
 {
-    let plain = plain_text(alloc, field)?;
+    let bytes = plain_bytes(alloc, field)?;
+    let plain = String::from_utf8_lossy(alloc, bytes.as_slice())?;
     text(writer, name, plain.as_str())
 }
 

@@ -1,5 +1,4 @@
 pub mod Groups
-pub mod Causes
 pub mod Objects
 pub mod Ranks
 pub mod Selecting

@@ -2,7 +2,7 @@
 use Rattle.std.specs.Prelude.{ℕ, ◌+◌, Bool, true, false, ◌==◌, ◌&&◌, not, nat_lt, if◌then◌else◌, List, length, count_by}
 use Rattle.gate_model.specs.declared.state.State.{State}
 use Rattle.gate_model.specs.declared.state.State.TheVariants.{Pending, Ok, Warning, Critical, Unknown, Up, Down, Unreachable}
-use Rattle.gate_model.specs.State.{is_problem}
+use Rattle.gate_model.specs.State.{is_problem, is_same_state}
 use Rattle.status_reading.specs.declared.rows.ShownAcknowledgement.{ShownAcknowledgement}
 use Rattle.status_reading.specs.declared.rows.ShownAcknowledgement.TheVariants.{Missing, Normal, Sticky}
 use Rattle.status_reading.specs.declared.rows.ShownObject.{ShownObject}
@@ -30,36 +30,21 @@ severity Pending = 3
 severity Ok = 3
 severity Up = 3
 
--- a number for each state
-abbrev pub state_number : State → ℕ
-state_number Pending = 0
-state_number Ok = 1
-state_number Warning = 2
-state_number Critical = 3
-state_number Unknown = 4
-state_number Up = 5
-state_number Down = 6
-state_number Unreachable = 7
-
--- whether two states are one
-abbrev pub same_state : State → State → Bool
-same_state one other = state_number one == state_number other
-
 -- unhandled problems 0 to 3, stale objects that are no problem 4, handled problems 5 to 8, PENDING 9, OK and UP 10
 abbrev pub rank : ShownObject → ℕ
 rank row =
     if is_unhandled row then severity row.state
     else if is_problem row.state then severity row.state + 5
     else if row.stale then 4
-    else if same_state row.state Pending then 9
+    else if is_same_state row.state Pending then 9
     else 10
 
 -- whether an object is a host, or a service, in a state
 abbrev pub is_host_in : State → MergedObject → Bool
-is_host_in state object = same_state object.row.state state && (length object.row.service.now == 0)
+is_host_in state object = is_same_state object.row.state state && (length object.row.service.now == 0)
 
 abbrev pub is_service_in : State → MergedObject → Bool
-is_service_in state object = same_state object.row.state state && not (length object.row.service.now == 0)
+is_service_in state object = is_same_state object.row.state state && not (length object.row.service.now == 0)
 
 -- how many objects are hosts, or services, in a state
 abbrev pub hosts_in : State → List MergedObject → ℕ

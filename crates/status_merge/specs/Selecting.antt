@@ -2,12 +2,12 @@
 use Rattle.std.specs.Prelude.{ℕ, Bool, true, ◌==◌, ◌&&◌, ◌||◌, nat_lt, List, [], ◌∷◌, length, filter}
 use Rattle.std.specs.List.{flat_map}
 use Rattle.memchr.specs.Find.{matches}
-use Rattle.gate_model.specs.State.{is_problem}
+use Rattle.gate_model.specs.State.{is_problem, is_same_state}
 use Rattle.status_reading.specs.declared.rows.ShownObject.{ShownObject}
 use Rattle.status_merge.specs.declared.gateway.MergedObject.{MergedObject}
 use Rattle.status_merge.specs.declared.query.Choice.{Choice}
 use Rattle.status_merge.specs.declared.query.Choice.TheVariants.{All, Problems, Unhandled, Stale, In}
-use Rattle.status_merge.specs.Ranks.{is_unhandled, rank, same_state}
+use Rattle.status_merge.specs.Ranks.{is_unhandled, rank}
 
 -- whether a host's name contains a text
 abbrev pub has_part : List ℕ → List ℕ → Bool
@@ -19,7 +19,7 @@ has_choice All row = true
 has_choice Problems row = is_problem row.state || row.stale
 has_choice Unhandled row = is_unhandled row
 has_choice Stale row = row.stale
-has_choice (In state) row = same_state row.state state
+has_choice (In state) row = is_same_state row.state state
 
 -- whether a choice and the text of a host take an object
 abbrev pub is_selected : Choice → List ℕ → MergedObject → Bool

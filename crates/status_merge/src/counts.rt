@@ -1,8 +1,8 @@
 ghost use Rattle.std.specs.Prelude.{◌≡◌, nat_lt, count_by};
-ghost use Rattle.status_merge.specs.Ranks.{is_unhandled, is_made, is_host_in, is_service_in, hosts_in, services_in, counts_of};
+ghost use Rattle.status_merge.specs.Ranks.{is_unhandled, is_made, hosts_in, services_in, counts_of};
 
 use crate::gateway::MergedObject;
-use crate::ranks::{is_made, is_unhandled, same_state};
+use crate::ranks::{is_made, is_unhandled};
 use status_reading::State;
 
 /// How many hosts and services are in each state, and how many objects have each mark.
@@ -24,24 +24,15 @@ pub struct Counts {
     pub objects: usize,
 }
 
-fn is_host_in(object: &MergedObject<'_>, state: State) -> bool
-    ensures { result ≡ is_host_in state object.now }
-{
-    same_state(object.row.state, state) && object.row.service.is_empty()
-}
-
-fn is_service_in(object: &MergedObject<'_>, state: State) -> bool
-    ensures { result ≡ is_service_in state object.now }
-{
-    same_state(object.row.state, state) && !object.row.service.is_empty()
-}
-
 fn hosts_in(objects: &[MergedObject<'_>], state: State) -> usize
     ensures { result ≡ hosts_in state objects.now }
 {
     objects
         .iter()
-        .filter(|object| is_host_in(*object, state))
+        .filter(|object| {
+            let found = object.row.state;
+            found == state && object.row.service.is_empty()
+        })
         .count()
 }
 
@@ -50,38 +41,17 @@ fn services_in(objects: &[MergedObject<'_>], state: State) -> usize
 {
     objects
         .iter()
-        .filter(|object| is_service_in(*object, state))
+        .filter(|object| {
+            let found = object.row.state;
+            found == state && !object.row.service.is_empty()
+        })
         .count()
-}
-
-fn is_stale(object: &MergedObject<'_>) -> bool
-    ensures { result ≡ object.now.row.stale }
-{
-    object.row.stale
-}
-
-fn is_acknowledged(object: &MergedObject<'_>) -> bool
-    ensures { result ≡ is_made object.now.row.acknowledgement }
-{
-    is_made(object.row.acknowledgement)
-}
-
-fn is_in_downtime(object: &MergedObject<'_>) -> bool
-    ensures { result ≡ nat_lt 0 object.now.row.depth }
-{
-    object.row.depth > 0
-}
-
-fn needs_attention(object: &MergedObject<'_>) -> bool
-    ensures { result ≡ is_unhandled object.now.row }
-{
-    is_unhandled(&object.row)
 }
 
 fn stale_in(objects: &[MergedObject<'_>]) -> usize
     ensures { result ≡ count_by (λ object. object.row.stale) objects.now }
 {
-    objects.iter().filter(|object| is_stale(*object)).count()
+    objects.iter().filter(|object| object.row.stale).count()
 }
 
 fn unhandled_in(objects: &[MergedObject<'_>]) -> usize
@@ -89,7 +59,7 @@ fn unhandled_in(objects: &[MergedObject<'_>]) -> usize
 {
     objects
         .iter()
-        .filter(|object| needs_attention(*object))
+        .filter(|object| is_unhandled(&object.row))
         .count()
 }
 
@@ -98,17 +68,14 @@ fn acknowledged_in(objects: &[MergedObject<'_>]) -> usize
 {
     objects
         .iter()
-        .filter(|object| is_acknowledged(*object))
+        .filter(|object| is_made(object.row.acknowledgement))
         .count()
 }
 
 fn downtimes_in(objects: &[MergedObject<'_>]) -> usize
     ensures { result ≡ count_by (λ object. nat_lt 0 object.row.depth) objects.now }
 {
-    objects
-        .iter()
-        .filter(|object| is_in_downtime(*object))
-        .count()
+    objects.iter().filter(|object| object.row.depth > 0).count()
 }
 
 /// Counts objects: hosts and services by their states, and objects by their marks.

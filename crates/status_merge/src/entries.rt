@@ -38,17 +38,17 @@ pub struct DowntimeLine<'a> {
     pub origins: Vec<Origin<'a>>,
 }
 
-// A row of a page, with its origin and the page's moment.
+/// A row of a page, with its origin and the page's moment.
 #[derive(Clone, Copy)]
-struct Entry<'a, R> {
-    origin: Origin<'a>,
-    moment: u32,
-    row: R,
+pub struct Entry<'a, R> {
+    pub origin: Origin<'a>,
+    pub moment: u32,
+    pub row: R,
 }
 
 // What two comments have to share to be one line.
 #[derive(Clone, Copy, PartialEq, Eq, Hash)]
-struct CommentKey<'a> {
+pub(crate) struct CommentKey<'a> {
     host: &'a [u8],
     service: &'a [u8],
     source: u8,
@@ -60,7 +60,7 @@ struct CommentKey<'a> {
 
 // What two downtime entries have to share to be one line.
 #[derive(Clone, Copy, PartialEq, Eq, Hash)]
-struct DowntimeKey<'a> {
+pub(crate) struct DowntimeKey<'a> {
     host: &'a [u8],
     service: &'a [u8],
     fixed: bool,
@@ -215,7 +215,9 @@ fn add_downtimes<'a>(
     Ok(())
 }
 
-fn comments_of<'a>(
+/// The comments on the hosts of a query, and on their services, in the order of the gateways and of
+/// their pages. The only error is out of memory.
+pub fn comments_of<'a>(
     alloc: Global,
     gateways: &[Gateway<'a>],
     query: &Query,
@@ -230,7 +232,9 @@ fn comments_of<'a>(
     Ok(entries)
 }
 
-fn downtimes_of<'a>(
+/// The downtime entries of the hosts of a query, and of their services, in the order of the gateways
+/// and of their pages. The only error is out of memory.
+pub fn downtimes_of<'a>(
     alloc: Global,
     gateways: &[Gateway<'a>],
     query: &Query,

@@ -12,9 +12,12 @@ mod ranks;
 mod selecting;
 
 pub use counts::{Counts, count};
-pub use entries::{CommentLine, DowntimeLine, Origin, merge_comments, merge_downtimes};
-pub use gateway::{Gateway, MergedObject, PageFault};
+pub use entries::{
+    CommentLine, DowntimeLine, Entry, Origin, comments_of, downtimes_of, merge_comments,
+    merge_downtimes,
+};
+pub use gateway::{Gateway, MergedObject};
 pub use merging::merge;
 pub use query::{Choice, Query, choice_name, read_query};
 pub use ranks::{is_unhandled, rank};
-pub use selecting::{select, takes_host};
+pub use selecting::select;

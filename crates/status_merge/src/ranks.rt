@@ -1,29 +1,7 @@
 ghost use Rattle.std.specs.Prelude.{◌≡◌, ◌+◌};
-ghost use Rattle.status_merge.specs.Ranks.{is_made, is_unhandled, severity, state_number, same_state, rank};
+ghost use Rattle.status_merge.specs.Ranks.{is_made, is_unhandled, severity, rank};
 
 use status_reading::{ShownAcknowledgement, ShownObject, State};
-
-fn state_number(state: State) -> u32
-    ensures { result ≡ state_number state }
-{
-    match state {
-        State::Pending => 0,
-        State::Ok => 1,
-        State::Warning => 2,
-        State::Critical => 3,
-        State::Unknown => 4,
-        State::Up => 5,
-        State::Down => 6,
-        State::Unreachable => 7,
-    }
-}
-
-/// Whether two states are one.
-pub(crate) fn same_state(one: State, other: State) -> bool
-    ensures { result ≡ same_state one other }
-{
-    state_number(one) == state_number(other)
-}
 
 /// Whether there is an acknowledgement.
 pub(crate) fn is_made(acknowledgement: ShownAcknowledgement) -> bool
@@ -68,7 +46,7 @@ pub fn rank(row: &ShownObject<'_>) -> u32
         severity(row.state).1
     } else if row.stale {
         4
-    } else if same_state(row.state, State::Pending) {
+    } else if row.state == State::Pending {
         9
     } else {
         10

@@ -4,7 +4,7 @@ ghost use Rattle.status_merge.specs.Selecting.{has_part, has_choice, is_selected
 
 use crate::gateway::MergedObject;
 use crate::query::{Choice, Query};
-use crate::ranks::{is_unhandled, rank, same_state};
+use crate::ranks::{is_unhandled, rank};
 use memchr::memmem::find_iter;
 use status_reading::ShownObject;
 use std::alloc::{AllocError, Global};
@@ -17,12 +17,12 @@ fn has_choice(choice: Choice, row: &ShownObject<'_>) -> bool
         Choice::Problems => row.state.is_problem() || row.stale,
         Choice::Unhandled => is_unhandled(row),
         Choice::Stale => row.stale,
-        Choice::In(state) => same_state(row.state, state),
+        Choice::In(state) => row.state == state,
     }
 }
 
 /// Whether a host's name contains the text that a query asks for.
-pub fn takes_host(query: &Query, host: &[u8]) -> bool
+pub(crate) fn takes_host(query: &Query, host: &[u8]) -> bool
     ensures { result ≡ has_part host.now (string_bytes query.now.host) }
 {
     find_iter(host, query.host.as_str().as_bytes())

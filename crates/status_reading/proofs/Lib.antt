@@ -13,4 +13,5 @@ pub mod SubmissionSteps
 pub mod TableSteps
 pub mod EventSteps
 pub mod GatewayLaws
+pub mod PlainLaws
 mod GatewayExamples

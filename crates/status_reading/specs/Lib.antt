@@ -4,4 +4,5 @@ pub mod Readable
 pub mod Faults
 pub mod Board
 pub mod Gateway
+pub mod Plain
 pub mod inner

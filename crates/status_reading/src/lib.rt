@@ -5,10 +5,13 @@
 mod cuts;
 mod lines;
 mod page;
+mod plain;
 mod rows;
 mod words;
 
 pub use gate_model::State;
+pub use gate_pages::{plan_name, state_name};
 pub use page::{ReadFault, StatusPage, read_status_page};
+pub use plain::plain_bytes;
 pub use rows::{ShownAcknowledgement, ShownComment, ShownDowntime, ShownObject, ShownSource};
-pub use words::state_name;
+pub use words::source_word;

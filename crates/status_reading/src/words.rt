@@ -11,6 +11,7 @@ ghost use Rattle.status_reading.specs.inner.Reading.{Reads, Names};
 use crate::rows::{ShownAcknowledgement, ShownSource};
 use gate_grammar::read_number;
 use gate_model::State;
+use gate_pages::{plan_name, state_name};
 use itoa::Buffer;
 
 /// Whether a field shows this number, without leading zeros.
@@ -50,44 +51,34 @@ pub fn optional_number(field: &[u8]) -> Option<Option<u32>>
     }
 }
 
+fn is_state(field: &[u8], state: State) -> bool
+    ensures { Decides result (field.now ≡ state_name state) }
+{
+    field == state_name(state).as_bytes()
+}
+
 /// The state that a field names.
 pub fn state(field: &[u8]) -> Option<State>
     ensures { Names state_name field.now result }
 {
-    if field == b"PENDING".as_slice() {
+    if is_state(field, State::Pending) {
         Some(State::Pending)
-    } else if field == b"OK".as_slice() {
+    } else if is_state(field, State::Ok) {
         Some(State::Ok)
-    } else if field == b"WARNING".as_slice() {
+    } else if is_state(field, State::Warning) {
         Some(State::Warning)
-    } else if field == b"CRITICAL".as_slice() {
+    } else if is_state(field, State::Critical) {
         Some(State::Critical)
-    } else if field == b"UNKNOWN".as_slice() {
+    } else if is_state(field, State::Unknown) {
         Some(State::Unknown)
-    } else if field == b"UP".as_slice() {
+    } else if is_state(field, State::Up) {
         Some(State::Up)
-    } else if field == b"DOWN".as_slice() {
+    } else if is_state(field, State::Down) {
         Some(State::Down)
-    } else if field == b"UNREACHABLE".as_slice() {
+    } else if is_state(field, State::Unreachable) {
         Some(State::Unreachable)
     } else {
         None
-    }
-}
-
-/// The name of a state on a status page.
-pub fn state_name(state: State) -> &'static str
-    ensures { result.now ≡ state_name state }
-{
-    match state {
-        State::Pending => "PENDING",
-        State::Ok => "OK",
-        State::Warning => "WARNING",
-        State::Critical => "CRITICAL",
-        State::Unknown => "UNKNOWN",
-        State::Up => "UP",
-        State::Down => "DOWN",
-        State::Unreachable => "UNREACHABLE",
     }
 }
 
@@ -119,15 +110,32 @@ pub fn acknowledgement(field: &[u8]) -> Option<ShownAcknowledgement>
     }
 }
 
+/// Where a comment comes from, by the page's word.
+pub fn source_word(source: ShownSource) -> &'static str
+    ensures { result.now ≡ shown_source source }
+{
+    match source {
+        ShownSource::User => "user",
+        ShownSource::Acknowledgement => "ack",
+        ShownSource::Downtime => "downtime",
+    }
+}
+
+fn is_source(field: &[u8], source: ShownSource) -> bool
+    ensures { Decides result (field.now ≡ shown_source source) }
+{
+    field == source_word(source).as_bytes()
+}
+
 /// Where a comment comes from.
 pub fn source(field: &[u8]) -> Option<ShownSource>
     ensures { Names shown_source field.now result }
 {
-    if field == b"user".as_slice() {
+    if is_source(field, ShownSource::User) {
         Some(ShownSource::User)
-    } else if field == b"ack".as_slice() {
+    } else if is_source(field, ShownSource::Acknowledgement) {
         Some(ShownSource::Acknowledgement)
-    } else if field == b"downtime".as_slice() {
+    } else if is_source(field, ShownSource::Downtime) {
         Some(ShownSource::Downtime)
     } else {
         None
@@ -151,9 +159,9 @@ pub fn persistent(field: &[u8]) -> Option<bool>
 pub fn fixed(field: &[u8]) -> Option<bool>
     ensures { Names plan_name field.now result }
 {
-    if field == b"fixed".as_slice() {
+    if field == plan_name(true).as_bytes() {
         Some(true)
-    } else if field == b"flexible".as_slice() {
+    } else if field == plan_name(false).as_bytes() {
         Some(false)
     } else {
         None

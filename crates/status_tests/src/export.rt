@@ -1,5 +1,5 @@
 use status_export::{json_text, metrics_text};
-use status_merge::{Gateway, PageFault, merge, read_query};
+use status_merge::{Gateway, merge, read_query};
 use status_reading::{ReadFault, read_status_page};
 use std::alloc::Global;
 use std::test::Fail;
@@ -73,7 +73,7 @@ fn gateways(alloc: Global) -> Result<[Gateway<'static>; 2], ReadFault> {
         },
         Gateway {
             name: "west",
-            page: Err(PageFault::Unreachable),
+            page: Err(String::from_str(alloc, "it can't be reached")?),
         },
     ])
 }

@@ -59,7 +59,7 @@ fn shown(alloc: Global) -> Result<Vec<u8>, ReadFault> {
         comments: &[],
         downtimes: &[],
     };
-    Ok(html_page(alloc, &view)?.bytes()?)
+    Ok(html_page(alloc, &view)?.into_bytes())
 }
 
 #[test]

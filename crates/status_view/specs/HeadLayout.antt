@@ -1,7 +1,5 @@
 -- The head of a page: `document_nodes`, `title_nodes` and `alarms_nodes`. Own rules.
-use Rattle.std.specs.Prelude.{ℕ, ◌-◌, Bool, nat_lt, List, [], ◌∷◌, ◌++◌, Ok, Err, codes}
-use Rattle.status_merge.specs.declared.gateway.PageFault.{PageFault}
-use Rattle.status_merge.specs.Causes.{cause}
+use Rattle.std.specs.Prelude.{ℕ, ◌-◌, Bool, nat_lt, List, [], ◌∷◌, ◌++◌, Some, None, codes}
 use Rattle.status_view.specs.declared.layout.Slot.TheVariants as slot
 use Rattle.status_view.specs.declared.shape.GatewayShape.{GatewayShape}
 use Rattle.status_view.specs.Layout.{NodeView, Markup, Number, Text, nodes_if, each_indexed}
@@ -41,8 +39,8 @@ page_moment_nodes index moment =
 -- nothing where the gateway shows no page
 unfoldable pub gateway_nodes : ℕ → GatewayShape → List NodeView
 gateway_nodes index gateway = elim gateway.moment [
-  | Ok moment ↦ page_moment_nodes index moment
-  | Err fault ↦ []
+  | Some moment ↦ page_moment_nodes index moment
+  | None ↦ []
 ]
 
 unfoldable pub title_nodes : List GatewayShape → List NodeView
@@ -58,12 +56,12 @@ unfoldable pub alarm_begin : ℕ → List NodeView
 alarm_begin index =
     Markup (codes "<p class=\"alarm\"><strong>Gateway ") ∷ Text (slot.Gateway index) ∷ Markup (codes "</strong> ") ∷ []
 
--- it shows no status, for this cause
-unfoldable pub missing_nodes : ℕ → PageFault → List NodeView
-missing_nodes index fault =
+-- it shows no status, for its cause
+unfoldable pub missing_nodes : ℕ → List NodeView
+missing_nodes index =
     alarm_begin index
     ++ (Markup (codes "shows no status: ")
-    ∷ Markup (cause fault)
+    ∷ Text (slot.Cause index)
     ∷ Markup (codes ". Its objects are missing below, or are as another gateway has them.</p>\n")
     ∷ [])
 
@@ -87,8 +85,8 @@ page_alarms index is_closing age =
 -- the alarms about a gateway, at this clock
 unfoldable pub alarms_of : ℕ → ℕ → GatewayShape → List NodeView
 alarms_of clock index gateway = elim gateway.moment [
-  | Ok moment ↦ page_alarms index gateway.is_closing (clock - moment)
-  | Err fault ↦ missing_nodes index fault
+  | Some moment ↦ page_alarms index gateway.is_closing (clock - moment)
+  | None ↦ missing_nodes index
 ]
 
 abbrev pub alarms_nodes : ℕ → List GatewayShape → List NodeView

@@ -1,15 +1,19 @@
--- The parts of a page before its texts are there: `NodeView`. Beside it the words for lists of parts.
+-- The parts of a page: `Piece`. Before its texts are there, a slot stands for each. Beside it the words for lists of parts.
 use Rattle.std.specs.Prelude.{ℕ, Bool, if◌then◌else◌, List, []}
 use Rattle.std.specs.List.{flat_map, enumerate_from}
 use Rattle.status_view.specs.declared.layout.Slot.{Slot}
 use Rattle.status_view.specs.declared.layout.Node.{Node}
 use Rattle.status_view.specs.declared.layout.Node.TheVariants as node
 
--- a part of a page: markup, a number, or the slot of a text
-pub data NodeView : Type 0 where
-  Markup : List ℕ → NodeView
-  Number : ℕ → NodeView
-  Text : Slot → NodeView
+-- a part of a page: markup, a number, or a text, given by its bytes or by its slot
+pub data Piece (T : Type 0) : Type 0 where
+  Markup : List ℕ → Piece T
+  Number : ℕ → Piece T
+  Text : T → Piece T
+
+-- a part before its text is there
+abbrev pub NodeView : Type 0
+NodeView = Piece Slot
 
 -- the value of a part
 abbrev pub node_view : Node → NodeView

@@ -1,11 +1,12 @@
 -- The page of a shape: `page_nodes`. Its markup and its numbers are those of the shape alone.
 use Rattle.std.specs.Prelude.{List, [], ◌∷◌, ◌++◌, codes}
+use Rattle.status_view.specs.declared.layout.EntryList.TheVariants.{Comments, Downtimes}
 use Rattle.status_view.specs.Layout.{NodeView, Markup}
 use Rattle.status_view.specs.Shapes.{PageShapeView}
 use Rattle.status_view.specs.HeadLayout.{document_nodes, title_nodes, alarms_nodes}
 use Rattle.status_view.specs.SummaryLayout.{summary_nodes, form_nodes}
 use Rattle.status_view.specs.ObjectsLayout.{objects_nodes}
-use Rattle.status_view.specs.ListsLayout.{comments_nodes, downtimes_nodes}
+use Rattle.status_view.specs.ListsLayout.{entries_nodes}
 
 -- what stands before the lists
 unfoldable pub head_nodes : PageShapeView → List NodeView
@@ -21,8 +22,8 @@ unfoldable pub page_nodes : PageShapeView → List NodeView
 page_nodes shape =
     head_nodes shape
     ++ objects_nodes shape
-    ++ comments_nodes shape.comments
-    ++ downtimes_nodes shape.downtimes
+    ++ entries_nodes Comments shape.comments
+    ++ entries_nodes Downtimes shape.downtimes
     ++ (Markup (codes "<footer><a href=\"/status.json\">status.json</a> &middot; ")
     ∷ Markup (codes "<a href=\"/metrics\">metrics</a></footer>\n</main></body></html>\n")
     ∷ [])

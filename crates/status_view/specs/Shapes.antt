@@ -1,6 +1,5 @@
 -- What decides the markup of a page: `page_shape`. A shape has states, marks, moments, counts and ids, and no text.
-use Rattle.std.specs.Prelude.{ℕ, Bool, false, not, ◌==◌, List, map, length, string_len, Option, is_some, Ok, Err}
-use Rattle.status_reading.specs.declared.rows.ShownSource.{ShownSource}
+use Rattle.std.specs.Prelude.{ℕ, Bool, false, not, ◌==◌, List, map, length, string_len, Option, Some, None, is_some, Ok, Err}
 use Rattle.status_merge.specs.declared.gateway.Gateway.{Gateway}
 use Rattle.status_merge.specs.declared.gateway.MergedObject.{MergedObject}
 use Rattle.status_merge.specs.declared.entries.CommentLine.{CommentLine}
@@ -10,31 +9,18 @@ use Rattle.status_merge.specs.declared.query.Choice.{Choice}
 use Rattle.status_merge.specs.Ranks.{is_unhandled, counts_of}
 use Rattle.status_view.specs.declared.shape.GatewayShape.{GatewayShape}
 use Rattle.status_view.specs.declared.shape.ObjectShape.{ObjectShape}
-use Rattle.status_view.specs.declared.shape.CommentShape.{CommentShape}
-use Rattle.status_view.specs.declared.shape.DowntimeShape.{DowntimeShape}
+use Rattle.status_view.specs.declared.shape.EntryMarks.{EntryMarks}
+use Rattle.status_view.specs.declared.shape.EntryMarks.TheVariants.{Comment, Downtime}
+use Rattle.status_view.specs.declared.shape.EntryShape.{EntryShape}
 use Rattle.status_view.specs.declared.shape.PageShape.{PageShape}
 use Rattle.status_view.specs.declared.view.View.{View}
 
 -- ---- shapes as plain values
 
--- a comment's, with its id at each gateway that has it
-pub record CommentShapeView : Type 0 where
+-- an entry's, with its id at each gateway that has it
+pub record EntryShapeView : Type 0 where
   pub is_host : Bool
-  pub source : ShownSource
-  pub persistent : Bool
-  pub moment : ℕ
-  pub ids : List ℕ
-
--- a downtime entry's, with its id at each gateway that has it; `moment` is that of the page
-pub record DowntimeShapeView : Type 0 where
-  pub is_host : Bool
-  pub fixed : Bool
-  pub trigger : ℕ
-  pub start : ℕ
-  pub end : ℕ
-  pub duration : ℕ
-  pub begin : Option ℕ
-  pub moment : ℕ
+  pub marks : EntryMarks
   pub ids : List ℕ
 
 -- a page's
@@ -47,32 +33,13 @@ pub record PageShapeView : Type 0 where
   pub counts : Counts
   pub gateways : List GatewayShape
   pub objects : List ObjectShape
-  pub comments : List CommentShapeView
-  pub downtimes : List DowntimeShapeView
+  pub comments : List EntryShapeView
+  pub downtimes : List EntryShapeView
 
 -- ---- the values of the program's shapes
 
-abbrev pub comment_shape_view : CommentShape → CommentShapeView
-comment_shape_view shape = record {
-  is_host = shape.is_host;
-  source = shape.source;
-  persistent = shape.persistent;
-  moment = shape.moment;
-  ids = shape.ids.items;
-}
-
-abbrev pub downtime_shape_view : DowntimeShape → DowntimeShapeView
-downtime_shape_view shape = record {
-  is_host = shape.is_host;
-  fixed = shape.fixed;
-  trigger = shape.trigger;
-  start = shape.start;
-  end = shape.end;
-  duration = shape.duration;
-  begin = shape.begin;
-  moment = shape.moment;
-  ids = shape.ids.items;
-}
+abbrev pub entry_shape_view : EntryShape → EntryShapeView
+entry_shape_view shape = record { is_host = shape.is_host; marks = shape.marks; ids = shape.ids.items }
 
 abbrev pub shape_view : PageShape → PageShapeView
 shape_view shape = record {
@@ -84,8 +51,8 @@ shape_view shape = record {
   counts = shape.counts;
   gateways = shape.gateways.items;
   objects = shape.objects.items;
-  comments = map comment_shape_view shape.comments.items;
-  downtimes = map downtime_shape_view shape.downtimes.items;
+  comments = map entry_shape_view shape.comments.items;
+  downtimes = map entry_shape_view shape.downtimes.items;
 }
 
 -- ---- the shape of what is shown
@@ -93,8 +60,8 @@ shape_view shape = record {
 -- the shape of a gateway's lines
 abbrev pub gateway_shape : Gateway → GatewayShape
 gateway_shape gateway = elim gateway.page [
-  | Ok page ↦ record { moment = Ok page.moment; is_closing = is_some page.closing }
-  | Err fault ↦ record { moment = Err fault; is_closing = false }
+  | Ok page ↦ record { moment = Some page.moment; is_closing = is_some page.closing }
+  | Err cause ↦ record { moment = None; is_closing = false }
 ]
 
 -- the shape of an object's row
@@ -111,26 +78,30 @@ object_shape object = record {
 }
 
 -- the shape of a comment's row
-abbrev pub comment_shape : CommentLine → CommentShapeView
+abbrev pub comment_shape : CommentLine → EntryShapeView
 comment_shape line = record {
   is_host = length line.row.service.now == 0;
-  source = line.row.source;
-  persistent = line.row.persistent;
-  moment = line.row.moment;
+  marks = Comment (record {
+    source = line.row.source;
+    persistent = line.row.persistent;
+    moment = line.row.moment;
+  });
   ids = map (λ origin. origin.id) line.origins.items;
 }
 
 -- the shape of a downtime entry's row
-abbrev pub downtime_shape : DowntimeLine → DowntimeShapeView
+abbrev pub downtime_shape : DowntimeLine → EntryShapeView
 downtime_shape line = record {
   is_host = length line.row.service.now == 0;
-  fixed = line.row.fixed;
-  trigger = line.row.trigger;
-  start = line.row.start;
-  end = line.row.end;
-  duration = line.row.duration;
-  begin = line.row.begin;
-  moment = line.moment;
+  marks = Downtime (record {
+    fixed = line.row.fixed;
+    trigger = line.row.trigger;
+    start = line.row.start;
+    end = line.row.end;
+    duration = line.row.duration;
+    begin = line.row.begin;
+    moment = line.moment;
+  });
   ids = map (λ origin. origin.id) line.origins.items;
 }
 

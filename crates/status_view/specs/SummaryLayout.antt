@@ -1,9 +1,9 @@
 -- The counts of a page, each with the link to the objects that it counts: `summary_nodes`. Its form: `form_nodes`.
 -- Own rules.
-use Rattle.std.specs.Prelude.{ℕ, Bool, ◌==◌, List, [], ◌∷◌, ◌++◌, codes}
+use Rattle.std.specs.Prelude.{ℕ, Bool, true, false, ◌==◌, List, [], ◌∷◌, ◌++◌, codes}
 use Rattle.std.specs.List.{flat_map}
-use Rattle.std.specs.Str.{bytes_eq}
 use Rattle.gate_model.specs.declared.state.State.TheVariants.{Pending, Ok, Warning, Critical, Unknown, Up, Down, Unreachable}
+use Rattle.gate_model.specs.State.{is_same_state}
 use Rattle.status_merge.specs.declared.query.Choice.{Choice}
 use Rattle.status_merge.specs.declared.query.Choice.TheVariants.{All, Problems, Unhandled, Stale, In}
 use Rattle.status_merge.specs.Asking.{choice_word}
@@ -11,9 +11,14 @@ use Rattle.status_view.specs.declared.layout.Slot.TheVariants as slot
 use Rattle.status_view.specs.Layout.{NodeView, Markup, Number, Text, nodes_if}
 use Rattle.status_view.specs.Shapes.{PageShapeView}
 
--- whether two choices have one name
+-- whether two choices are one
 unfoldable pub same_choice : Choice → Choice → Bool
-same_choice one other = bytes_eq (choice_word one) (choice_word other)
+same_choice All All = true
+same_choice Problems Problems = true
+same_choice Unhandled Unhandled = true
+same_choice Stale Stale = true
+same_choice (In one) (In other) = is_same_state one other
+same_choice one other = false
 
 -- the rest of a link's query, after its state: the host and the refresh that the query asks for
 unfoldable pub kept_nodes : PageShapeView → List NodeView

@@ -1,21 +1,30 @@
 //! The texts of a page, each in its slot.
 
-ghost use Rattle.std.specs.Prelude.{◌≡◌, [], ◌∷◌, ◌++◌, IfOk, OnOk};
-ghost use Rattle.html_text.specs.Html.{Text};
+ghost use Rattle.std.specs.Prelude.{◌≡◌, ◌++◌, IfOk, OnOk};
 ghost use Rattle.form_urlencoded.specs.Form.{byte_serialize};
+ghost use Rattle.html_text.specs.Escaping.{html_text};
+ghost use Rattle.status_reading.specs.Plain.{plain_bytes};
 ghost use Rattle.status_view.specs.Layout.{node_view};
-ghost use Rattle.status_view.specs.Filling.{object_text, comment_text, downtime_text, origin_text, slot_text, piece_in, filled};
+ghost use Rattle.status_view.specs.Filling.{cause_text, object_text, entry_text, slot_text, with_text, filled, piece_bytes, html_bytes};
 
-use crate::layout::{EntryText, Layout, Node, ObjectText, Slot};
+use crate::layout::{EntryList, EntryText, Layout, Node, ObjectText, Slot};
 use crate::view::View;
 use form_urlencoded::byte_serialize;
 use html_text::Html;
-use status_merge::{CommentLine, DowntimeLine, MergedObject, Origin};
+use status_merge::{Gateway, MergedObject, Origin};
+use status_reading::plain_bytes;
 use std::alloc::{AllocError, Global};
+
+// What a field of a page stands for.
+fn put_field(alloc: Global, html: &mut Html, field: &[u8]) -> Result<(), AllocError>
+    ensures { OnOk result (html.new ≡ html.old ++ html_text (plain_bytes field.now)) }
+{
+    html.text(plain_bytes(alloc, field)?.as_slice())
+}
 
 // A text as a value in a URL's query.
 fn put_in_link(alloc: Global, html: &mut Html, text: &[u8]) -> Result<(), AllocError>
-    ensures { OnOk result (html.new ≡ html.old ++ Text (byte_serialize text.now) ∷ []) }
+    ensures { OnOk result (html.new ≡ html.old ++ html_text (byte_serialize text.now)) }
 {
     let mut value = String::new(alloc);
     for piece in byte_serialize(text) {
@@ -24,56 +33,109 @@ fn put_in_link(alloc: Global, html: &mut Html, text: &[u8]) -> Result<(), AllocE
     html.text(value.as_str().as_bytes())
 }
 
+fn put_cause(html: &mut Html, gateway: &Gateway<'_>) -> Result<(), AllocError>
+    ensures { OnOk result (html.new ≡ html.old ++ html_text (cause_text gateway.now)) }
+{
+    match &gateway.page {
+        Ok(_) => html.text(b""),
+        Err(cause) => html.text(cause.as_str().as_bytes()),
+    }
+}
+
 fn put_object(
     alloc: Global,
     html: &mut Html,
     shown: &MergedObject<'_>,
     text: ObjectText,
 ) -> Result<(), AllocError>
-    ensures { OnOk result (html.new ≡ html.old ++ Text (object_text text shown.now) ∷ []) }
+    ensures { OnOk result (html.new ≡ html.old ++ html_text (object_text text shown.now)) }
 {
     match text {
-        ObjectText::Host => html.field(shown.row.host),
+        ObjectText::Host => put_field(alloc, html, shown.row.host),
         ObjectText::HostInLink => put_in_link(alloc, html, shown.row.host),
-        ObjectText::Service => html.field(shown.row.service),
-        ObjectText::Output => html.field(shown.row.output),
+        ObjectText::Service => put_field(alloc, html, shown.row.service),
+        ObjectText::Output => put_field(alloc, html, shown.row.output),
         ObjectText::Gateway => html.text(shown.gateway.as_bytes()),
     }
 }
 
-fn put_comment(html: &mut Html, line: &CommentLine<'_>, text: EntryText) -> Result<(), AllocError>
-    ensures { OnOk result (html.new ≡ html.old ++ Text (comment_text text line.now) ∷ []) }
+/// The texts of the row of a comment or a downtime entry, and the gateways that have it.
+#[derive(Clone, Copy)]
+struct Entry<'a> {
+    host: &'a [u8],
+    service: &'a [u8],
+    author: &'a [u8],
+    words: &'a [u8],
+    origins: &'a [Origin<'a>],
+}
+
+fn put_entry(
+    alloc: Global,
+    html: &mut Html,
+    entry: Entry<'_>,
+    text: EntryText,
+) -> Result<(), AllocError>
+    ensures { let entry = entry.entry in OnOk result (html.new
+        ≡ html.old ++ html_text (entry_text text entry.host.now entry.service.now
+        entry.author.now entry.words.now entry.origins.now)) }
 {
     match text {
-        EntryText::Host => html.field(line.row.host),
-        EntryText::Service => html.field(line.row.service),
-        EntryText::Author => html.field(line.row.author),
-        EntryText::Text => html.field(line.row.text),
+        EntryText::Host => put_field(alloc, html, entry.host),
+        EntryText::Service => put_field(alloc, html, entry.service),
+        EntryText::Author => put_field(alloc, html, entry.author),
+        EntryText::Words => put_field(alloc, html, entry.words),
+        EntryText::Gateway(index) => match entry.origins.get(index) {
+            Some(origin) => html.text(origin.gateway.as_bytes()),
+            None => html.text(b""),
+        },
     }
 }
 
-fn put_downtime(html: &mut Html, line: &DowntimeLine<'_>, text: EntryText) -> Result<(), AllocError>
-    ensures { OnOk result (html.new ≡ html.old ++ Text (downtime_text text line.now) ∷ []) }
+fn fill_entry(
+    alloc: Global,
+    html: &mut Html,
+    view: &View<'_>,
+    list: EntryList,
+    index: usize,
+    text: EntryText,
+) -> Result<(), AllocError>
+    ensures { OnOk result (html.new
+        ≡ html.old ++ html_text (slot_text view.entry.now (Slot.Entry list index text))) }
 {
-    match text {
-        EntryText::Host => html.field(line.row.host),
-        EntryText::Service => html.field(line.row.service),
-        EntryText::Author => html.field(line.row.author),
-        EntryText::Text => html.field(line.row.text),
-    }
-}
-
-fn put_origin(html: &mut Html, origins: &[Origin<'_>], index: usize) -> Result<(), AllocError>
-    ensures { OnOk result (html.new ≡ html.old ++ Text (origin_text index origins.now) ∷ []) }
-{
-    match origins.get(index) {
-        Some(origin) => html.text(origin.gateway.as_bytes()),
-        None => html.text(b""),
+    match list {
+        EntryList::Comments => match view.comments.get(index) {
+            Some(line) => {
+                let row = &line.row;
+                let entry = Entry {
+                    host: row.host,
+                    service: row.service,
+                    author: row.author,
+                    words: row.text,
+                    origins: line.origins.as_slice(),
+                };
+                put_entry(alloc, html, entry, text)
+            }
+            None => html.text(b""),
+        },
+        EntryList::Downtimes => match view.downtimes.get(index) {
+            Some(line) => {
+                let row = &line.row;
+                let entry = Entry {
+                    host: row.host,
+                    service: row.service,
+                    author: row.author,
+                    words: row.text,
+                    origins: line.origins.as_slice(),
+                };
+                put_entry(alloc, html, entry, text)
+            }
+            None => html.text(b""),
+        },
     }
 }
 
 fn fill_slot(alloc: Global, html: &mut Html, view: &View<'_>, slot: Slot) -> Result<(), AllocError>
-    ensures { OnOk result (html.new ≡ html.old ++ Text (slot_text view.entry.now slot) ∷ []) }
+    ensures { OnOk result (html.new ≡ html.old ++ html_text (slot_text view.entry.now slot)) }
 {
     match slot {
         Slot::Title => html.text(view.title.as_bytes()),
@@ -83,31 +145,21 @@ fn fill_slot(alloc: Global, html: &mut Html, view: &View<'_>, slot: Slot) -> Res
             Some(gateway) => html.text(gateway.name.as_bytes()),
             None => html.text(b""),
         },
+        Slot::Cause(index) => match view.gateways.get(index) {
+            Some(gateway) => put_cause(html, gateway),
+            None => html.text(b""),
+        },
         Slot::Object(index, text) => match view.objects.get(index) {
             Some(shown) => put_object(alloc, html, shown, text),
             None => html.text(b""),
         },
-        Slot::Comment(index, text) => match view.comments.get(index) {
-            Some(line) => put_comment(html, line, text),
-            None => html.text(b""),
-        },
-        Slot::CommentGateway(index, origin) => match view.comments.get(index) {
-            Some(line) => put_origin(html, line.origins.as_slice(), origin),
-            None => html.text(b""),
-        },
-        Slot::Downtime(index, text) => match view.downtimes.get(index) {
-            Some(line) => put_downtime(html, line, text),
-            None => html.text(b""),
-        },
-        Slot::DowntimeGateway(index, origin) => match view.downtimes.get(index) {
-            Some(line) => put_origin(html, line.origins.as_slice(), origin),
-            None => html.text(b""),
-        },
+        Slot::Entry(list, index, text) => fill_entry(alloc, html, view, list, index, text),
     }
 }
 
 fn fill_node(alloc: Global, html: &mut Html, view: &View<'_>, node: Node) -> Result<(), AllocError>
-    ensures { OnOk result (html.new ≡ html.old ++ piece_in view.entry.now (node_view node) ∷ []) }
+    ensures { OnOk result (html.new
+        ≡ html.old ++ piece_bytes (with_text (slot_text view.entry.now) (node_view node))) }
 {
     match node {
         Node::Markup(markup) => html.markup(markup),
@@ -119,7 +171,7 @@ fn fill_node(alloc: Global, html: &mut Html, view: &View<'_>, node: Node) -> Res
 /// Writes a page: its markup and its numbers as they were laid out, and in each slot its text,
 /// which is escaped. The only error is out of memory.
 pub fn fill(alloc: Global, layout: &Layout, view: &View<'_>) -> Result<Html, AllocError>
-    ensures { IfOk result (λ html. html ≡ filled view.entry.now layout.now) }
+    ensures { IfOk result (λ html. html ≡ html_bytes (filled view.entry.now layout.now)) }
 {
     let mut html = Html::new(alloc);
     for node in layout.nodes() {

@@ -7,7 +7,6 @@ ghost use Rattle.status_view.specs.HeadLayout.{refresh_nodes, unhandled_nodes, d
 use crate::layout::{Layout, Node, Slot};
 use crate::shape::GatewayShape;
 use crate::times::{lay_out_moment, lay_out_span};
-use status_merge::PageFault;
 use std::alloc::AllocError;
 
 #[tactic(auto, unfolding(crate::specs::HeadLayout::refresh_nodes))]
@@ -80,8 +79,8 @@ fn lay_out_gateway(
     ensures { OnOk result (layout.new ≡ layout.old ++ gateway_nodes index gateway.now) }
 {
     match gateway.moment {
-        Ok(moment) => lay_out_page_moment(layout, index, moment),
-        Err(_) => Ok(()),
+        Some(moment) => lay_out_page_moment(layout, index, moment),
+        None => Ok(()),
     }
 }
 
@@ -118,13 +117,13 @@ fn begin_alarm(layout: &mut Layout, index: usize) -> Result<(), AllocError>
     ])
 }
 
-fn lay_out_missing(layout: &mut Layout, index: usize, fault: PageFault) -> Result<(), AllocError>
-    ensures { OnOk result (layout.new ≡ layout.old ++ missing_nodes index fault) }
+fn lay_out_missing(layout: &mut Layout, index: usize) -> Result<(), AllocError>
+    ensures { OnOk result (layout.new ≡ layout.old ++ missing_nodes index) }
 {
     begin_alarm(layout, index)?;
     layout.put(&[
         Node::Markup("shows no status: "),
-        Node::Markup(fault.cause()),
+        Node::Slot(Slot::Cause(index)),
         Node::Markup(". Its objects are missing below, or are as another gateway has them.</p>\n"),
     ])
 }
@@ -189,11 +188,11 @@ fn lay_out_alarms_of(
     ensures { OnOk result (layout.new ≡ layout.old ++ alarms_of clock index gateway.now) }
 {
     match gateway.moment {
-        Ok(moment) => {
+        Some(moment) => {
             let age = clock.saturating_sub(moment);
             lay_out_page_alarms(layout, index, gateway.is_closing, age)
         }
-        Err(fault) => lay_out_missing(layout, index, fault),
+        None => lay_out_missing(layout, index),
     }
 }
 

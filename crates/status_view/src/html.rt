@@ -1,11 +1,14 @@
 ghost use Rattle.std.specs.Prelude.{◌≡◌, map, IfOk};
 ghost use Rattle.status_view.specs.declared.view.View.{View as Shown};
-ghost use Rattle.status_view.specs.Shapes.{comment_shape_view, downtime_shape_view, shape_view, gateway_shape, object_shape, comment_shape, downtime_shape, page_shape};
+ghost use Rattle.status_view.specs.Shapes.{entry_shape_view, shape_view, gateway_shape, object_shape, comment_shape, downtime_shape, page_shape};
 ghost use Rattle.status_view.specs.Page.{page_nodes};
-ghost use Rattle.status_view.specs.Filling.{filled, without_texts};
+ghost use Rattle.status_view.specs.Filling.{filled, html_bytes, without_texts};
 
 use crate::filling::fill;
-use crate::shape::{CommentShape, DowntimeShape, GatewayShape, ObjectShape, PageShape, lay_out};
+use crate::shape::{
+    CommentMarks, DowntimeMarks, EntryMarks, EntryShape, GatewayShape, ObjectShape, PageShape,
+    lay_out,
+};
 use crate::view::View;
 use html_text::Html;
 use status_merge::{CommentLine, DowntimeLine, Gateway, MergedObject, Origin, count, is_unhandled};
@@ -16,11 +19,11 @@ fn gateway_shape(gateway: &Gateway<'_>) -> GatewayShape
 {
     match &gateway.page {
         Ok(page) => GatewayShape {
-            moment: Ok(page.moment),
+            moment: Some(page.moment),
             is_closing: page.closing.is_some(),
         },
-        Err(fault) => GatewayShape {
-            moment: Err(*fault),
+        Err(_) => GatewayShape {
+            moment: None,
             is_closing: false,
         },
     }
@@ -52,31 +55,36 @@ fn ids_of(alloc: Global, origins: &[Origin<'_>]) -> Result<Vec<u32>, AllocError>
     Ok(ids)
 }
 
-fn comment_shape(alloc: Global, line: &CommentLine<'_>) -> Result<CommentShape, AllocError>
-    ensures { IfOk result (λ shape. comment_shape_view shape ≡ comment_shape line.now) }
+fn comment_shape(alloc: Global, line: &CommentLine<'_>) -> Result<EntryShape, AllocError>
+    ensures { IfOk result (λ shape. entry_shape_view shape ≡ comment_shape line.now) }
 {
-    Ok(CommentShape {
-        is_host: line.row.service.is_empty(),
-        source: line.row.source,
-        persistent: line.row.persistent,
-        moment: line.row.moment,
+    let row = &line.row;
+    Ok(EntryShape {
+        is_host: row.service.is_empty(),
+        marks: EntryMarks::Comment(CommentMarks {
+            source: row.source,
+            persistent: row.persistent,
+            moment: row.moment,
+        }),
         ids: ids_of(alloc, line.origins.as_slice())?,
     })
 }
 
-fn downtime_shape(alloc: Global, line: &DowntimeLine<'_>) -> Result<DowntimeShape, AllocError>
-    ensures { IfOk result (λ shape. downtime_shape_view shape ≡ downtime_shape line.now) }
+fn downtime_shape(alloc: Global, line: &DowntimeLine<'_>) -> Result<EntryShape, AllocError>
+    ensures { IfOk result (λ shape. entry_shape_view shape ≡ downtime_shape line.now) }
 {
     let row = &line.row;
-    Ok(DowntimeShape {
+    Ok(EntryShape {
         is_host: row.service.is_empty(),
-        fixed: row.fixed,
-        trigger: row.trigger,
-        start: row.start,
-        end: row.end,
-        duration: row.duration,
-        begin: row.begin,
-        moment: line.moment,
+        marks: EntryMarks::Downtime(DowntimeMarks {
+            fixed: row.fixed,
+            trigger: row.trigger,
+            start: row.start,
+            end: row.end,
+            duration: row.duration,
+            begin: row.begin,
+            moment: line.moment,
+        }),
         ids: ids_of(alloc, line.origins.as_slice())?,
     })
 }
@@ -104,9 +112,9 @@ fn gateway_shapes(alloc: Global, gateways: &[Gateway<'_>]) -> Result<Vec<Gateway
     Ok(shapes)
 }
 
-fn comment_shapes(alloc: Global, lines: &[CommentLine<'_>]) -> Result<Vec<CommentShape>, AllocError>
+fn comment_shapes(alloc: Global, lines: &[CommentLine<'_>]) -> Result<Vec<EntryShape>, AllocError>
     ensures { IfOk result (λ shapes.
-        map comment_shape_view shapes.items ≡ map comment_shape lines.now) }
+        map entry_shape_view shapes.items ≡ map comment_shape lines.now) }
 {
     let mut shapes = Vec::new(alloc);
     for line in lines {
@@ -115,12 +123,9 @@ fn comment_shapes(alloc: Global, lines: &[CommentLine<'_>]) -> Result<Vec<Commen
     Ok(shapes)
 }
 
-fn downtime_shapes(
-    alloc: Global,
-    lines: &[DowntimeLine<'_>],
-) -> Result<Vec<DowntimeShape>, AllocError>
+fn downtime_shapes(alloc: Global, lines: &[DowntimeLine<'_>]) -> Result<Vec<EntryShape>, AllocError>
     ensures { IfOk result (λ shapes.
-        map downtime_shape_view shapes.items ≡ map downtime_shape lines.now) }
+        map entry_shape_view shapes.items ≡ map downtime_shape lines.now) }
 {
     let mut shapes = Vec::new(alloc);
     for line in lines {
@@ -151,13 +156,14 @@ pub fn shape_of(alloc: Global, view: &View<'_>) -> Result<PageShape, AllocError>
 /// The page for a browser. The only error is out of memory.
 pub fn html_page(alloc: Global, view: &View<'_>) -> Result<Html, AllocError>
     ensures page { let view = view.entry.now in
-        IfOk result (λ html. html ≡ filled view (page_nodes (page_shape view))) }
+        IfOk result (λ html. html ≡ html_bytes (filled view (page_nodes (page_shape view)))) }
 
     // The texts have no part in the markup: any view of the same shape has a page with the same
     // markup and the same numbers, and its texts at the same places.
     ensures shape_alone { let view = view.entry.now in
-        (other : Shown) → page_shape other ≡ page_shape view → IfOk result (λ html.
-        without_texts html ≡ without_texts (filled other (page_nodes (page_shape other)))) }
+        (other : Shown) → page_shape other ≡ page_shape view
+        → without_texts (filled view (page_nodes (page_shape view)))
+        ≡ without_texts (filled other (page_nodes (page_shape other))) }
 {
     let shape = shape_of(alloc, view)?;
     let layout = lay_out(alloc, &shape)?;

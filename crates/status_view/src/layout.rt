@@ -16,13 +16,22 @@ pub enum ObjectText {
     Gateway,
 }
 
-/// A text of a comment's row, or of a downtime entry's.
+/// The list that an entry stands in.
+#[derive(Clone, Copy)]
+pub enum EntryList {
+    Comments,
+    Downtimes,
+}
+
+/// A text of the row of a comment or a downtime entry.
 #[derive(Clone, Copy)]
 pub enum EntryText {
     Host,
     Service,
     Author,
-    Text,
+    Words,
+    /// The name of the gateway of this index among those that have the entry.
+    Gateway(usize),
 }
 
 /// The text that a slot of a page is filled with.
@@ -35,16 +44,12 @@ pub enum Slot {
     HostInLink,
     /// The name of the gateway of this index.
     Gateway(usize),
+    /// Why there is no page of the gateway of this index.
+    Cause(usize),
     /// Of the object of this index among those shown.
     Object(usize, ObjectText),
-    /// Of the comment of this index.
-    Comment(usize, EntryText),
-    /// The name of the gateway of the second index among those that have the comment.
-    CommentGateway(usize, usize),
-    /// Of the downtime entry of this index.
-    Downtime(usize, EntryText),
-    /// The name of the gateway of the second index among those that have the downtime entry.
-    DowntimeGateway(usize, usize),
+    /// Of the entry of this index in its list.
+    Entry(EntryList, usize, EntryText),
 }
 
 /// A part of a page: markup, a number, or a slot for a text.

@@ -17,9 +17,6 @@ mod summary_layout;
 mod times;
 mod view;
 
-pub use filling::fill;
-pub use html::{html_page, shape_of};
-pub use layout::{EntryText, Layout, Node, ObjectText, Slot};
-pub use shape::{CommentShape, DowntimeShape, GatewayShape, ObjectShape, PageShape, lay_out};
+pub use html::html_page;
 pub use style::STYLE;
 pub use view::View;

@@ -2,144 +2,22 @@
 
 ghost use Rattle.std.specs.Prelude.{◌≡◌, ◌++◌, map, OnOk};
 ghost use Rattle.status_view.specs.Layout.{nodes_if, each_indexed};
-ghost use Rattle.status_view.specs.Shapes.{comment_shape_view, downtime_shape_view};
-ghost use Rattle.status_view.specs.ListsLayout.{entry_name_nodes, words_nodes, origin_nodes, source_word, comment_nodes, comments_table, comments_nodes, plan_word, duration_nodes, window_nodes, ago_nodes, began_nodes, downtime_nodes, downtimes_table, downtimes_nodes};
-ghost use Rattle.status_view.specs.declared.layout.Slot.TheVariants.{CommentGateway, DowntimeGateway};
+ghost use Rattle.status_view.specs.Shapes.{entry_shape_view};
+ghost use Rattle.status_view.specs.ListsLayout.{comment_nodes, duration_nodes, window_nodes, ago_nodes, began_nodes, entry_marks_nodes, entry_name_nodes, words_nodes, origin_nodes, entry_nodes, list_head, entries_table, entries_nodes};
 
-use crate::layout::{EntryText, Layout, Node, Slot};
-use crate::shape::{CommentShape, DowntimeShape};
+use crate::layout::{EntryList, EntryText, Layout, Node, Slot};
+use crate::shape::{CommentMarks, DowntimeMarks, EntryMarks, EntryShape};
 use crate::times::{lay_out_moment, lay_out_span};
-use status_reading::ShownSource;
+use status_reading::{plan_name, source_word};
 use std::alloc::AllocError;
 
-fn lay_out_name(
-    layout: &mut Layout,
-    host: Slot,
-    service: Slot,
-    is_host: bool,
-) -> Result<(), AllocError>
-    ensures { OnOk result (layout.new ≡ layout.old ++ entry_name_nodes host service is_host) }
+fn lay_out_comment(layout: &mut Layout, row: &CommentMarks) -> Result<(), AllocError>
+    ensures { OnOk result (layout.new ≡ layout.old ++ comment_nodes row.now) }
 {
-    layout.put(&[Node::Markup("<tr><td class=\"name\">"), Node::Slot(host)])?;
-    layout.put_if(
-        !is_host,
-        &[
-            Node::Markup(" <span class=\"soft\">/</span> "),
-            Node::Slot(service),
-        ],
-    )?;
-    layout.put(&[Node::Markup("</td><td class=\"cell\">")])
-}
-
-#[tactic(auto, unfolding(crate::specs::ListsLayout::words_nodes))]
-fn lay_out_words(layout: &mut Layout, author: Slot, words: Slot) -> Result<(), AllocError>
-    ensures { OnOk result (layout.new ≡ layout.old ++ words_nodes author words) }
-{
-    layout.put(&[
-        Node::Markup("</td><td class=\"cell\" data-name=\"by\">"),
-        Node::Slot(author),
-        Node::Markup("</td><td class=\"out\">"),
-        Node::Slot(words),
-        Node::Markup("</td><td class=\"cell soft\" data-name=\"id\">"),
-    ])
-}
-
-fn source_word(source: ShownSource) -> &'static str
-    ensures { result.now ≡ source_word source }
-{
-    match source {
-        ShownSource::User => "user",
-        ShownSource::Acknowledgement => "acknowledgement",
-        ShownSource::Downtime => "downtime",
-    }
-}
-
-fn lay_out_comment_origin(
-    layout: &mut Layout,
-    index: usize,
-    place: usize,
-    id: u32,
-) -> Result<(), AllocError>
-    ensures { OnOk result (layout.new
-        ≡ layout.old ++ origin_nodes (CommentGateway index) place id) }
-{
-    layout.put_if(place > 0, &[Node::Markup(", ")])?;
-    layout.put(&[
-        Node::Number(u64::from(id)),
-        Node::Markup(" at "),
-        Node::Slot(Slot::CommentGateway(index, place)),
-    ])
-}
-
-fn lay_out_comment_origins(layout: &mut Layout, index: usize, ids: &[u32]) -> Result<(), AllocError>
-    ensures { OnOk result (layout.new
-        ≡ layout.old ++ each_indexed (origin_nodes (CommentGateway index)) ids.now) }
-{
-    for (place, id) in ids.iter().enumerate() {
-        lay_out_comment_origin(layout, index, place, *id)?;
-    }
-    Ok(())
-}
-
-fn lay_out_comment(layout: &mut Layout, row: &CommentShape, index: usize) -> Result<(), AllocError>
-    ensures { OnOk result (layout.new
-        ≡ layout.old ++ comment_nodes index (comment_shape_view row.now)) }
-{
-    let host = Slot::Comment(index, EntryText::Host);
-    let service = Slot::Comment(index, EntryText::Service);
-    let author = Slot::Comment(index, EntryText::Author);
-    let words = Slot::Comment(index, EntryText::Text);
-    lay_out_name(layout, host, service, row.is_host)?;
     layout.put(&[Node::Markup(source_word(row.source))])?;
     layout.put_if(row.persistent, &[Node::Markup(", persistent")])?;
     layout.put(&[Node::Markup("</td><td class=\"num cell\">")])?;
-    lay_out_moment(layout, row.moment)?;
-    lay_out_words(layout, author, words)?;
-    lay_out_comment_origins(layout, index, row.ids.as_slice())?;
-    layout.put(&[Node::Markup("</td></tr>\n")])
-}
-
-fn lay_out_comment_rows(layout: &mut Layout, rows: &[CommentShape]) -> Result<(), AllocError>
-    ensures { OnOk result (layout.new
-        ≡ layout.old ++ each_indexed comment_nodes (map comment_shape_view rows.now)) }
-{
-    for (index, row) in rows.iter().enumerate() {
-        lay_out_comment(layout, row, index)?;
-    }
-    Ok(())
-}
-
-fn lay_out_comment_table(layout: &mut Layout, rows: &[CommentShape]) -> Result<(), AllocError>
-    ensures { OnOk result (layout.new
-        ≡ layout.old ++ comments_table (map comment_shape_view rows.now)) }
-{
-    layout.put(&[
-        Node::Markup(
-            "<h2>Comments</h2><table><thead><tr><th>Object</th><th>Source</th><th>Time</th>",
-        ),
-        Node::Markup("<th>Author</th><th>Text</th><th>Id</th></tr></thead><tbody>\n"),
-    ])?;
-    lay_out_comment_rows(layout, rows)?;
-    layout.put(&[Node::Markup("</tbody></table>\n")])
-}
-
-/// Appends the list of comments.
-#[tactic(auto, unfolding(crate::specs::ListsLayout::comments_nodes))]
-pub fn lay_out_comments(layout: &mut Layout, rows: &[CommentShape]) -> Result<(), AllocError>
-    ensures { OnOk result (layout.new
-        ≡ layout.old ++ comments_nodes (map comment_shape_view rows.now)) }
-{
-    if rows.is_empty() {
-        Ok(())
-    } else {
-        lay_out_comment_table(layout, rows)
-    }
-}
-
-fn plan_word(fixed: bool) -> &'static str
-    ensures { result.now ≡ plan_word fixed }
-{
-    if fixed { "fixed" } else { "flexible" }
+    lay_out_moment(layout, row.moment)
 }
 
 fn lay_out_duration(layout: &mut Layout, seconds: u32) -> Result<(), AllocError>
@@ -160,11 +38,11 @@ fn lay_out_duration_if(layout: &mut Layout, flexible: bool, seconds: u32) -> Res
     }
 }
 
-fn lay_out_window(layout: &mut Layout, row: &DowntimeShape) -> Result<(), AllocError>
+fn lay_out_window(layout: &mut Layout, row: &DowntimeMarks) -> Result<(), AllocError>
     ensures { OnOk result (layout.new
-        ≡ layout.old ++ window_nodes (downtime_shape_view row.now)) }
+        ≡ layout.old ++ window_nodes row.now) }
 {
-    layout.put(&[Node::Markup(plan_word(row.fixed))])?;
+    layout.put(&[Node::Markup(plan_name(row.fixed))])?;
     layout.put_if(
         row.trigger > 0,
         &[
@@ -200,90 +78,161 @@ fn lay_out_begin(layout: &mut Layout, moment: u32, begin: Option<u32>) -> Result
     }
 }
 
-fn lay_out_downtime_origin(
-    layout: &mut Layout,
-    index: usize,
-    place: usize,
-    id: u32,
-) -> Result<(), AllocError>
+fn lay_out_downtime(layout: &mut Layout, row: &DowntimeMarks) -> Result<(), AllocError>
     ensures { OnOk result (layout.new
-        ≡ layout.old ++ origin_nodes (DowntimeGateway index) place id) }
+        ≡ layout.old ++ (window_nodes row.now ++ began_nodes row.now.moment row.now.begin)) }
 {
-    layout.put_if(place > 0, &[Node::Markup(", ")])?;
+    lay_out_window(layout, row)?;
+    lay_out_begin(layout, row.moment, row.begin)
+}
+
+#[tactic(auto, unfolding(crate::specs::ListsLayout::entry_marks_nodes))]
+fn lay_out_marks(layout: &mut Layout, marks: &EntryMarks) -> Result<(), AllocError>
+    ensures { OnOk result (layout.new ≡ layout.old ++ entry_marks_nodes marks.now) }
+{
+    match marks {
+        EntryMarks::Comment(row) => lay_out_comment(layout, row),
+        EntryMarks::Downtime(row) => lay_out_downtime(layout, row),
+    }
+}
+
+fn lay_out_name(
+    layout: &mut Layout,
+    list: EntryList,
+    index: usize,
+    is_host: bool,
+) -> Result<(), AllocError>
+    ensures { OnOk result (layout.new ≡ layout.old ++ entry_name_nodes list index is_host) }
+{
     layout.put(&[
-        Node::Number(u64::from(id)),
-        Node::Markup(" at "),
-        Node::Slot(Slot::DowntimeGateway(index, place)),
+        Node::Markup("<tr><td class=\"name\">"),
+        Node::Slot(Slot::Entry(list, index, EntryText::Host)),
+    ])?;
+    layout.put_if(
+        !is_host,
+        &[
+            Node::Markup(" <span class=\"soft\">/</span> "),
+            Node::Slot(Slot::Entry(list, index, EntryText::Service)),
+        ],
+    )?;
+    layout.put(&[Node::Markup("</td><td class=\"cell\">")])
+}
+
+#[tactic(auto, unfolding(crate::specs::ListsLayout::words_nodes))]
+fn lay_out_words(layout: &mut Layout, list: EntryList, index: usize) -> Result<(), AllocError>
+    ensures { OnOk result (layout.new ≡ layout.old ++ words_nodes list index) }
+{
+    layout.put(&[
+        Node::Markup("</td><td class=\"cell\" data-name=\"by\">"),
+        Node::Slot(Slot::Entry(list, index, EntryText::Author)),
+        Node::Markup("</td><td class=\"out\">"),
+        Node::Slot(Slot::Entry(list, index, EntryText::Words)),
+        Node::Markup("</td><td class=\"cell soft\" data-name=\"id\">"),
     ])
 }
 
-fn lay_out_downtime_origins(
+fn lay_out_origin(
     layout: &mut Layout,
+    list: EntryList,
+    index: usize,
+    gateway: usize,
+    id: u32,
+) -> Result<(), AllocError>
+    ensures { OnOk result (layout.new ≡ layout.old ++ origin_nodes list index gateway id) }
+{
+    layout.put_if(gateway > 0, &[Node::Markup(", ")])?;
+    layout.put(&[
+        Node::Number(u64::from(id)),
+        Node::Markup(" at "),
+        Node::Slot(Slot::Entry(list, index, EntryText::Gateway(gateway))),
+    ])
+}
+
+fn lay_out_origins(
+    layout: &mut Layout,
+    list: EntryList,
     index: usize,
     ids: &[u32],
 ) -> Result<(), AllocError>
     ensures { OnOk result (layout.new
-        ≡ layout.old ++ each_indexed (origin_nodes (DowntimeGateway index)) ids.now) }
+        ≡ layout.old ++ each_indexed (origin_nodes list index) ids.now) }
 {
-    for (place, id) in ids.iter().enumerate() {
-        lay_out_downtime_origin(layout, index, place, *id)?;
+    for (gateway, id) in ids.iter().enumerate() {
+        lay_out_origin(layout, list, index, gateway, *id)?;
     }
     Ok(())
 }
 
-fn lay_out_downtime(
+fn lay_out_row(
     layout: &mut Layout,
-    row: &DowntimeShape,
+    list: EntryList,
     index: usize,
+    row: &EntryShape,
 ) -> Result<(), AllocError>
     ensures { OnOk result (layout.new
-        ≡ layout.old ++ downtime_nodes index (downtime_shape_view row.now)) }
+        ≡ layout.old ++ entry_nodes list index (entry_shape_view row.now)) }
 {
-    let host = Slot::Downtime(index, EntryText::Host);
-    let service = Slot::Downtime(index, EntryText::Service);
-    let author = Slot::Downtime(index, EntryText::Author);
-    let words = Slot::Downtime(index, EntryText::Text);
-    lay_out_name(layout, host, service, row.is_host)?;
-    lay_out_window(layout, row)?;
-    lay_out_begin(layout, row.moment, row.begin)?;
-    lay_out_words(layout, author, words)?;
-    lay_out_downtime_origins(layout, index, row.ids.as_slice())?;
+    lay_out_name(layout, list, index, row.is_host)?;
+    lay_out_marks(layout, &row.marks)?;
+    lay_out_words(layout, list, index)?;
+    lay_out_origins(layout, list, index, row.ids.as_slice())?;
     layout.put(&[Node::Markup("</td></tr>\n")])
 }
 
-fn lay_out_downtime_rows(layout: &mut Layout, rows: &[DowntimeShape]) -> Result<(), AllocError>
+fn lay_out_rows(layout: &mut Layout, list: EntryList, rows: &[EntryShape]) -> Result<(), AllocError>
     ensures { OnOk result (layout.new
-        ≡ layout.old ++ each_indexed downtime_nodes (map downtime_shape_view rows.now)) }
+        ≡ layout.old ++ each_indexed (entry_nodes list) (map entry_shape_view rows.now)) }
 {
     for (index, row) in rows.iter().enumerate() {
-        lay_out_downtime(layout, row, index)?;
+        lay_out_row(layout, list, index, row)?;
     }
     Ok(())
 }
 
-fn lay_out_downtime_table(layout: &mut Layout, rows: &[DowntimeShape]) -> Result<(), AllocError>
-    ensures { OnOk result (layout.new
-        ≡ layout.old ++ downtimes_table (map downtime_shape_view rows.now)) }
+#[tactic(auto, unfolding(crate::specs::ListsLayout::list_head))]
+fn lay_out_list_head(layout: &mut Layout, list: EntryList) -> Result<(), AllocError>
+    ensures { OnOk result (layout.new ≡ layout.old ++ list_head list) }
 {
-    layout.put(&[
-        Node::Markup(
-            "<h2>Downtime</h2><table><thead><tr><th>Object</th><th>Kind</th><th>Window</th>",
-        ),
-        Node::Markup("<th>Began</th><th>Author</th><th>Text</th><th>Id</th></tr></thead><tbody>\n"),
-    ])?;
-    lay_out_downtime_rows(layout, rows)?;
+    match list {
+        EntryList::Comments => layout.put(&[Node::Markup(
+            "<h2>Comments</h2><table><thead><tr><th>Object</th><th>Source</th><th>Time</th>",
+        )]),
+        EntryList::Downtimes => layout.put(&[
+            Node::Markup(
+                "<h2>Downtime</h2><table><thead><tr><th>Object</th><th>Kind</th><th>Window</th>",
+            ),
+            Node::Markup("<th>Began</th>"),
+        ]),
+    }
+}
+
+fn lay_out_table(
+    layout: &mut Layout,
+    list: EntryList,
+    rows: &[EntryShape],
+) -> Result<(), AllocError>
+    ensures { OnOk result (layout.new
+        ≡ layout.old ++ entries_table list (map entry_shape_view rows.now)) }
+{
+    lay_out_list_head(layout, list)?;
+    layout.put(&[Node::Markup("<th>Author</th><th>Text</th><th>Id</th></tr></thead><tbody>\n")])?;
+    lay_out_rows(layout, list, rows)?;
     layout.put(&[Node::Markup("</tbody></table>\n")])
 }
 
-/// Appends the list of downtime entries.
-#[tactic(auto, unfolding(crate::specs::ListsLayout::downtimes_nodes))]
-pub fn lay_out_downtimes(layout: &mut Layout, rows: &[DowntimeShape]) -> Result<(), AllocError>
+/// Appends a list of entries.
+#[tactic(auto, unfolding(crate::specs::ListsLayout::entries_nodes))]
+pub fn lay_out_entries(
+    layout: &mut Layout,
+    list: EntryList,
+    rows: &[EntryShape],
+) -> Result<(), AllocError>
     ensures { OnOk result (layout.new
-        ≡ layout.old ++ downtimes_nodes (map downtime_shape_view rows.now)) }
+        ≡ layout.old ++ entries_nodes list (map entry_shape_view rows.now)) }
 {
     if rows.is_empty() {
         Ok(())
     } else {
-        lay_out_downtime_table(layout, rows)
+        lay_out_table(layout, list, rows)
     }
 }

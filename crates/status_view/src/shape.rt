@@ -3,19 +3,19 @@ ghost use Rattle.status_view.specs.Shapes.{shape_view};
 ghost use Rattle.status_view.specs.Page.{head_nodes, page_nodes};
 
 use crate::head_layout::{lay_out_alarms, lay_out_document, lay_out_title};
-use crate::layout::{Layout, Node};
-use crate::lists_layout::{lay_out_comments, lay_out_downtimes};
+use crate::layout::{EntryList, Layout, Node};
+use crate::lists_layout::lay_out_entries;
 use crate::objects_layout::lay_out_objects;
 use crate::summary_layout::{lay_out_form, lay_out_summary};
-use status_merge::{Choice, Counts, PageFault};
+use status_merge::{Choice, Counts};
 use status_reading::{ShownAcknowledgement, ShownSource, State};
 use std::alloc::{AllocError, Global};
 
 /// What decides the markup of a gateway's lines: no text is in it.
 #[derive(Clone, Copy, Debug)]
 pub struct GatewayShape {
-    /// The moment of its page, or why there is none.
-    pub moment: Result<u32, PageFault>,
+    /// The moment of its page, where there is one.
+    pub moment: Option<u32>,
     pub is_closing: bool,
 }
 
@@ -33,21 +33,17 @@ pub struct ObjectShape {
     pub moment: u32,
 }
 
-/// What decides the markup of a comment's row: no text is in it.
-#[derive(Drop)]
-pub struct CommentShape {
-    pub is_host: bool,
+/// What a comment's row shows beside its texts. The moment is in seconds since 1970.
+#[derive(Clone, Copy)]
+pub struct CommentMarks {
     pub source: ShownSource,
     pub persistent: bool,
     pub moment: u32,
-    /// The comment's id at each gateway that has it.
-    pub ids: Vec<u32>,
 }
 
-/// What decides the markup of a downtime entry's row: no text is in it.
-#[derive(Drop)]
-pub struct DowntimeShape {
-    pub is_host: bool,
+/// What a downtime entry's row shows beside its texts. Moments are in seconds since 1970.
+#[derive(Clone, Copy)]
+pub struct DowntimeMarks {
     pub fixed: bool,
     pub trigger: u32,
     pub start: u32,
@@ -56,6 +52,20 @@ pub struct DowntimeShape {
     pub begin: Option<u32>,
     /// The moment of the page.
     pub moment: u32,
+}
+
+/// What the row of an entry shows beside its texts.
+#[derive(Clone, Copy)]
+pub enum EntryMarks {
+    Comment(CommentMarks),
+    Downtime(DowntimeMarks),
+}
+
+/// What decides the markup of the row of a comment or a downtime entry: no text is in it.
+#[derive(Drop)]
+pub struct EntryShape {
+    pub is_host: bool,
+    pub marks: EntryMarks,
     /// The entry's id at each gateway that has it.
     pub ids: Vec<u32>,
 }
@@ -75,8 +85,8 @@ pub struct PageShape {
     pub counts: Counts,
     pub gateways: Vec<GatewayShape>,
     pub objects: Vec<ObjectShape>,
-    pub comments: Vec<CommentShape>,
-    pub downtimes: Vec<DowntimeShape>,
+    pub comments: Vec<EntryShape>,
+    pub downtimes: Vec<EntryShape>,
 }
 
 fn lay_out_head(layout: &mut Layout, shape: &PageShape) -> Result<(), AllocError>
@@ -98,8 +108,12 @@ pub fn lay_out(alloc: Global, shape: &PageShape) -> Result<Layout, AllocError>
     let mut layout = Layout::new(alloc);
     lay_out_head(&mut layout, shape)?;
     lay_out_objects(&mut layout, shape)?;
-    lay_out_comments(&mut layout, shape.comments.as_slice())?;
-    lay_out_downtimes(&mut layout, shape.downtimes.as_slice())?;
+    lay_out_entries(&mut layout, EntryList::Comments, shape.comments.as_slice())?;
+    lay_out_entries(
+        &mut layout,
+        EntryList::Downtimes,
+        shape.downtimes.as_slice(),
+    )?;
     layout.put(&[
         Node::Markup("<footer><a href=\"/status.json\">status.json</a> &middot; "),
         Node::Markup("<a href=\"/metrics\">metrics</a></footer>\n</main></body></html>\n"),

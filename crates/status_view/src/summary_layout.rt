@@ -15,7 +15,7 @@ use std::alloc::AllocError;
 fn same_choice(one: Choice, other: Choice) -> bool
     ensures { result ≡ same_choice one other }
 {
-    choice_name(one) == choice_name(other)
+    one == other
 }
 
 fn lay_out_kept(layout: &mut Layout, shape: &PageShape) -> Result<(), AllocError>

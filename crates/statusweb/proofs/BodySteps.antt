@@ -1,24 +1,23 @@
 -- Gateways of places, one after another, what a query selects of their objects, and the page of that.
 use Rattle.std.proofs.Common.{◌≡◌, ℕ, ◌+◌, ◌<◌, ◌≤◌, List, [], ◌∷◌, ◌++◌, length, map, drop, get_or, Result, Ok, Err, IfOk, Vec, Global, arith, ap, sym, ◌∙◌, subst, append_assoc}
 use Rattle.std.proofs.lemmas.List.{append-nil, at_drop_more, drop_all, get_or-map, get_or_past, length-map}
-use Rattle.html_text.specs.Html.{Piece, html_bytes}
 use Rattle.status_merge.specs.declared.gateway.Gateway.{Gateway}
 use Rattle.status_merge.specs.declared.gateway.MergedObject.{MergedObject}
-use Rattle.status_merge.specs.declared.gateway.PageFault.{PageFault}
-use Rattle.status_merge.specs.declared.gateway.PageFault.TheVariants.{OutOfMemory}
+use Rattle.statusweb.specs.declared.fetching.FetchFault.{FetchFault}
+use Rattle.statusweb.specs.declared.fetching.FetchFault.TheVariants.{OutOfMemory}
 use Rattle.status_merge.specs.declared.query.Choice.{Choice}
 use Rattle.status_merge.specs.Selecting.{selected}
 use Rattle.status_view.specs.declared.view.View.{View}
 use Rattle.status_view.specs.Shapes.{page_shape}
 use Rattle.status_view.specs.Page.{page_nodes}
-use Rattle.status_view.specs.Filling.{filled}
+use Rattle.status_view.specs.Filling.{filled, html_bytes}
 use Rattle.statusweb.specs.declared.words.Place.{Place}
 use Rattle.statusweb.specs.declared.words.Settings.{Settings}
 use Rattle.statusweb.specs.Pages.{text_of, fetched_at, IsShown, AreShownFrom, AreShown, Views, IsPage}
 
 -- what a fetch gave
 abbrev Fetched : Type 0
-Fetched = Result (List ℕ) PageFault
+Fetched = Result (List ℕ) FetchFault
 
 -- gateways of the places that are left, from this index on, stand after these
 abbrev pub Follows : List Place → List Fetched → List Gateway → ℕ → List Place → Type 0
@@ -48,12 +47,12 @@ all_shown places fetched index gateways ends follow =
     subst (AreShown places fetched) (append-nil gateways) (none [] tt)
 
 -- a text that was fetched stands at its index; past the last one there is none
-pub text_at : (texts : List (Result (Vec ℕ Global) PageFault)) (index : ℕ) (default text : Result (Vec ℕ Global) PageFault)
+pub text_at : (texts : List (Result (Vec ℕ Global) FetchFault)) (index : ℕ) (default text : Result (Vec ℕ Global) FetchFault)
     → index < length texts → text ≡ get_or texts index default → fetched_at (map text_of texts) index ≡ text_of text
 text_at texts index default text inside is =
     get_or-map text_of texts index default (Err OutOfMemory) inside ∙ ap text_of (sym is)
 
-pub no_text_at : (texts : List (Result (Vec ℕ Global) PageFault)) (index : ℕ) → length texts ≤ index
+pub no_text_at : (texts : List (Result (Vec ℕ Global) FetchFault)) (index : ℕ) → length texts ≤ index
     → fetched_at (map text_of texts) index ≡ Err OutOfMemory
 no_text_at texts index past = get_or_past (map text_of texts) index (Err OutOfMemory) (omega (arith, length-map texts text_of))
 
@@ -68,7 +67,7 @@ selected_as choice chosen host part objects all same_choice same_host same =
     ∙ ap (λ host. selected chosen host objects) same_host
     ∙ ap (selected chosen part) same
 
-pub page_of : (settings : Settings) (gateways : List Gateway) (query : List ℕ) (clock : ℕ) (body : List ℕ) (html : List Piece)
-    (view : View) → html ≡ filled view (page_nodes (page_shape view)) → Views settings gateways query clock view
-    → body ≡ html_bytes html → IsPage settings gateways query clock body
-page_of settings gateways query clock body html view page views bytes = (view, views, bytes ∙ ap html_bytes page)
+pub page_of : (settings : Settings) (gateways : List Gateway) (query : List ℕ) (clock : ℕ) (body : List ℕ) (view : View)
+    → Views settings gateways query clock view → body ≡ html_bytes (filled view (page_nodes (page_shape view)))
+    → IsPage settings gateways query clock body
+page_of settings gateways query clock body view views page = (view, views, page)

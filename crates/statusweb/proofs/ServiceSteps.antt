@@ -5,7 +5,7 @@ use Rattle.http.specs.Request.{head_of}
 use Rattle.http.specs.Uri.{uri_path, uri_query}
 use Rattle.http_server.specs.declared.response.Response.{Response}
 use Rattle.status_merge.specs.declared.gateway.Gateway.{Gateway}
-use Rattle.status_merge.specs.declared.gateway.PageFault.{PageFault}
+use Rattle.statusweb.specs.declared.fetching.FetchFault.{FetchFault}
 use Rattle.statusweb.specs.declared.words.Place.{Place}
 use Rattle.statusweb.specs.declared.words.Settings.{Settings}
 use Rattle.statusweb.specs.declared.service.Form.{Form}
@@ -19,7 +19,7 @@ pub on_ok : {T E P Q : Type 0} (result : Result T E) → (P → Q) → OnOk resu
 on_ok (Ok value) step known = step known
 on_ok (Err error) step known = tt
 
-pub shown_as : (settings : Settings) (places : List Place) (fetched : List (Result (List ℕ) PageFault))
+pub shown_as : (settings : Settings) (places : List Place) (fetched : List (Result (List ℕ) FetchFault))
     (shown gateways : List Gateway) (query : List ℕ) (form known : Form) (response : Response)
     → places ≡ settings.places.items → gateways ≡ shown → AreShown places fetched shown → form ≡ known
     → IsStatus settings gateways query known response → IsShownAt settings query (Some (Status form)) response

@@ -1,4 +1,6 @@
 pub mod Words
+pub mod Fault
 pub mod Answers
+pub mod Causes
 pub mod Pages
 pub mod Service

@@ -1,19 +1,16 @@
 -- What is shown of gateways: the text of each is read (`AreShown`), and the pages are merged, selected by the query of
 -- a URL, and laid out as HTML (`IsPage`), as JSON (`json_body`) or as metrics (`metrics_body`).
-use Rattle.std.specs.Prelude.{◌≡◌, ℕ, ◌+◌, ⊤, List, [], ◌∷◌, map, get_or, Result, Ok, Err, Vec, string_bytes}
+use Rattle.std.specs.Prelude.{◌≡◌, ℕ, ◌+◌, ⊤, List, [], ◌∷◌, map, get_or, Result, Ok, Err, Vec, String, string_bytes}
 use Rattle.std.specs.declared.alloc.Global.{Global}
 use Rattle.std.specs.List.{flat_map}
 use Rattle.form_urlencoded.specs.Form.{raw_pairs}
-use Rattle.html_text.specs.Html.{html_bytes}
 use Rattle.status_reading.specs.declared.page.StatusPage.{StatusPage}
-use Rattle.status_reading.specs.declared.page.ReadFault.TheVariants as fault
+use Rattle.status_reading.specs.declared.page.ReadFault.{ReadFault}
 use Rattle.status_reading.specs.Rows.{page_view}
 use Rattle.status_reading.specs.Page.{page_text}
 use Rattle.status_reading.specs.Faults.{IsFaultOf}
 use Rattle.status_merge.specs.declared.gateway.Gateway.{Gateway}
 use Rattle.status_merge.specs.declared.gateway.MergedObject.{MergedObject}
-use Rattle.status_merge.specs.declared.gateway.PageFault.{PageFault}
-use Rattle.status_merge.specs.declared.gateway.PageFault.TheVariants.{NoStatus, BadLine, OutOfMemory}
 use Rattle.status_merge.specs.Asking.{choice_asked, host_asked, refresh_asked}
 use Rattle.status_merge.specs.Objects.{objects_on, merged}
 use Rattle.status_merge.specs.Selecting.{selected}
@@ -21,49 +18,50 @@ use Rattle.status_merge.specs.Entries.{comment_view, comment_lines, downtime_vie
 use Rattle.status_view.specs.declared.view.View.{View}
 use Rattle.status_view.specs.Shapes.{page_shape}
 use Rattle.status_view.specs.Page.{page_nodes}
-use Rattle.status_view.specs.Filling.{filled}
+use Rattle.status_view.specs.Filling.{filled, html_bytes}
 use Rattle.status_export.specs.Document.{compact_text, status_document}
 use Rattle.status_export.specs.Metrics.{metrics_page}
 use Rattle.statusweb.specs.declared.words.Place.{Place}
 use Rattle.statusweb.specs.declared.words.Settings.{Settings}
+use Rattle.statusweb.specs.declared.fetching.FetchFault.{FetchFault}
+use Rattle.statusweb.specs.declared.fetching.FetchFault.TheVariants.{OutOfMemory}
+use Rattle.statusweb.specs.Causes.{fetch_cause, read_cause}
 
 -- ---- what is read
 
 -- what a fetch gave: a text or a fault
-abbrev pub text_of : Result (Vec ℕ Global) PageFault → Result (List ℕ) PageFault
+abbrev pub text_of : Result (Vec ℕ Global) FetchFault → Result (List ℕ) FetchFault
 text_of (Ok text) = Ok text.items
 text_of (Err fault) = Err fault
 
--- a text is read as this page, or this is why it is none
-abbrev pub IsReadAs : List ℕ → Result StatusPage PageFault → Type 0
+-- a text is read as this page, or this is the cause why it is none
+abbrev pub IsReadAs : List ℕ → Result StatusPage (String Global) → Type 0
 IsReadAs text (Ok page) = text ≡ page_text (page_view page)
-IsReadAs text (Err NoStatus) = IsFaultOf text fault.NoStatus
-IsReadAs text (Err BadLine) = (number : ℕ) × IsFaultOf text (fault.BadLine number)
-IsReadAs text (Err OutOfMemory) = ⊤
-IsReadAs text (Err _) = ⊥
+IsReadAs text (Err cause) = (fault : ReadFault) × IsFaultOf text fault × (string_bytes cause ≡ read_cause fault)
 
--- a fetch gave this text, or this fault, and this is the page or why there is none
-abbrev pub IsShownOf : Result (List ℕ) PageFault → Result StatusPage PageFault → Type 0
+-- a fetch gave this text, or this fault, and this is the page or the cause why there is none
+abbrev pub IsShownOf : Result (List ℕ) FetchFault → Result StatusPage (String Global) → Type 0
 IsShownOf (Ok text) page = IsReadAs text page
-IsShownOf (Err fault) page = page ≡ Err fault
+IsShownOf (Err fault) (Ok page) = ⊥
+IsShownOf (Err fault) (Err cause) = string_bytes cause ≡ fetch_cause fault
 
 -- what was fetched from the place of this index; out of memory where nothing was
-abbrev pub fetched_at : List (Result (List ℕ) PageFault) → ℕ → Result (List ℕ) PageFault
+abbrev pub fetched_at : List (Result (List ℕ) FetchFault) → ℕ → Result (List ℕ) FetchFault
 fetched_at fetched index = get_or fetched index (Err OutOfMemory)
 
 -- the gateway of this place, with the page of what was fetched
-abbrev pub IsShown : Place → Result (List ℕ) PageFault → Gateway → Type 0
+abbrev pub IsShown : Place → Result (List ℕ) FetchFault → Gateway → Type 0
 IsShown place fetched gateway = (gateway.name.now ≡ place.name.now) × IsShownOf fetched gateway.page
 
 -- the gateways of these places, which stand from this index on
-abbrev pub AreShownFrom : ℕ → List Place → List (Result (List ℕ) PageFault) → List Gateway → Type 0
+abbrev pub AreShownFrom : ℕ → List Place → List (Result (List ℕ) FetchFault) → List Gateway → Type 0
 AreShownFrom index [] fetched [] = ⊤
 AreShownFrom index (place ∷ places) fetched (gateway ∷ gateways) =
     IsShown place (fetched_at fetched index) gateway × AreShownFrom (index + 1) places fetched gateways
 AreShownFrom index _ fetched _ = ⊥
 
 -- the gateways of these places, in their order, with what was fetched from each
-abbrev pub AreShown : List Place → List (Result (List ℕ) PageFault) → List Gateway → Type 0
+abbrev pub AreShown : List Place → List (Result (List ℕ) FetchFault) → List Gateway → Type 0
 AreShown places fetched gateways = AreShownFrom 0 places fetched gateways
 
 -- ---- what is shown of it

@@ -6,7 +6,7 @@ use Rattle.http.specs.Request.{head_of}
 use Rattle.http.specs.Uri.{uri_path, uri_query}
 use Rattle.http_server.specs.declared.response.Response.{Response}
 use Rattle.status_merge.specs.declared.gateway.Gateway.{Gateway}
-use Rattle.status_merge.specs.declared.gateway.PageFault.{PageFault}
+use Rattle.statusweb.specs.declared.fetching.FetchFault.{FetchFault}
 use Rattle.status_view.specs.declared.style.TheConstants.{STYLE}
 use Rattle.statusweb.specs.declared.words.Settings.{Settings}
 use Rattle.statusweb.specs.declared.service.Form.{Form}
@@ -43,7 +43,7 @@ IsStatus settings gateways query Metrics response =
 abbrev pub IsShownAt : Settings → List ℕ → Option Route → Response → Type 0
 IsShownAt settings query None response = IsRefusal 404 [] response
 IsShownAt settings query (Some (Status form)) response =
-    (fetched : List (Result (List ℕ) PageFault)) × ((gateways : List Gateway)
+    (fetched : List (Result (List ℕ) FetchFault)) × ((gateways : List Gateway)
     × AreShown settings.places.items fetched gateways × IsStatus settings gateways query form response)
 IsShownAt settings query (Some Style) response = IsKept (codes "text/css; charset=utf-8") STYLE.now response
 

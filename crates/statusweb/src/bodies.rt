@@ -1,29 +1,43 @@
 //! The bodies of pages: the gateways' texts read, merged, selected by a query and shown.
-ghost use Rattle.std.specs.Prelude.{◌≡◌, map, IfOk, Ok, string_bytes};
-ghost use Rattle.statusweb.specs.Pages.{text_of, IsShownOf, AreShown, IsPage, json_body, metrics_body};
+ghost use Rattle.std.specs.Prelude.{◌≡◌, map, IfOk};
+ghost use Rattle.statusweb.specs.Pages.{text_of, fetched_at, IsShownOf, AreShown, IsPage, json_body, metrics_body};
 
-use crate::fetching::Fetched;
+use crate::causes::{fetch_cause, read_cause};
+use crate::fetching::{FetchFault, Fetched};
 use crate::words::{Place, Settings};
 use status_export::{json_text, metrics_text};
-use status_merge::{
-    Gateway, PageFault, merge, merge_comments, merge_downtimes, read_query, select,
-};
-use status_reading::{ReadFault, StatusPage, read_status_page};
+use status_merge::{Gateway, merge, merge_comments, merge_downtimes, read_query, select};
+use status_reading::{StatusPage, read_status_page};
 use status_view::{View, html_page};
 use std::alloc::{AllocError, Global};
 
-// The page in a text that was fetched.
-fn page_in<'t>(alloc: Global, fetched: &'t Fetched) -> Result<StatusPage<'t>, PageFault>
-    ensures { IsShownOf (text_of fetched.now) result }
+// The page that a fetch gave, or the cause why there is none.
+fn page_of<'t>(
+    alloc: Global,
+    fetched: &'t Fetched,
+) -> Result<Result<StatusPage<'t>, String>, AllocError>
+    ensures { IfOk result (IsShownOf (text_of fetched.now)) }
 {
     match fetched {
         Ok(text) => match read_status_page(alloc, text.as_slice()) {
-            Ok(page) => Ok(page),
-            Err(ReadFault::NoStatus) => Err(PageFault::NoStatus),
-            Err(ReadFault::BadLine(_)) => Err(PageFault::BadLine),
-            Err(ReadFault::OutOfMemory) => Err(PageFault::OutOfMemory),
+            Ok(page) => Ok(Ok(page)),
+            Err(fault) => Ok(Err(read_cause(alloc, fault)?)),
         },
-        Err(fault) => Err(*fault),
+        Err(fault) => Ok(Err(fetch_cause(alloc, *fault)?)),
+    }
+}
+
+// The same of the place of this index. Nothing was fetched there only where memory ran out.
+fn page_at(
+    alloc: Global,
+    fetched: &[Fetched],
+    index: usize,
+) -> Result<Result<StatusPage<'_>, String>, AllocError>
+    ensures { IfOk result (IsShownOf (fetched_at (map text_of fetched.now) index)) }
+{
+    match fetched.get(index) {
+        Some(fetched) => page_of(alloc, fetched),
+        None => Ok(Err(fetch_cause(alloc, FetchFault::OutOfMemory)?)),
     }
 }
 
@@ -39,13 +53,9 @@ pub fn gateways_of<'t>(
 {
     let mut gateways = Vec::new(alloc);
     for (index, place) in places.iter().enumerate() {
-        let page = match fetched.get(index) {
-            Some(text) => page_in(alloc, text),
-            None => Err(PageFault::OutOfMemory),
-        };
         gateways.push(Gateway {
             name: place.name,
-            page,
+            page: page_at(alloc, fetched, index)?,
         })?;
     }
     Ok(gateways)
@@ -78,7 +88,7 @@ pub fn html_body(
         comments: comments.as_slice(),
         downtimes: downtimes.as_slice(),
     };
-    html_page(alloc, &view)?.bytes()
+    Ok(html_page(alloc, &view)?.into_bytes())
 }
 
 /// The same for scripts. The only error is out of memory.

@@ -3,13 +3,27 @@ ghost use Rattle.std.specs.Prelude.{◌≡◌, ◌<◌, IfOk, length, vec_len};
 
 use crate::timed::Timed;
 use crate::words::Place;
-use status_merge::PageFault;
 use std::alloc::{AllocError, Global};
 use std::io::{ErrorKind, Read};
 use std::net::{Net, TcpListener, TcpStream};
 use std::thread;
 use std::thread::Threads;
 use std::time::{Clock, Duration, Instant};
+
+/// Why no text of a gateway's page was fetched.
+#[derive(Clone, Copy, Debug, PartialEq, Eq)]
+pub enum FetchFault {
+    /// No connection within a second, or it was refused.
+    Unreachable,
+    /// The page did not end within four seconds.
+    TooSlow,
+    /// The page is longer than 64 MiB.
+    TooLong,
+    /// The connection broke.
+    Broken,
+    /// Memory ran out.
+    OutOfMemory,
+}
 
 // The seconds in which a gateway has to accept.
 const CONNECT_TIMEOUT: u64 = 1;
@@ -19,18 +33,18 @@ const PAGE_TIMEOUT: u64 = 4;
 const LONGEST_PAGE: u64 = 64 << 20;
 
 /// The text of a gateway's page, or why there is none.
-pub type Fetched = Result<Vec<u8>, PageFault>;
+pub type Fetched = Result<Vec<u8>, FetchFault>;
 
 // Reads to the end.
 fn read_page<R: Read + Drop>(reader: R, alloc: Global) -> Fetched {
     let mut page = Vec::new(alloc);
     match reader.take(LONGEST_PAGE + 1).read_to_end(&mut page) {
-        Ok(length) if length as u64 > LONGEST_PAGE => Err(PageFault::TooLong),
+        Ok(length) if length as u64 > LONGEST_PAGE => Err(FetchFault::TooLong),
         Ok(_) => Ok(page),
         Err(error) => match error.kind() {
-            ErrorKind::TimedOut | ErrorKind::WouldBlock => Err(PageFault::TooSlow),
-            ErrorKind::OutOfMemory => Err(PageFault::OutOfMemory),
-            _ => Err(PageFault::Broken),
+            ErrorKind::TimedOut | ErrorKind::WouldBlock => Err(FetchFault::TooSlow),
+            ErrorKind::OutOfMemory => Err(FetchFault::OutOfMemory),
+            _ => Err(FetchFault::Broken),
         },
     }
 }
@@ -44,10 +58,10 @@ pub fn fetch<R: Net<Listener = TcpListener, Stream = TcpStream> + Clock>(
 ) -> Fetched {
     let within = Duration::from_secs(CONNECT_TIMEOUT);
     let Ok(stream) = TcpStream::connect_timeout(rt, &place.address, within) else {
-        return Err(PageFault::Unreachable);
+        return Err(FetchFault::Unreachable);
     };
     let Ok(begun) = Instant::now(rt) else {
-        return Err(PageFault::Broken);
+        return Err(FetchFault::Broken);
     };
     read_page(Timed::new(rt, &stream, begun, PAGE_TIMEOUT), alloc)
 }

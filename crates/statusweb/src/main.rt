@@ -1,9 +1,12 @@
 //! `statusweb`: a web server that shows the status pages of one or more gateways. It listens where
 //! `--listen` says, reads the pages that each `--gateway` names, and serves until it is stopped.
+//! Where it can't serve, it ends with an exit status and one line on standard error.
 #![tactic(auto)]
 
 mod answers;
 mod bodies;
+mod causes;
+mod fault;
 mod fetching;
 mod kept;
 mod service;
@@ -11,8 +14,10 @@ mod serving;
 mod timed;
 mod words;
 
+use fault::{WebFault, words_fault};
+use gate_reader::end_with;
 use serving::serve;
-use std::net::{Net, TcpListener, TcpStream};
+use std::net::{Net, SocketAddr, TcpListener, TcpStream};
 use std::process::ExitCode;
 use std::random::RandomSource;
 use std::rt::Env;
@@ -20,9 +25,24 @@ use std::sync::Wait;
 use std::thread::Threads;
 use std::time::Clock;
 use std::{env, io};
-use words::{WordsFault, read_words};
+use words::read_words;
 
-// The status: 2 for bad words, 3 without memory or an output, 4 where the address can't be bound.
+fn arguments(rt: &(impl Env + AllocGlobal)) -> io::Result<Vec<String>> {
+    let mut words = env::args(rt)?;
+    let _name = words.next();
+    Ok(words.collect(rt.alloc())?)
+}
+
+// A listener at an address, and the address that it reports: the same, but for a port of 0.
+fn bind<R: Net<Listener = TcpListener, Stream = TcpStream>>(
+    rt: &R,
+    address: SocketAddr,
+) -> io::Result<(TcpListener, SocketAddr)> {
+    let listener = TcpListener::bind(rt, address)?;
+    let bound = listener.local_addr()?;
+    Ok((listener, bound))
+}
+
 fn run<
     R: Net<Listener = TcpListener, Stream = TcpStream>
         + Threads
@@ -31,34 +51,19 @@ fn run<
         + RandomSource
         + Env
         + Print
-        + Eprint
         + AllocGlobal
         + Sync,
->(rt: &R) -> io::Result<u8> {
-    let mut words = env::args(rt)?;
-    let _name = words.next();
-    let words: Vec<String> = words.collect(rt.alloc())?;
-    let settings = match read_words(rt.alloc(), words.as_slice()) {
-        Ok(settings) => settings,
-        Err(WordsFault::BadArguments) => {
-            eprintln!(rt; "statusweb: bad arguments")?;
-            return Ok(2);
-        }
-        Err(WordsFault::OutOfMemory) => return Ok(3),
+>(rt: &R) -> Result<(), WebFault> {
+    let words = arguments(rt).map_err(|error| words_fault(&error))?;
+    let settings = read_words(rt.alloc(), words.as_slice())?;
+    let Ok((listener, address)) = bind(rt, settings.listen) else {
+        return Err(WebFault::Bind(settings.listen.to_string(rt.alloc())?));
     };
-    let Ok(listener) = TcpListener::bind(rt, settings.listen) else {
-        eprintln!(rt; "statusweb: bind")?;
-        return Ok(4);
-    };
-    let address = listener.local_addr()?;
-    println!(rt; "listening {address}")?;
-    serve(rt, &listener, &settings);
-    Ok(3)
+    println!(rt; "listening {address}").map_err(|_| WebFault::WriteFault)?;
+    serve(rt, &listener, &settings)
 }
 
 fn main(rt: HostRuntime) -> ExitCode {
-    match run(&rt) {
-        Ok(status) => ExitCode::from(status),
-        Err(_) => ExitCode::from(3),
-    }
+    let fault = run(&rt).err();
+    ExitCode::from(end_with(&fault, &mut rt.stderr().lock()))
 }

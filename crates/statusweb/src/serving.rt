@@ -1,5 +1,6 @@
 //! The connections of browsers, served by 32 threads.
 
+use crate::fault::WebFault;
 use crate::kept::Kept;
 use crate::service::Web;
 use crate::timed::Timed;
@@ -68,7 +69,8 @@ fn work<R: Clock + RandomSource + Wait>(
 }
 
 /// Serves a listener on 32 threads, or as many as can be started, and fetches on this one, for ever.
-/// Where none can be started it returns.
+///
+/// The only fault is `Spawn`: none can be started.
 pub fn serve<
     R: Net<Listener = TcpListener, Stream = TcpStream>
         + Threads
@@ -77,7 +79,7 @@ pub fn serve<
         + RandomSource
         + AllocGlobal
         + Sync,
->(rt: &R, listener: &TcpListener, settings: &Settings<'_>) {
+>(rt: &R, listener: &TcpListener, settings: &Settings<'_>) -> Result<(), WebFault> {
     let alloc = rt.alloc();
     let kept = Kept::new();
     let kept = &kept;
@@ -87,8 +89,10 @@ pub fn serve<
             let started = scope.spawn(move || work(rt, alloc, listener, settings, kept));
             is_served |= started.is_ok();
         }
-        if is_served {
-            kept.fetch(rt, alloc, settings.places.as_slice());
+        if !is_served {
+            return Err(WebFault::Spawn);
         }
-    });
+        kept.fetch(rt, alloc, settings.places.as_slice());
+        Ok(())
+    })
 }

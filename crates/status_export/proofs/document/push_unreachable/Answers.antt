@@ -6,5 +6,5 @@ returns c =
     last _ _ _ _ _ _ (one _ _ _ _ c.in_ok-begin_object.ensures) (
     last _ _ _ _ _ _ c.in_ok-text.ensures (
     last _ _ _ _ _ _ c.in_ok-flag.ensures (
-    last _ _ _ _ _ _ (rw c.cause.ensures at c.in_ok-text-2.ensures) (
+    last _ _ _ _ _ _ c.in_ok-text-2.ensures (
     one _ _ _ _ c.end_object.ensures))))

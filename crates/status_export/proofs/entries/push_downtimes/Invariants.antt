@@ -1,15 +1,16 @@
-use Rattle.std.proofs.Common.{◌≡◌, ◌++◌, drop, codes, string_bytes}
+use Rattle.std.proofs.Common.{◌≡◌, ◌++◌, drop, map, codes, string_bytes}
 use Rattle.std.specs.List.{flat_map}
 use Rattle.json.specs.Json.{array}
 use Rattle.json.specs.Tree.{items_tokens}
-use Rattle.status_export.specs.Document.{downtimes_json, items_of}
+use Rattle.status_merge.specs.Entries.{downtimes_on}
+use Rattle.status_export.specs.Document.{downtime_json, items_of}
 use Rattle.status_export.specs.inner.Writing.{member_tokens}
 use Rattle.status_export.proofs.entries.push_downtimes.Given as goal
 
-abbrev pub invariant-loop-gateway : goal.invariant-loop-gateway
-invariant-loop-gateway l = record {
+abbrev pub invariant-loop-entry : goal.invariant-loop-entry
+invariant-loop-entry l = record {
   before : l.writer.before ≡ l.fn.writer.before;
-  added : l.writer.tokens ++ items_tokens (items_of (flat_map (downtimes_json (string_bytes l.query.host)) (drop l.gateway-index l.gateways)))
+  added : l.writer.tokens ++ items_tokens (items_of (map downtime_json (drop l.entry-index l.entry-items)))
       ≡ l.fn.writer.tokens
-      ++ member_tokens (codes "downtimes") (array (items_of (flat_map (downtimes_json (string_bytes l.query.host)) l.gateways)));
+      ++ member_tokens (codes "downtimes") (array (items_of (map downtime_json (flat_map (downtimes_on (string_bytes l.query.host)) l.gateways))));
 }

@@ -6,5 +6,5 @@ use Rattle.status_view.proofs.head_layout.lay_out_missing.Goals as goal
 pub returns : goal.returns
 unfolding missing_nodes
 returns c =
-    ended c.put.result _ _ (c.args.layout.now ++ missing_nodes c.args.index c.args.fault) c.put.ensures
-    (rw c.in_ok-begin_alarm.ensures (simp (append_assoc, c.cause.ensures)))
+    ended c.put.result _ _ (c.args.layout.now ++ missing_nodes c.args.index) c.put.ensures
+    (rw c.in_ok-begin_alarm.ensures (simp append_assoc))

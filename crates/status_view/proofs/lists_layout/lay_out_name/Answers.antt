@@ -7,6 +7,6 @@ pub returns : goal.returns
 unfolding entry_name_nodes
 returns c =
     ended c.put-2.result _ _
-    (c.args.layout.now ++ entry_name_nodes c.args.host c.args.service c.args.is_host)
+    (c.args.layout.now ++ entry_name_nodes c.args.list c.args.index c.args.is_host)
     c.put-2.ensures
     (rw (c.in_ok-put_if.ensures, c.in_ok-put.ensures) (simp append_assoc))

@@ -7,8 +7,8 @@ unfolding page_nodes
 returns c =
     rw (
       c.in_ok-put.ensures,
-      c.in_ok-lay_out_downtimes.ensures,
-      c.in_ok-lay_out_comments.ensures,
+      c.in_ok-lay_out_entries-2.ensures,
+      c.in_ok-lay_out_entries.ensures,
       c.in_ok-lay_out_objects.ensures,
       c.in_ok-lay_out_head.ensures,
       c.new-layout.ensures,

@@ -1,7 +1,7 @@
 use Rattle.std.proofs.Common.{ap, map, refl, ◌∙◌}
 use Rattle.status_merge.specs.Entries.{comment_view, comment_lines, downtime_view, downtime_lines}
 use Rattle.status_view.specs.declared.view.View.{View}
-use Rattle.statusweb.proofs.BodySteps.{if_ok, selected_as, page_of}
+use Rattle.statusweb.proofs.BodySteps.{selected_as, page_of}
 use Rattle.statusweb.proofs.bodies.html_body.Goals as goal
 
 pub returns : goal.returns
@@ -19,8 +19,7 @@ returns c =
       comments = c.as_slice-4.result;
       downtimes = c.as_slice-5.result;
     } in
-    if_ok c.bytes-2.result
-    (λ body known. page_of _ _ _ _ _ _ view c.in_ok-html_page.ensures.page (record {
+    page_of _ _ _ _ _ view (record {
       title = refl;
       clock = refl;
       refresh = refl;
@@ -35,5 +34,4 @@ returns c =
           ∙ ap (λ host. comment_lines host gateways) asked.host;
       downtimes = ap (map downtime_view) c.as_slice-5.ensures.value ∙ c.in_ok-downtimes.ensures
           ∙ ap (λ host. downtime_lines host gateways) asked.host;
-    }) known)
-    c.bytes-2.ensures
+    }) (c.into_bytes.ensures ∙ c.in_ok-html_page.ensures.page)

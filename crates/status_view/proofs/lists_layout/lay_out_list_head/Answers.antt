@@ -1,0 +1,6 @@
+use Rattle.status_view.specs.ListsLayout.{list_head}
+use Rattle.status_view.proofs.lists_layout.lay_out_list_head.Goals as goal
+
+pub returns-in-Downtimes : goal.returns-in-Downtimes
+unfolding list_head
+returns-in-Downtimes c = rw c.in-Downtimes.is c.put-in-Downtimes.ensures

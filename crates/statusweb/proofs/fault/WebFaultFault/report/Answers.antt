@@ -1,0 +1,13 @@
+use Rattle.statusweb.proofs.fault.WebFaultFault.report.Goals as goal
+
+pub returns-in-Bind-clause-ok : goal.returns-in-Bind-clause-ok
+returns-in-Bind-clause-ok g c = rw (c.in-Bind.is) (rw (c.as_bytes.ensures.value) at c.report_text.ensures.ok)
+
+pub returns-in-OutOfMemory-clause-ok : goal.returns-in-OutOfMemory-clause-ok
+returns-in-OutOfMemory-clause-ok g c = rw (c.in-OutOfMemory.is) c.put_last-in-OutOfMemory.ensures.ok
+
+pub returns-in-Spawn-clause-ok : goal.returns-in-Spawn-clause-ok
+returns-in-Spawn-clause-ok g c = rw (c.in-Spawn.is) c.put_last-in-Spawn.ensures.ok
+
+pub returns-in-WriteFault-clause-ok : goal.returns-in-WriteFault-clause-ok
+returns-in-WriteFault-clause-ok g c = rw (c.in-WriteFault.is) c.put_last-in-WriteFault.ensures.ok

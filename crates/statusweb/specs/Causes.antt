@@ -1,0 +1,22 @@
+-- Why a gateway shows no status, in the words of its alarm: `fetch_cause` where no text was fetched, `read_cause` where
+-- the text is no page. Own words.
+use Rattle.std.specs.Prelude.{ℕ, List, ◌++◌, codes}
+use Rattle.std.specs.Fmt.{decimal}
+use Rattle.status_reading.specs.declared.page.ReadFault.{ReadFault}
+use Rattle.status_reading.specs.declared.page.ReadFault.TheVariants as text
+use Rattle.statusweb.specs.declared.fetching.FetchFault.{FetchFault}
+use Rattle.statusweb.specs.declared.fetching.FetchFault.TheVariants.{Unreachable, TooSlow, TooLong, Broken, OutOfMemory}
+
+-- the words of a fetch's fault
+abbrev pub fetch_cause : FetchFault → List ℕ
+fetch_cause Unreachable = codes "it can't be reached"
+fetch_cause TooSlow = codes "its page takes too long"
+fetch_cause TooLong = codes "its page is too long"
+fetch_cause Broken = codes "its page can't be read"
+fetch_cause OutOfMemory = codes "out of memory"
+
+-- the words of a text's fault, with the number of its first bad line
+abbrev pub read_cause : ReadFault → List ℕ
+read_cause text.NoStatus = codes "it does not show a status page"
+read_cause (text.BadLine number) = codes "its page is damaged or cut off at line " ++ decimal number
+read_cause text.OutOfMemory = codes "out of memory"

@@ -1,0 +1,40 @@
+//! Why a gateway shows no status, in the words of its alarm.
+
+ghost use Rattle.std.specs.Prelude.{◌≡◌, IfOk, string_bytes};
+ghost use Rattle.statusweb.specs.Causes.{fetch_cause, read_cause};
+
+use crate::fetching::FetchFault;
+use status_reading::ReadFault;
+use std::alloc::{AllocError, Global};
+
+fn fetch_words(fault: FetchFault) -> &'static str
+    ensures { result.now ≡ fetch_cause fault }
+{
+    match fault {
+        FetchFault::Unreachable => "it can't be reached",
+        FetchFault::TooSlow => "its page takes too long",
+        FetchFault::TooLong => "its page is too long",
+        FetchFault::Broken => "its page can't be read",
+        FetchFault::OutOfMemory => "out of memory",
+    }
+}
+
+/// The cause where no text of a page was fetched. The only error is out of memory.
+pub fn fetch_cause(alloc: Global, fault: FetchFault) -> Result<String, AllocError>
+    ensures { IfOk result (λ cause. string_bytes cause ≡ fetch_cause fault) }
+{
+    String::from_str(alloc, fetch_words(fault))
+}
+
+/// The cause where a text is no page. The only error is out of memory.
+pub fn read_cause(alloc: Global, fault: ReadFault) -> Result<String, AllocError>
+    ensures { IfOk result (λ cause. string_bytes cause ≡ read_cause fault) }
+{
+    match fault {
+        ReadFault::NoStatus => String::from_str(alloc, "it does not show a status page"),
+        ReadFault::BadLine(number) => {
+            format!(in alloc; "its page is damaged or cut off at line {number}")
+        }
+        ReadFault::OutOfMemory => String::from_str(alloc, "out of memory"),
+    }
+}

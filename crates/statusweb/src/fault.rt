@@ -1,0 +1,101 @@
+ghost use Rattle.std.specs.Prelude.{◌≡◌, ◌≢◌, ◌++◌, OnOk, OnErr, codes};
+ghost use Rattle.std.specs.IoError.{error_kind};
+ghost use Rattle.gate_reader.specs.Sink.{sink_state, Delivers, FailsOnce};
+
+use crate::words::WordsFault;
+use gate_reader::{Fault, Sink, put_last};
+use std::alloc::AllocError;
+use std::io;
+use std::io::ErrorKind;
+
+/// Why the program doesn't serve.
+#[derive(Debug, Drop)]
+pub enum WebFault {
+    /// The words after the program's name ask for nothing, or can't be read as text.
+    BadArguments,
+    /// This address can't be bound.
+    Bind(String),
+    /// Memory ran out.
+    OutOfMemory,
+    /// No thread can be started.
+    Spawn,
+    /// The output can't be written.
+    WriteFault,
+}
+
+impl From<AllocError> for WebFault {
+    ghost use Rattle.statusweb.specs.declared.fault.WebFault.TheVariants.{OutOfMemory};
+
+    ghost from_gives = { λ _ fault. fault ≡ OutOfMemory };
+
+    fn from(_: AllocError) -> WebFault {
+        WebFault::OutOfMemory
+    }
+}
+
+impl From<WordsFault> for WebFault {
+    ghost use Rattle.statusweb.specs.Fault.{web_fault};
+
+    ghost from_gives = { λ fault other. other ≡ web_fault fault };
+
+    fn from(fault: WordsFault) -> WebFault {
+        match fault {
+            WordsFault::BadArguments => WebFault::BadArguments,
+            WordsFault::OutOfMemory => WebFault::OutOfMemory,
+        }
+    }
+}
+
+// Writes a line of two texts, and flushes.
+fn report_text<E: Sink>(errors: &mut E, before: &[u8], text: &[u8]) -> io::Result<()>
+    ensures ok { let state = sink_state E.contents E.pending E.failures in
+        OnOk result (Delivers (state errors.old) (state errors.new)
+        (before.now ++ text.now ++ codes "\n")) }
+    ensures err { let state = sink_state E.contents E.pending E.failures in
+        OnErr result (FailsOnce (state errors.old) (state errors.new)) }
+{
+    errors.put(before)?;
+    errors.put(text)?;
+    put_last(errors, b"\n")
+}
+
+impl Fault for WebFault {
+    ghost use Rattle.statusweb.specs.Fault.{status_of, message_of};
+
+    ghost status_of = { status_of };
+
+    ghost message_of = { message_of };
+
+    /// 2 for the words, 4 where the address can't be bound, and otherwise 3. Own rule.
+    fn status(&self) -> u8 {
+        match self {
+            WebFault::BadArguments => 2,
+            WebFault::Bind(_) => 4,
+            WebFault::OutOfMemory | WebFault::Spawn | WebFault::WriteFault => 3,
+        }
+    }
+
+    /// Own rule: the text of the line.
+    fn report<E: Sink>(&self, errors: &mut E) -> io::Result<()> {
+        match self {
+            WebFault::BadArguments => put_last(errors, b"statusweb: bad arguments\n"),
+            WebFault::Bind(address) => report_text(errors, b"statusweb: bind ", address.as_bytes()),
+            WebFault::OutOfMemory => put_last(errors, b"statusweb: OutOfMemory\n"),
+            WebFault::Spawn => put_last(errors, b"statusweb: Spawn\n"),
+            WebFault::WriteFault => put_last(errors, b"statusweb: WriteFault\n"),
+        }
+    }
+}
+
+/// The fault of an error on the words: out of memory, or words that are no text.
+pub fn words_fault(error: &io::Error) -> WebFault
+    ensures memory { error_kind error.now ≡ ErrorKind.OutOfMemory
+        → result ≡ WebFault.OutOfMemory }
+    ensures other { error_kind error.now ≢ ErrorKind.OutOfMemory
+        → result ≡ WebFault.BadArguments }
+{
+    match error.kind() {
+        ErrorKind::OutOfMemory => WebFault::OutOfMemory,
+        _ => WebFault::BadArguments,
+    }
+}
