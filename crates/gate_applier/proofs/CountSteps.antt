@@ -207,8 +207,8 @@ room-less old new one some less =
     omega (arith, below)
 
 -- what takes one takes no more than a record may
-pub takes-one : (old new : Books) → 1 ≤ old.per_record → TakesOne old new → Takes old.per_record old new
-takes-one old new one takes = record {
+pub takes_one : (old new : Books) → 1 ≤ old.per_record → TakesOne old new → Takes old.per_record old new
+takes_one old new one takes = record {
   table = takes.table;
   comments = omega (arith, one, takes.comments);
   entries = omega (arith, one, takes.entries);

@@ -1,9 +1,12 @@
--- What an applier shows. Own rule: the limits of a log.
-use Rattle.std.specs.Prelude.{ℕ, Bool, ◌&&◌, nat_le, List, []}
+-- What an applier shows, and what applying an item leaves. Own rule: the limits of a log.
+use Rattle.std.specs.Prelude.{◌≡◌, ◌≤◌, ◌+◌, ℕ, Bool, ◌&&◌, nat_le, List, [], ◌∷◌, ◌++◌}
 use Rattle.gate_model.specs.declared.record.Moment.{Moment}
 use Rattle.gate_model.specs.declared.object.ObjectLine.{ObjectLine}
 use Rattle.gate_model.specs.declared.record.Record.{Record}
 use Rattle.gate_model.specs.declared.record.Outcome.{Outcome}
+use Rattle.gate_model.specs.declared.submission.Numbered.{Numbered}
+use Rattle.gate_model.specs.Record.{later}
+use Rattle.gate_model.specs.Meaning.{outcome_after}
 
 -- what an applier shows: what it was opened with, its moment, the records that were applied with
 -- their outcomes, and how many more records it can take with no more memory
@@ -31,3 +34,15 @@ opened table moment limit = record {
   outcomes = [];
   room = 0;
 }
+
+-- the item was applied with this outcome, at this moment or the applier's, whichever is later: it took the room of one
+-- record at most
+pub record Applies (old new : ApplierView) (item : Numbered) (now : Moment) (outcome : Outcome) : Type 0 where
+  pub outcome_is : outcome ≡ outcome_after old.table old.records (later old.moment now) item.body
+  pub records : new.records ≡ old.records ++ (record { moment = later old.moment now; item = item }) ∷ []
+  pub outcomes : new.outcomes ≡ old.outcomes ++ outcome ∷ []
+  pub moment : new.moment ≡ later old.moment now
+  pub room : old.room ≤ new.room + 1
+  pub table : new.table ≡ old.table
+  pub opening : new.opening ≡ old.opening
+  pub limit : new.limit ≡ old.limit

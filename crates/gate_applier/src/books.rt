@@ -1,4 +1,4 @@
-ghost use Rattle.std.specs.Prelude.{◌≡◌, ◌<◌, ◌≤◌, ◌+◌, max, ℕ, Bool, false, None, [], length, is_ok, IsOk, IfOk, OnOk, OnErr};
+ghost use Rattle.std.specs.Prelude.{◌≡◌, ◌<◌, ◌≤◌, ◌+◌, max, ℕ, Bool, false, None, [], length, is_ok, IsOk, IfOk, IfErr, OnOk, OnErr};
 ghost use Rattle.gate_model.specs.declared.record.Moment.{Moment};
 ghost use Rattle.gate_model.specs.Record.{later};
 ghost use Rattle.gate_model.specs.Table.{most_services};
@@ -8,7 +8,7 @@ ghost use Rattle.gate_applier.specs.inner.Books.{Events, events_of, BooksFollow,
 
 use gate_comments::CommentBook;
 use gate_downtime::DowntimeBook;
-use gate_model::{Moment, ObjectId, ObjectTable, Source};
+use gate_model::{Moment, ObjectId, ObjectTable, Outcome, Source};
 use gate_objects::{ObjectBook, PassiveDisabled};
 use std::alloc::{AllocError, Global};
 
@@ -90,23 +90,24 @@ impl Books {
         code: i16,
         log_index: u32,
         moment: Moment,
-    ) -> Result<(), PassiveDisabled>
+    ) -> Result<(), Outcome>
         requires row { object.place < length self.old.objects.statuses }
         requires place { object.place < self.old.downtime.objects }
         ensures follow { OnOk result (
             Follows moment (result_added object code log_index moment) self.old self.new) }
         ensures accepted { (events : Events) → BooksFollow events moment self.old
             → is_ok result ≡ is_passive object.place events.objects }
-        ensures err { OnErr result (self.new ≡ self.old) }
+        ensures refused { IfErr result (λ refusal. refusal ≡ Outcome.PassiveDisabled) }
+        ensures kept { OnErr result (self.new ≡ self.old) }
         ensures takes { TakesOne self.old self.new }
     {
         match self.objects.result(object, code, log_index, moment) {
-            Err(refusal) => Err(refusal),
             Ok(change) => {
                 self.take_transition(object, change.transition);
                 self.take_clearing(object, change.cleared);
                 Ok(())
             }
+            Err(PassiveDisabled) => Err(Outcome::PassiveDisabled),
         }
     }
 

@@ -1,7 +1,6 @@
-ghost use Rattle.std.specs.Prelude.{◌≡◌, ◌↔◌, ◌<◌, ◌≤◌, ◌==◌, [], ◌∷◌, ◌++◌, All, length, IsTrue};
+ghost use Rattle.std.specs.Prelude.{◌≡◌, ◌↔◌, ◌<◌, ◌≤◌, ◌==◌, All, length, IsTrue};
 ghost use Rattle.std.specs.Prelude.{IfNone, IfSome, IfOk, IfErr, Some, is_some};
 ghost use Rattle.std.specs.List.{list_any};
-ghost use Rattle.gate_model.specs.Record.{later};
 ghost use Rattle.gate_core.specs.Merge.{IsMerge};
 ghost use Rattle.gate_applier.specs.declared.applier.PrepareCause.TheVariants.{LogFull, OutOfMemory};
 ghost use Rattle.gate_queue.specs.Taker.{taker_state, list_of, total_queued};
@@ -9,8 +8,8 @@ ghost use Rattle.gate_close.specs.DrainedClose.{is_present, AreAllPresent, IsLea
 ghost use Rattle.gate_close.specs.DrainedClose.{items_of_records, AppliesMore, LeavesSome};
 ghost use Rattle.gate_close.specs.inner.Draining.{AllTakenIn, TakesInAll, is_known};
 
-use gate_applier::{Applier, PrepareFault, Ready};
-use gate_model::{Moment, Numbered};
+use gate_applier::{Applier, PrepareFault};
+use gate_model::Moment;
 use gate_queue::{Ended, Gate, Taker, conservation};
 use std::sync::Wait;
 
@@ -110,24 +109,11 @@ pub(crate) fn drain<R: Wait>(
         shows_some(taker);
         let ready = applier.prepare()?;
         match taker.take(rt, gate) {
-            Some(item) => applier = apply_taken(ready, item, now),
+            Some(item) => applier = ready.apply(item, now).0,
             None => return Ok(ready.give_back()),
         }
     }
     unreachable!()
-}
-
-// Applies an item that was taken.
-fn apply_taken(ready: Ready, item: Numbered, now: Moment) -> Applier
-    ensures records { let moment = later ready.moment now in
-        result.records ≡ ready.records ++ (record { moment = moment; item = item }) ∷ [] }
-    ensures moment { result.moment ≡ later ready.moment now }
-    ensures table { result.table ≡ ready.table }
-    ensures opening { result.opening ≡ ready.opening }
-    ensures limit { result.limit ≡ ready.limit }
-{
-    let (applier, _) = ready.apply(item, now);
-    applier
 }
 
 // Where as many items were taken as were queued, all were taken.

@@ -1,11 +1,9 @@
 -- A deletion, row by row, over the rows as they are.
-use Rattle.std.proofs.Common.{◌≡◌, ℕ, ◌+◌, ◌-◌, ◌*◌, ◌≤◌, ◌<◌, Bool, true, false, cond, not, ◌&&◌, ◌||◌, List, [], ◌∷◌, ◌++◌, map, reverse, replicate, set, get_or, length, Option, refl, sym, ap, ◌∙◌, subst, arith, ◌⊎◌, inl, inr, ltb, length-set, get_or-set_same, get_or-set_other}
-use Rattle.std.specs.Prelude.{Some, None, All, count_by, option_to_list}
-use Rattle.std.specs.List.{sum_by}
+use Rattle.std.proofs.Common.{◌≡◌, ℕ, ◌+◌, ◌-◌, ◌≤◌, ◌<◌, Bool, true, false, not, ◌&&◌, ◌||◌, List, [], ◌∷◌, ◌++◌, map, reverse, replicate, set, get_or, length, Option, refl, sym, ap, ◌∙◌, subst, arith, ◌⊎◌, inl, inr, ltb, length-set, get_or-set_same, get_or-set_other}
+use Rattle.std.specs.Prelude.{Some, None, option_to_list}
 use Rattle.std.proofs.lemmas.Bool.{cases_lt, cases_eq}
-use Rattle.std.proofs.lemmas.List.{get_or_default, get_or_append_left, length_push, length-replicate, get_or-replicate, get_or_past, get_or-map, length-map, same_lists, set-set}
-use Rattle.std.proofs.lemmas.List.Sums.{sum_by-set, get_or-le-sum_by}
-use Rattle.std.proofs.lemmas.List.Elements.{All-set, All-append, All-push, All-contains, Contains-push}
+use Rattle.std.proofs.lemmas.List.{length-replicate, get_or-replicate, get_or_past, get_or-map, length-map, same_lists}
+use Rattle.std.proofs.lemmas.List.Elements.{All-contains, Contains-push}
 use Rattle.gate_model.specs.declared.record.Moment.{Moment}
 use Rattle.gate_model.specs.declared.downtime.Scheduled.{Scheduled}
 use Rattle.gate_model.specs.declared.downtime.Entry.{Entry}
@@ -13,159 +11,22 @@ use Rattle.gate_model.specs.Downtime.{is_live_in, is_chained, begin_by, over_by}
 use Rattle.gate_downtime.specs.Book.{after_deletion}
 use Rattle.gate_downtime.specs.declared.row.Row.{Row}
 use Rattle.gate_downtime.specs.declared.links.Link.{Link}
-use Rattle.gate_downtime.specs.inner.Rows.{row_entries, live_at, active_at, with_active, here, Counted, Wakes, Deadlines, Sound, Consistent, Follows, is_unsettled, some-row}
-use Rattle.gate_downtime.specs.inner.Links.{trig, Newest, Linked, Spreading, load}
+use Rattle.gate_downtime.specs.inner.Rows.{row_entries, live_at, Consistent, Follows, some-row}
+use Rattle.gate_downtime.specs.inner.Links.{trig, Spreading}
 use Rattle.gate_downtime.specs.inner.Walk.{Waits, AllFlexLinked, entry_list}
-use Rattle.gate_downtime.specs.inner.Cancel.{hit_at, IsNext, IsStruck, Struck, Deletes, HasStruck, deleted_row, is_kept, IsChild, IsStack}
+use Rattle.gate_downtime.specs.inner.Cancel.{hit_at, IsNext, IsStruck, Struck, Deletes, HasStruck, deleted_row}
 use Rattle.gate_downtime.proofs.Cached.{cached}
-use Rattle.gate_downtime.proofs.Fresh.{set-cases}
 use Rattle.gate_downtime.proofs.LiveSteps.{live-is}
-use Rattle.gate_downtime.proofs.SpreadSteps.{spread-end, set-triggers, linked-same, SameTriggers, Rest, sibling-less, child-less}
+use Rattle.gate_downtime.proofs.SpreadSteps.{spread-end, linked-same, SameTriggers, Rest}
 use Rattle.gate_downtime.proofs.WalkSteps.{flex-kept}
 use Rattle.gate_downtime.proofs.DeleteSteps.{pass-step, hit-step, delete-start, delete-end}
 use Rattle.gate_downtime.proofs.ChainSteps.{is_chained-is}
 use Rattle.gate_downtime.proofs.BookSteps.{reverse-map}
 
--- ---- one row written
-
--- counters don't see that a row without a mark is deleted
-pub counted-deleted : (rows marked written : List Row) (depths : List ℕ) (k : ℕ) (d : Row) → k < length rows → marked ≡ set rows k (with_active false (get_or rows k d)) → written ≡ set rows k (deleted_row (get_or rows k d))
-    → Counted marked depths → Counted written depths
-counted-deleted rows marked written depths k d in' is wrote counted p lt =
-    let f : Row → ℕ = λ x. cond (here p x) 1 0 in
-    let one : sum_by f (set rows k (with_active false (get_or rows k d))) + f (get_or rows k d) ≡ sum_by f rows + f (with_active false (get_or rows k d)) = sum_by-set f rows k (with_active false (get_or rows k d)) d in' in
-    let two : sum_by f (set rows k (deleted_row (get_or rows k d))) + f (get_or rows k d) ≡ sum_by f rows + f (deleted_row (get_or rows k d)) = sum_by-set f rows k (deleted_row (get_or rows k d)) d in' in
-    let even : f (with_active false (get_or rows k d)) ≡ f (deleted_row (get_or rows k d)) = refl in
-    omega (arith, counted p lt, one, two, even, ap (sum_by f) is, ap (sum_by f) wrote)
-
-pub deleted-rows : (rows marked written : List Row) (k : ℕ) (row : Row) → k < length rows → ((d : Row) → marked ≡ set rows k (with_active false (get_or rows k d))) → ((d : Row) → row ≡ get_or marked k d)
-    → written ≡ set marked k (deleted_row row) → (d : Row) → written ≡ set rows k (deleted_row (get_or rows k d))
-deleted-rows rows marked written k row in' is at wrote d =
-    let v : Row = with_active false (get_or rows k d) in
-    wrote ∙ ap (λ x. set marked k (deleted_row x)) (at d ∙ ap (λ xs. get_or xs k d) (is d) ∙ get_or-set_same rows k v d in')
-    ∙ ap (λ xs. set xs k (deleted_row (get_or rows k d))) (is d) ∙ set-set rows k v (deleted_row (get_or rows k d))
-
-pub sound-deleted : (t : ℕ) (rows rows' : List Row) (depths depths' : List ℕ) (deadlines : Deadlines) (k : ℕ) (d : Row) → Sound t rows depths deadlines → k < length rows → ((e : Row) → rows' ≡ set rows k (deleted_row (get_or rows k e)))
-    → Counted rows' depths' → length depths' ≡ length depths → Sound t rows' depths' deadlines
-sound-deleted t rows rows' depths depths' deadlines k d s in' is counted size =
-    let v : Row = deleted_row (get_or rows k d) in
-    let len : length (set rows k v) ≡ length rows = length-set rows k v in
-    let sized : All (λ (r : Row). r.entry.scheduled.object.place < length depths') rows = λ i e lt. omega (arith, size, s.fits.placed i e lt) in
-    let P : List Row → Type 0 = λ new. Counted new depths' → Sound t new depths' deadlines in
-    subst P (sym (is d)) (λ counted. record {
-      fits = record {
-        order = s.fits.order;
-        counted = counted;
-        placed = All-set (λ (r : Row). r.entry.scheduled.object.place < length depths') rows k v (sized k d in') sized;
-        indexed = λ i e lt. omega (arith, len, s.fits.indexed i e lt);
-        few = omega (arith, len, s.fits.few);
-      };
-      awake = set-cases rows k v in' (λ j x. Wakes t deadlines j x) (λ j e lt ne. s.awake j e lt) (record { end = (s.awake k d in').end; beginning = (s.awake k d in').beginning });
-      marked = set-cases rows k v in' (λ j x. x.active ≡ active_at t x) (λ j e lt ne. s.marked j e lt) refl;
-    }) counted
-
-pub unsettled-deleted : (rows rows' : List Row) (k : ℕ) (d : Row) → k < length rows → ((e : Row) → rows' ≡ set rows k (deleted_row (get_or rows k e))) → count_by is_unsettled rows' ≡ count_by is_unsettled rows
-unsettled-deleted rows rows' k d in' is =
-    let f : Row → ℕ = λ x. cond (is_unsettled x) 1 0 in
-    let change : sum_by f (set rows k (deleted_row (get_or rows k d))) + f (get_or rows k d) ≡ sum_by f rows + f (deleted_row (get_or rows k d)) = sum_by-set f rows k (deleted_row (get_or rows k d)) d in' in
-    let even : f (get_or rows k d) ≡ f (deleted_row (get_or rows k d)) = refl in
-    omega (arith, change, even, ap (sum_by f) (is d))
-
-live-kept : (t : ℕ) (r : Row) → live_at t r ≡ true → is_kept r ≡ true
-live-kept t r on = first (is_kept r) (ltb t r.over) on
-  where
-    first : (a b : Bool) → (a && b) ≡ true → a ≡ true
-    first true b h = refl
-    first false b h = h
-
-pub kept-deleted : (t : ℕ) (rows rows' : List Row) (k : ℕ) (d : Row) → k < length rows → live_at t (get_or rows k d) ≡ true → ((e : Row) → rows' ≡ set rows k (deleted_row (get_or rows k e))) → count_by is_kept rows' + 1 ≡ count_by is_kept rows
-kept-deleted t rows rows' k d in' live is =
-    let f : Row → ℕ = λ x. cond (is_kept x) 1 0 in
-    let change : sum_by f (set rows k (deleted_row (get_or rows k d))) + f (get_or rows k d) ≡ sum_by f rows + f (deleted_row (get_or rows k d)) = sum_by-set f rows k (deleted_row (get_or rows k d)) d in' in
-    let one : f (get_or rows k d) ≡ 1 = ap (λ b. cond b 1 0) (live-kept t (get_or rows k d) live) in
-    let none : f (deleted_row (get_or rows k d)) ≡ 0 = refl in
-    omega (arith, change, one, none, ap (sum_by f) (is d))
-
-pub length-deleted : (rows rows' : List Row) (k : ℕ) (d : Row) → ((e : Row) → rows' ≡ set rows k (deleted_row (get_or rows k e))) → length rows' ≡ length rows
-length-deleted rows rows' k d is = ap length (is d) ∙ length-set rows k (deleted_row (get_or rows k d))
-
-triggers-deleted : (rows rows' : List Row) (k : ℕ) (d : Row) → k < length rows → ((e : Row) → rows' ≡ set rows k (deleted_row (get_or rows k e))) → SameTriggers rows rows'
-triggers-deleted rows rows' k d in' is =
-    let P : List Row → Type 0 = SameTriggers rows in
-    subst P (sym (is d)) (set-triggers rows k (deleted_row (get_or rows k d)) in' (λ e. ap (λ (r : Row). r.entry.scheduled) (get_or_default rows k d e in')))
-
--- ---- the stack of pending rows
-
-last-child : (first : ℕ) (rows : List Row) (links : List Link) (pending : List ℕ) (c : ℕ) → IsStack first rows links (pending ++ c ∷ []) → IsChild rows c
-last-child first rows links pending c s = All-contains (IsChild rows) _ c s.ready (Contains-push pending c)
-
-pub stack-within : (first : ℕ) (rows : List Row) (links : List Link) (pending : List ℕ) (c : ℕ) → IsStack first rows links (pending ++ c ∷ []) → c < length rows
-stack-within first rows links pending c s = (last-child first rows links pending c s).within
-
-front : (X : ℕ → Type 0) (pending : List ℕ) (c : ℕ) → All X (pending ++ c ∷ []) → All X pending
-front X pending c all k x lt = subst X (get_or_append_left pending (c ∷ []) x k lt) (all k x (omega (arith, lt, length_push pending c)))
-
-none-left : (X : ℕ → Type 0) → All X []
-none-left X k x lt = absurd (omega (arith, lt))
-
-newest-child : (rows : List Row) (x n : ℕ) (o : Option ℕ) → n ≤ length rows → (x ≡ 0 → ⊥) → Newest rows x n o → All (IsChild rows) (option_to_list o)
-newest-child rows x n None le has none = none-left (IsChild rows)
-newest-child rows x n (Some f) le has some = All-push (IsChild rows) [] f (none-left (IsChild rows)) (record { within = omega (arith, some.0, le); triggered = λ d z. has (sym (some.1 d) ∙ z) })
-
-pub stack-pass : (first : ℕ) (rows : List Row) (links : List Link) (pending : List ℕ) (c : ℕ) (l : Link) → IsStack first rows links (pending ++ c ∷ []) → IsStack first rows links (pending ++ option_to_list (get_or links c l).sibling)
-stack-pass first rows links pending c l s =
-    let at : IsChild rows c = last-child first rows links pending c s in
-    record {
-      from = s.from;
-      linked = s.linked;
-      ready = All-append (IsChild rows) pending _ (front (IsChild rows) pending c s.ready)
-          (newest-child rows (trig (get_or rows c some-row)) c _ (omega (arith, at.within)) (at.triggered some-row) (s.linked.sibling c l some-row at.within (at.triggered some-row)));
-    }
-
-child-same : (xs ys : List Row) (c : ℕ) → length ys ≡ length xs → SameTriggers xs ys → IsChild xs c → IsChild ys c
-child-same xs ys c len same at = record { within = omega (arith, at.within, len); triggered = λ d z. at.triggered d (sym (same c d) ∙ z) }
-
-pub stack-start : (first : ℕ) (rows rows' : List Row) (links : List Link) (pending : List ℕ) (c : ℕ) (l : Link) → IsStack first rows links pending → c < length rows → ((e : Row) → rows' ≡ set rows c (deleted_row (get_or rows c e)))
-    → IsStack first rows' links (pending ++ option_to_list (get_or links c l).child)
-stack-start first rows rows' links pending c l s in' is =
-    let same : SameTriggers rows rows' = triggers-deleted rows rows' c some-row in' is in
-    let len : length rows' ≡ length rows = length-deleted rows rows' c some-row is in
-    let linked : Linked first rows' links = linked-same first rows rows' links len same s.linked in
-    record {
-      from = s.from;
-      linked = linked;
-      ready = All-append (IsChild rows') pending _ (λ k x lt. child-same rows rows' _ len same (s.ready k x lt))
-          (newest-child rows' (first + c) (length rows') _ (omega arith) (λ z. omega (arith, z, s.from)) (linked.child c l (omega (arith, in', len))));
-    }
-
-pub stack-hit : (first : ℕ) (rows rows' : List Row) (links : List Link) (pending : List ℕ) (c : ℕ) (l l' : Link) → IsStack first rows links (pending ++ c ∷ []) → ((e : Row) → rows' ≡ set rows c (deleted_row (get_or rows c e)))
-    → IsStack first rows' links (Rest pending (get_or links c l).sibling (get_or links c l').child)
-stack-hit first rows rows' links pending c l l' s is =
-    stack-start first rows rows' links (pending ++ option_to_list (get_or links c l).sibling) c l' (stack-pass first rows links pending c l s) (stack-within first rows links pending c s) is
-
--- ---- the measure
-
-pub pass-less : (first : ℕ) (rows : List Row) (links : List Link) (pending : List ℕ) (c : ℕ) (l : Link) → IsStack first rows links (pending ++ c ∷ []) → load (pending ++ option_to_list (get_or links c l).sibling) + 1 ≤ load (pending ++ c ∷ [])
-pass-less first rows links pending c l s =
-    let at : IsChild rows c = last-child first rows links pending c s in
-    sibling-less rows _ c pending _ (s.linked.sibling c l some-row at.within (at.triggered some-row))
-
-pub pass-less-all : (first n : ℕ) (rows : List Row) (links : List Link) (pending : List ℕ) (c : ℕ) (l : Link) → IsStack first rows links (pending ++ c ∷ [])
-    → n + load (pending ++ option_to_list (get_or links c l).sibling) < n + load (pending ++ c ∷ [])
-pass-less-all first n rows links pending c l s = omega (arith, pass-less first rows links pending c l s)
-
-pub hit-less : (first t : ℕ) (rows rows' : List Row) (links : List Link) (pending : List ℕ) (c : ℕ) (l l' : Link) (d : Row) → IsStack first rows links (pending ++ c ∷ []) → live_at t (get_or rows c d) ≡ true → ((e : Row) → rows' ≡ set rows c (deleted_row (get_or rows c e)))
-    → count_by is_kept rows' * (length rows' + 1) + load (Rest pending (get_or links c l).sibling (get_or links c l').child) < count_by is_kept rows * (length rows + 1) + load (pending ++ c ∷ [])
-hit-less first t rows rows' links pending c l l' d s live is =
-    let in' : c < length rows = stack-within first rows links pending c s in
-    let one : count_by is_kept rows ≡ count_by is_kept rows' + 1 = sym (kept-deleted t rows rows' c d in' live is) in
-    let n : length rows' ≡ length rows = length-deleted rows rows' c d is in
-    let left : count_by is_kept rows * (length rows + 1) ≡ (count_by is_kept rows' + 1) * (length rows + 1) = ap (λ u. u * (length rows + 1)) one in
-    let right : count_by is_kept rows' * (length rows' + 1) ≡ count_by is_kept rows' * (length rows + 1) = ap (λ m. count_by is_kept rows' * (m + 1)) n in
-    let kids : load (Rest pending (get_or links c l).sibling (get_or links c l').child) ≤ load (pending ++ option_to_list (get_or links c l).sibling) + length rows = child-less rows (first + c) (length rows) (pending ++ option_to_list (get_or links c l).sibling) _ (s.linked.child c l' in') in
-    omega (arith, left, right, kids, pass-less first rows links pending c l s)
-
 -- ---- what was hit
+
+length-deleted : (rows rows' : List Row) (k : ℕ) (d : Row) → ((e : Row) → rows' ≡ set rows k (deleted_row (get_or rows k e))) → length rows' ≡ length rows
+length-deleted rows rows' k d is = ap length (is d) ∙ length-set rows k (deleted_row (get_or rows k d))
 
 struck-row : (old new : Row) (h : Bool) → IsStruck old h new → IsStruck old true (deleted_row new)
 struck-row old new h w = record {
@@ -390,11 +251,3 @@ waiting-struck t xs ys links heads w all p lt =
     first-false : (a b : Bool) → (a || b) ≡ false → a ≡ false
     first-false false b h = refl
     first-false true b h = h
-
-pub kept-positive : (t : ℕ) (rows : List Row) (k : ℕ) (d : Row) → k < length rows → live_at t (get_or rows k d) ≡ true → 1 ≤ count_by is_kept rows
-kept-positive t rows k d in' live =
-    let one : ◌≡◌ {A = ℕ} (cond (is_kept (get_or rows k d)) 1 0) 1 = ap (λ b. cond b 1 0) (live-kept t (get_or rows k d) live) in
-    omega (arith, one, get_or-le-sum_by (λ x. cond (is_kept x) 1 0) rows k d in')
-
-pub stack-idle : (first : ℕ) (rows : List Row) (links : List Link) → Spreading first rows links [] → IsStack first rows links []
-stack-idle first rows links s = record { from = s.from; linked = s.linked; ready = none-left (IsChild rows) }

@@ -13,6 +13,7 @@ pub mod RowSteps
 pub mod LiveSteps
 pub mod BookSteps
 pub mod CancelSteps
+pub mod StackSteps
 pub mod FindSteps
 pub mod ReturnSteps
 pub mod AscendingSteps
@@ -21,3 +22,4 @@ pub mod NotedSteps
 pub mod EntrySteps
 pub mod RoomSteps
 pub mod PruneSteps
+pub mod WalkedSteps

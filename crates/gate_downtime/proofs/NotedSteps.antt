@@ -71,16 +71,6 @@ noted-write t at d v ended rows rows' old new in' is same end notes noted =
         let S : ℕ → Type 0 = λ id. IsNoted old id in
         notes.keeps v.entry.scheduled.id (subst S (sym same) (noted at d in' gone (subst R same (subst Q (ap (λ ids. ids.items) notes.ids) has))))
 
--- a row written, and noted in any case
-pub noted-end-row : (t at : ℕ) (d v : Row) (id : ℕ) (rows rows' : List Row) (old new : LiveIds) → at < length rows → rows' ≡ set rows at v → v.entry.scheduled.id ≡ id → Notes id true old new → AllNoted t rows old → AllNoted t rows' new
-noted-end-row t at d v id rows rows' old new in' is same notes noted =
-    let P : List Row → Type 0 = λ xs. AllNoted t xs new in
-    let Q : ℕ → Type 0 = λ x. IsNoted new x in
-    subst P (sym is)
-    (set-cases rows at v in' (λ j x. IsRowNoted t new x)
-    (λ j e lt ne. noted-keep t (get_or rows j e) id true old new notes (noted j e lt))
-    (λ off has. subst Q (sym same) (notes.there refl)))
-
 -- ---- on the way to a later moment
 
 pub noted-start : (t now : ℕ) (rows : List Row) (deadlines : Deadlines) (live : LiveIds) → t ≤ now → Awake t rows deadlines → AllNoted t rows live → NotedOrDue now rows deadlines live

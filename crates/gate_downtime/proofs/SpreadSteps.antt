@@ -1,16 +1,15 @@
 -- A beginning spreads along the lists of children.
-use Rattle.std.proofs.Common.{◌≡◌, ◌≢◌, ℕ, ◌+◌, ◌-◌, ◌*◌, ◌≤◌, ◌<◌, Bool, true, false, cond, not, List, [], ◌∷◌, ◌++◌, map, reverse, set, get_or, length, Option, sym, ap, ◌∙◌, subst, arith, ◌⊎◌, inl, inr, length-set, get_or-set_same, get_or-set_other}
-use Rattle.std.specs.Prelude.{Some, None, All, count_by, option_to_list}
-use Rattle.std.specs.List.{sum_by}
+use Rattle.std.proofs.Common.{◌≡◌, ◌≢◌, ℕ, ◌+◌, ◌-◌, ◌≤◌, ◌<◌, Bool, true, false, List, [], ◌∷◌, ◌++◌, map, reverse, set, get_or, length, Option, sym, ap, ◌∙◌, subst, arith, ◌⊎◌, inl, inr, length-set, get_or-set_same, get_or-set_other}
+use Rattle.std.specs.Prelude.{Some, None, All, option_to_list}
 use Rattle.std.proofs.lemmas.Bool.{cases_lt, cases_eq, cases_Bool}
-use Rattle.std.proofs.lemmas.List.Sums.{sum_by-set, get_or-le-sum_by, sum_by_push}
-use Rattle.std.proofs.lemmas.List.Elements.{All-append, All-push, All-contains, Contains-append_right, Contains-append_left, Contains-push, Contains-push_cases}
+use Rattle.std.proofs.lemmas.List.Sums.{sum_by_push}
+use Rattle.std.proofs.lemmas.List.Elements.{All-append, All-push, All-contains, Contains-append_left, Contains-push, Contains-push_cases}
 use Rattle.std.proofs.lemmas.List.{get_or_default, get_or_append_left, length_push, append-nil, map-set}
 use Rattle.std.proofs.Math.Seq.{map-set_same}
 use Rattle.gate_downtime.proofs.Fresh.{set-cases}
 use Rattle.gate_downtime.specs.declared.row.Row.{Row}
 use Rattle.gate_downtime.specs.declared.links.Link.{Link}
-use Rattle.gate_downtime.specs.inner.Rows.{Follows, Consistent, is_unsettled, row_entries}
+use Rattle.gate_downtime.specs.inner.Rows.{Follows, Consistent, row_entries}
 use Rattle.gate_downtime.specs.inner.Links.{trig, Newest, Linked, PlacedAt, FollowsAt, Covered, IsPending, IsRoot, IsWaiting, Spreading, Refreshes, load}
 use Rattle.gate_downtime.proofs.Cached.{begin_by-free, over_by-free}
 
@@ -44,9 +43,6 @@ cover-child rows pending x n z (Some f) some j lt is =
 
 pub cover-left : (rows : List Row) (xs ys : List ℕ) (j : ℕ) → Covered rows xs j → Covered rows (xs ++ ys) j
 cover-left rows xs ys j cov = record { by = cov.by; among = Contains-append_left xs ys cov.by cov.among; upto = cov.upto; same = cov.same }
-
-cover-right : (rows : List Row) (xs ys : List ℕ) (j : ℕ) → Covered rows ys j → Covered rows (xs ++ ys) j
-cover-right rows xs ys j cov = record { by = cov.by; among = Contains-append_right xs ys cov.by cov.among; upto = cov.upto; same = cov.same }
 
 -- rows with the same triggers
 abbrev pub SameTriggers : List Row → List Row → Type 0
@@ -175,7 +171,7 @@ skip-step first rows links pending c d l s in' on =
     get_same : (rows : List Row) (j k : ℕ) (e d : Row) → j ≡ k → j < length rows → (get_or rows j e).settled ≡ (get_or rows k d).settled
     get_same rows j k e d same lt = ap (λ (r : Row). r.settled) (get_or_default rows j e d lt ∙ ap (λ i. get_or rows i d) same)
 
-placed-set : (first : ℕ) (rows : List Row) (c : ℕ) (v : Row) → c < length rows → ((d : Row) → v.entry.scheduled ≡ (get_or rows c d).entry.scheduled)
+pub placed-set : (first : ℕ) (rows : List Row) (c : ℕ) (v : Row) → c < length rows → ((d : Row) → v.entry.scheduled ≡ (get_or rows c d).entry.scheduled)
     → ((k : ℕ) (d : Row) → k < length rows → PlacedAt first k (get_or rows k d)) → (k : ℕ) (d : Row) → k < length (set rows c v) → PlacedAt first k (get_or (set rows c v) k d)
 placed-set first rows c v in' entry placed =
     set-cases rows c v in' (λ k r. PlacedAt first k r) (λ k d lt ne. placed k d lt) (record {
@@ -272,25 +268,8 @@ spread-end first rows links s k d lt = record {
   ];
 }
 
-pub unsettled-positive : (rows : List Row) (c : ℕ) (d : Row) → c < length rows → (get_or rows c d).settled ≡ false → 1 ≤ count_by is_unsettled rows
-unsettled-positive rows c d lt off =
-    let is : ◌≡◌ {A = ℕ} (cond (is_unsettled (get_or rows c d)) 1 0) 1 = ap (λ b. cond (not b) 1 0) off in
-    omega (arith, is, get_or-le-sum_by (λ x. cond (is_unsettled x) 1 0) rows c d lt)
-
-pub unsettled-refreshes : (first : ℕ) (rows rows' : List Row) (c : ℕ) (d : Row) → c < length rows → (get_or rows c d).settled ≡ false → Refreshes first rows rows' c → count_by is_unsettled rows' + 1 ≡ count_by is_unsettled rows
-unsettled-refreshes first rows rows' c d lt off w =
-    let f : Row → ℕ = λ x. cond (is_unsettled x) 1 0 in
-    let change : sum_by f (set rows c w.row) + f (get_or rows c d) ≡ sum_by f rows + f w.row = sum_by-set f rows c w.row d lt in
-    let is : f (get_or rows c d) ≡ 1 = ap (λ b. cond (not b) 1 0) off in
-    let none : f w.row ≡ 0 = ap (λ b. cond (not b) 1 0) w.settled in
-    let new : sum_by f rows' ≡ sum_by f (set rows c w.row) = ap (sum_by f) w.is in
-    omega (arith, change, is, none, new)
-
 pub entries-refreshes : (first : ℕ) (rows rows' : List Row) (c : ℕ) → Refreshes first rows rows' c → row_entries rows' ≡ row_entries rows
 entries-refreshes first rows rows' c w = ap row_entries w.is ∙ ap reverse (map-set_same (λ (r : Row). r.entry) rows c w.row w.row (w.entry w.row))
-
-pub length-refreshes : (first : ℕ) (rows rows' : List Row) (c : ℕ) → Refreshes first rows rows' c → length rows' ≡ length rows
-length-refreshes first rows rows' c w = ap length w.is ∙ length-set rows c w.row
 
 pub sibling-less : (rows : List Row) (x c : ℕ) (pending : List ℕ) (o : Option ℕ) → Newest rows x c o → load (pending ++ option_to_list o) + 1 ≤ load (pending ++ c ∷ [])
 sibling-less rows x c pending None none = omega (arith, sum_by_push (λ c. c + 1) pending c, ap load (append-nil pending))
@@ -299,35 +278,6 @@ sibling-less rows x c pending (Some f) some = omega (arith, sum_by_push (λ c. c
 pub child-less : (rows : List Row) (x n : ℕ) (pending : List ℕ) (o : Option ℕ) → Newest rows x n o → load (pending ++ option_to_list o) ≤ load pending + n
 child-less rows x n pending None none = omega (arith, ap load (append-nil pending))
 child-less rows x n pending (Some f) some = omega (arith, sum_by_push (λ c. c + 1) pending f, some.0)
-
-pub last-within : (first : ℕ) (rows : List Row) (links : List Link) (pending : List ℕ) (c : ℕ) → Spreading first rows links (pending ++ c ∷ []) → IsPending first rows c
-last-within first rows links pending c s = All-contains (IsPending first rows) _ c s.ready (Contains-push pending c)
-
-pub last-trigger : (first : ℕ) (rows : List Row) (links : List Link) (pending : List ℕ) (c : ℕ) (d : Row) → Spreading first rows links (pending ++ c ∷ []) → (first ≤ trig (get_or rows c d)) × (trig (get_or rows c d) < first + c)
-last-trigger first rows links pending c d s =
-    let at : IsPending first rows c = last-within first rows links pending c s in
-    elim (s.placed c d at.within).linked [ inl free ↦ absurd (at.triggered d free) | inr w ↦ w ]
-
-pub skip-less : (first : ℕ) (rows : List Row) (links : List Link) (pending : List ℕ) (c : ℕ) (l : Link) (d : Row) → Spreading first rows links (pending ++ c ∷ [])
-    → load (pending ++ option_to_list (get_or links c l).sibling) + 1 ≤ load (pending ++ c ∷ [])
-skip-less first rows links pending c l d s =
-    let at : IsPending first rows c = last-within first rows links pending c s in
-    sibling-less rows _ c pending _ (s.linked.sibling c l d at.within (at.triggered d))
-
-pub visit-less : (first : ℕ) (rows rows' : List Row) (links : List Link) (pending : List ℕ) (c : ℕ) (l l' : Link) (d : Row) → Spreading first rows links (pending ++ c ∷ []) → (get_or rows c d).settled ≡ false → Refreshes first rows rows' c
-    → count_by is_unsettled rows' * (length rows' + 1) + load (Rest pending (get_or links c l).sibling (get_or links c l').child) < count_by is_unsettled rows * (length rows + 1) + load (pending ++ c ∷ [])
-visit-less first rows rows' links pending c l l' d s off w =
-    let at : IsPending first rows c = last-within first rows links pending c s in
-    let one : count_by is_unsettled rows ≡ count_by is_unsettled rows' + 1 = sym (unsettled-refreshes first rows rows' c d at.within off w) in
-    let n : length rows' ≡ length rows = length-refreshes first rows rows' c w in
-    let left : count_by is_unsettled rows * (length rows + 1) ≡ (count_by is_unsettled rows' + 1) * (length rows + 1) = ap (λ u. u * (length rows + 1)) one in
-    let right : count_by is_unsettled rows' * (length rows' + 1) ≡ count_by is_unsettled rows' * (length rows + 1) = ap (λ m. count_by is_unsettled rows' * (m + 1)) n in
-    let kids : load (Rest pending (get_or links c l).sibling (get_or links c l').child) ≤ load (pending ++ option_to_list (get_or links c l).sibling) + length rows = child-less rows (first + c) (length rows) (pending ++ option_to_list (get_or links c l).sibling) _ (s.linked.child c l' at.within) in
-    omega (arith, left, right, kids, skip-less first rows links pending c l d s)
-
-pub skip-less-all : (first : ℕ) (rows : List Row) (links : List Link) (pending : List ℕ) (c : ℕ) (l : Link) (d : Row) → Spreading first rows links (pending ++ c ∷ [])
-    → count_by is_unsettled rows * (length rows + 1) + load (pending ++ option_to_list (get_or links c l).sibling) < count_by is_unsettled rows * (length rows + 1) + load (pending ++ c ∷ [])
-skip-less-all first rows links pending c l d s = omega (arith, skip-less first rows links pending c l d s)
 
 -- the first transition of a row without a trigger: its children are to come
 pub root-step : (first : ℕ) (rows rows' : List Row) (links : List Link) (c : ℕ) (d v : Row) (l : Link) → Spreading first rows links [] → c < length rows → trig (get_or rows c d) ≡ 0 → (get_or rows c d).settled ≡ false
@@ -373,15 +323,6 @@ root-step first rows rows' links c d v l s in' free off is scheduled on f begun 
     before : {x n : ℕ} → (x ≡ 0) ⊎ ((first ≤ x) × (x < n)) → (x ≡ 0) ⊎ (first ≤ x)
     before (inl z) = inl z
     before (inr w) = inr w.0
-
-pub unsettled-set : (rows rows' : List Row) (c : ℕ) (d v : Row) → c < length rows → (get_or rows c d).settled ≡ false → rows' ≡ set rows c v → v.settled ≡ true → count_by is_unsettled rows' + 1 ≡ count_by is_unsettled rows
-unsettled-set rows rows' c d v lt off w on =
-    let f : Row → ℕ = λ x. cond (is_unsettled x) 1 0 in
-    let change : sum_by f (set rows c v) + f (get_or rows c d) ≡ sum_by f rows + f v = sum_by-set f rows c v d lt in
-    let is : f (get_or rows c d) ≡ 1 = ap (λ b. cond (not b) 1 0) off in
-    let none : f v ≡ 0 = ap (λ b. cond (not b) 1 0) on in
-    let new : sum_by f rows' ≡ sum_by f (set rows c v) = ap (sum_by f) w in
-    omega (arith, change, is, none, new)
 
 pub waiting-unsettled : (first : ℕ) (rows : List Row) (links : List Link) (c : ℕ) (d : Row) → Spreading first rows links [] → c < length rows → IsWaiting (get_or rows c d) → (get_or rows c d).settled ≡ false
 waiting-unsettled first rows links c d s lt w = s.roots c d lt w.free w.flexible w.unturned

@@ -9,4 +9,5 @@ pub mod Walk
 pub mod Pruning
 pub mod Scheduling
 pub mod Cancel
+pub mod Chains
 pub mod Inside

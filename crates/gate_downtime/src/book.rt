@@ -11,17 +11,16 @@ ghost use Rattle.gate_downtime.specs.Search.{index_of_id};
 ghost use Rattle.gate_downtime.specs.Faults.{scheduling_of, cancellation_by_id};
 ghost use Rattle.gate_downtime.specs.Standing.{IsStanding, HoldsAfter, StandsLater, AddsEvent, live_of};
 
-use crate::deleting::delete_from;
+use crate::chains::Chains;
 use crate::entries::LiveEntries;
 use crate::faults::{CancelFault, ScheduleFault};
 use crate::gone::take_gone;
-use crate::links::{Link, link_row, no_heads};
+use crate::links::{link_row, no_heads};
 use crate::live::{drop_ended, push_live};
 use crate::pruning::prune;
-use crate::row::{Row, is_live_at, row_at};
-use crate::scheduling::{add_row, find_begin, find_live, find_trigger, fresh_row};
-use crate::tally::{Tally, no_tally, settle};
-use crate::waiting::turn_waiting;
+use crate::row::is_live_at;
+use crate::scheduling::{add_row, fresh_row};
+use crate::tally::{no_tally, settle};
 use gate_model::{Kind, Moment, ObjectId, Plan, Scheduled, Steps, find_by_id};
 use std::alloc::{AllocError, Global};
 use std::marker::Model;
@@ -29,16 +28,9 @@ use std::marker::Model;
 /// The downtime entries, with how many of each object are active. Only `reserve` takes memory.
 #[derive(Drop)]
 pub struct DowntimeBook {
-    // The row at an index has that id after the first.
-    rows: Vec<Row>,
-    links: Vec<Link>,
+    chains: Chains,
     // For each object its newest row that waits for a transition.
     heads: Vec<Option<usize>>,
-    tally: Tally,
-    // The rows that a transition or a deletion is still to visit. Empty between calls.
-    pending: Vec<usize>,
-    moment: Moment,
-    first: u32,
     room: usize,
 }
 
@@ -69,13 +61,15 @@ impl DowntimeBook {
         ensures room { IfOk result (λ book. book.room ≡ 0) }
     {
         Ok(DowntimeBook {
-            rows: Vec::new(alloc),
-            links: Vec::new(alloc),
             heads: no_heads(alloc, objects)?,
-            tally: no_tally(alloc, objects)?,
-            pending: Vec::new(alloc),
-            moment,
-            first: first_id,
+            chains: Chains {
+                rows: Vec::new(alloc),
+                links: Vec::new(alloc),
+                tally: no_tally(alloc, objects)?,
+                pending: Vec::new(alloc),
+                moment,
+                first: first_id,
+            },
             room: 0,
         })
     }
@@ -89,14 +83,14 @@ impl DowntimeBook {
         ensures err { OnErr result (self.new ≡ self.old) }
     {
         let room = self.room.max(more as usize);
-        let rows = self.rows.len();
-        self.rows.reserve(room)?;
-        self.links.reserve(room)?;
-        self.tally.deadlines.reserve(2 * rows + 4 * room)?;
-        self.tally.gone.marks.reserve(room)?;
-        self.tally.gone.heap.reserve(rows + room)?;
-        self.tally.live.ids.reserve(room)?;
-        self.pending.reserve(rows + room)?;
+        let rows = self.chains.rows.len();
+        self.chains.rows.reserve(room)?;
+        self.chains.links.reserve(room)?;
+        self.chains.tally.deadlines.reserve(2 * rows + 4 * room)?;
+        self.chains.tally.gone.marks.reserve(room)?;
+        self.chains.tally.gone.heap.reserve(rows + room)?;
+        self.chains.tally.live.ids.reserve(room)?;
+        self.chains.pending.reserve(rows + room)?;
         self.room = room;
         Ok(())
     }
@@ -112,7 +106,7 @@ impl DowntimeBook {
     pub fn moment(&self) -> Moment
         ensures { result ≡ self.now.moment }
     {
-        self.moment
+        self.chains.moment
     }
 
     /// Goes on to a later moment. An earlier one changes nothing.
@@ -120,10 +114,20 @@ impl DowntimeBook {
         ensures stands { StandsLater moment self.old self.new }
         ensures value { self.new ≡ with_later moment self.old }
     {
-        let now = self.moment.later(moment);
-        settle(&mut self.rows, &mut self.tally, self.moment.0, now.0);
-        drop_ended(&mut self.tally.live, &self.rows, self.first, now.0);
-        self.moment = now;
+        let now = self.chains.moment.later(moment);
+        settle(
+            &mut self.chains.rows,
+            &mut self.chains.tally,
+            self.chains.moment.0,
+            now.0,
+        );
+        drop_ended(
+            &mut self.chains.tally.live,
+            &self.chains.rows,
+            self.chains.first,
+            now.0,
+        );
+        self.chains.moment = now;
     }
 
     /// Schedules an entry of the object, as the plan asks, and answers its id: one more than the
@@ -143,26 +147,35 @@ impl DowntimeBook {
         if plan.ends.0 <= plan.starts.0 {
             return Err(ScheduleFault::BadWindow);
         }
-        if plan.ends.0 <= self.moment.0 {
+        if plan.ends.0 <= self.chains.moment.0 {
             return Err(ScheduleFault::WindowPast);
         }
-        let Some(trigger) = find_trigger(&self.rows, self.first, plan.trigger, self.moment.0) else {
+        let Some(trigger) = self.chains.find_trigger(plan.trigger) else {
             return Err(ScheduleFault::NoSuchTrigger);
         };
-        let Ok(id) = u32::try_from(self.first as u64 + self.rows.len() as u64) else {
+        let Ok(id) = u32::try_from(self.chains.first as u64 + self.chains.rows.len() as u64) else {
             return Err(ScheduleFault::IdsSpent);
         };
         let scheduled = Scheduled {
             id,
             object,
             plan,
-            moment: self.moment,
+            moment: self.chains.moment,
         };
         let row = fresh_row(scheduled, trigger);
-        add_row(&mut self.rows, &mut self.tally, row, self.moment.0);
-        push_live(&mut self.tally.live, id, is_live_at(row, self.moment.0));
+        add_row(
+            &mut self.chains.rows,
+            &mut self.chains.tally,
+            row,
+            self.chains.moment.0,
+        );
+        push_live(
+            &mut self.chains.tally.live,
+            id,
+            is_live_at(row, self.chains.moment.0),
+        );
         link_row(
-            &mut self.links,
+            &mut self.chains.links,
             &mut self.heads,
             trigger.at,
             plan.fixed,
@@ -180,24 +193,20 @@ impl DowntimeBook {
         ensures value { self.new ≡ with_transition object.place self.old }
     {
         let head = self.heads[object.place as usize];
-        turn_waiting(
-            &mut self.rows,
-            &self.links,
-            &mut self.pending,
-            &mut self.tally,
-            head,
-            object.place,
-            self.first,
-            self.moment,
-        );
+        self.chains.turn_waiting(head, object.place);
         prune(
-            &self.rows,
-            &mut self.links,
+            &self.chains.rows,
+            &mut self.chains.links,
             &mut self.heads,
             object.place as usize,
-            self.moment.0,
+            self.chains.moment.0,
         );
-        drop_ended(&mut self.tally.live, &self.rows, self.first, self.moment.0);
+        drop_ended(
+            &mut self.chains.tally.live,
+            &self.chains.rows,
+            self.chains.first,
+            self.chains.moment.0,
+        );
     }
 
     /// Deletes the live entry of this id, and along the chains of triggers all live entries that it
@@ -209,22 +218,19 @@ impl DowntimeBook {
         ensures value { OnOk result (self.new ≡ with_entries (without id self.old) self.old) }
         ensures err { OnErr result (self.new ≡ self.old) }
     {
-        let Some(at) = find_live(&self.rows, self.first, id, self.moment.0) else {
+        let Some(at) = self.chains.find_live(id) else {
             return Err(CancelFault::NoSuchDowntime);
         };
-        if !is_same_kind(kind, row_at(&self.rows, at).entry.scheduled.object.kind) {
+        if !is_same_kind(kind, self.chains.row_at(at).entry.scheduled.object.kind) {
             return Err(CancelFault::WrongKind);
         }
-        delete_from(
-            &mut self.rows,
-            &self.links,
-            &mut self.pending,
-            &mut self.tally,
-            at,
-            self.first,
-            self.moment.0,
+        self.chains.delete_from(at);
+        drop_ended(
+            &mut self.chains.tally.live,
+            &self.chains.rows,
+            self.chains.first,
+            self.chains.moment.0,
         );
-        drop_ended(&mut self.tally.live, &self.rows, self.first, self.moment.0);
         Ok(())
     }
 
@@ -237,10 +243,14 @@ impl DowntimeBook {
         ensures none { IfNone result (self.new ≡ self.old) }
         ensures same { self.new ≡ record self.old { returned = self.new.returned } }
     {
-        let Some(at) = take_gone(&self.rows, &mut self.tally.gone, self.moment.0) else {
+        let Some(at) = take_gone(
+            &self.chains.rows,
+            &mut self.chains.tally.gone,
+            self.chains.moment.0,
+        ) else {
             return None;
         };
-        Some(row_at(&self.rows, at).entry.scheduled.id)
+        Some(self.chains.row_at(at).entry.scheduled.id)
     }
 
     /// Whether the entry of this id is live: scheduled, not deleted, and not over.
@@ -249,7 +259,7 @@ impl DowntimeBook {
             result ≡ is_live first history moment id) }
         ensures value { result ≡ is_live_now self.now id }
     {
-        find_live(&self.rows, self.first, id, self.moment.0).is_some()
+        self.chains.find_live(id).is_some()
     }
 
     /// The live entries, ids ascending: each with its id, its object and its plan. It takes a step
@@ -259,7 +269,11 @@ impl DowntimeBook {
             result ≡ live_of first history moment) }
         ensures value { result ≡ live_entries self.now.entries self.now.moment }
     {
-        LiveEntries::new(self.tally.live.ids.as_slice(), &self.rows, self.first)
+        LiveEntries::new(
+            self.chains.tally.live.ids.as_slice(),
+            &self.chains.rows,
+            self.chains.first,
+        )
     }
 
     /// The index in `live` of the entry of this id, by binary search. It compares ids by `steps`
@@ -268,7 +282,7 @@ impl DowntimeBook {
         ensures index { result ≡ index_of_id id (live_entries self.now.entries self.now.moment) }
         ensures steps { IsWithinBinaryDigits (live_count self.now) steps.old steps.new }
     {
-        find_by_id(self.tally.live.ids.as_slice(), id, steps)
+        find_by_id(self.chains.tally.live.ids.as_slice(), id, steps)
     }
 
     /// When the entry of this id begins, if it does, deleted or not.
@@ -277,7 +291,7 @@ impl DowntimeBook {
             option_map (λ begin. begin.0) result ≡ begin_of first history id) }
         ensures value { option_map (λ begin. begin.0) result ≡ begin_in self.now.entries id }
     {
-        match find_begin(&self.rows, self.first, id) {
+        match self.chains.find_begin(id) {
             None => None,
             Some(begin) => Some(Moment(begin)),
         }
@@ -289,7 +303,7 @@ impl DowntimeBook {
         ensures { HoldsAfter self.now (λ first history moment.
             result ≡ depth_of first history moment object.place) }
     {
-        self.tally.depths[object.place as usize]
+        self.chains.tally.depths[object.place as usize]
     }
 }
 

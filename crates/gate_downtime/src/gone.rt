@@ -5,7 +5,7 @@ ghost use Rattle.gate_downtime.specs.declared.gone.Mark.{Mark};
 ghost use Rattle.gate_downtime.specs.inner.Rows.{live_at};
 ghost use Rattle.gate_downtime.specs.inner.Gone.{gone_cmp, is_free, IsKept, Lists, AllGone, SameGone, Pops, Returns, AllPassed, TakesGone};
 
-use crate::row::{Row, is_live_at, row_at};
+use crate::row::{Row, is_live_at, push_within, row_at};
 use std::alloc::Global;
 use std::cmp::Reverse;
 use std::collections::BinaryHeap;
@@ -100,13 +100,13 @@ pub fn push_mark(gone: &mut Gone)
     ensures marks_capacity { vec_capacity gone.old.marks ≤ vec_capacity gone.new.marks }
     ensures heap { gone.new.heap ≡ gone.old.heap }
 {
-    match gone.marks.push(Mark {
-        listed: false,
-        returned: false,
-    }) {
-        Ok(()) => (),
-        Err(_) => unreachable!(),
-    }
+    push_within(
+        &mut gone.marks,
+        Mark {
+            listed: false,
+            returned: false,
+        },
+    );
 }
 
 /// Takes the least index of the heap.

@@ -3,7 +3,7 @@ ghost use Rattle.std.specs.List.{remove};
 ghost use Rattle.gate_downtime.specs.inner.Rows.{is_live_row};
 ghost use Rattle.gate_downtime.specs.inner.Live.{AreAscending};
 
-use crate::row::Row;
+use crate::row::{Row, push_within};
 use crate::scheduling::find_live;
 use gate_model::{Steps, find_by_id};
 use std::alloc::{AllocError, Global};
@@ -60,7 +60,7 @@ impl Ids {
         ensures items { self.new.items ≡ self.old.items ++ id ∷ [] }
         ensures room { self.old.room ≤ self.new.room + 1 }
     {
-        push_id(&mut self.all, id);
+        push_within(&mut self.all, id);
     }
 
     /// Removes this id, if it is there.
@@ -99,18 +99,6 @@ impl Ids {
         remove_front(&mut self.all, self.start);
         self.start = 0;
         retain_live(&mut self.all, rows, first, now);
-    }
-}
-
-pub fn push_id(ids: &mut Vec<u32>, id: u32)
-    requires { vec_len ids.old < vec_capacity ids.old }
-    ensures items { ids.new.items ≡ ids.old.items ++ id ∷ [] }
-    ensures len { vec_len ids.new ≡ vec_len ids.old + 1 }
-    ensures capacity { vec_capacity ids.old ≤ vec_capacity ids.new }
-{
-    match ids.push(id) {
-        Ok(()) => (),
-        Err(_) => unreachable!(),
     }
 }
 

@@ -5,7 +5,7 @@
 #![tactic(auto)]
 
 mod book;
-mod deleting;
+mod chains;
 mod entries;
 mod faults;
 mod gone;
@@ -15,7 +15,6 @@ mod live;
 mod pruning;
 mod row;
 mod scheduling;
-mod spreading;
 mod tally;
 mod waiting;
 

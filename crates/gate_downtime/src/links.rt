@@ -2,6 +2,7 @@ ghost use Rattle.std.specs.Prelude.{◌≡◌, ◌<◌, ◌≤◌, ◌+◌, ◌+
 ghost use Rattle.gate_downtime.specs.declared.links.Link.{Link};
 ghost use Rattle.gate_downtime.specs.inner.Links.{with_child, lone_link, child_link, waiting_link, IsLinkedMore};
 
+use crate::row::push_within;
 use std::alloc::{AllocError, Global};
 
 /// The lists in which a row stands, each with the newest row first.
@@ -30,10 +31,7 @@ pub fn push_pending(pending: &mut Vec<usize>, next: Option<usize>)
     ensures capacity { vec_capacity pending.old ≤ vec_capacity pending.new }
 {
     if let Some(row) = next {
-        match pending.push(row) {
-            Ok(()) => (),
-            Err(_) => unreachable!(),
-        }
+        push_within(pending, row);
     }
 }
 
@@ -53,18 +51,6 @@ pub fn write_link(links: &mut Vec<Link>, at: usize, link: Link)
     links[at] = link;
 }
 
-fn push_link(links: &mut Vec<Link>, link: Link)
-    requires { vec_len links.old < vec_capacity links.old }
-    ensures items { links.new.items ≡ links.old.items ++ link ∷ [] }
-    ensures len { vec_len links.new ≡ vec_len links.old + 1 }
-    ensures capacity { vec_capacity links.old ≤ vec_capacity links.new }
-{
-    match links.push(link) {
-        Ok(()) => (),
-        Err(_) => unreachable!(),
-    }
-}
-
 /// The links of a new row that neither has a trigger nor waits for a transition.
 pub fn link_alone(links: &mut Vec<Link>)
     requires { vec_len links.old < vec_capacity links.old }
@@ -72,7 +58,7 @@ pub fn link_alone(links: &mut Vec<Link>)
     ensures len { vec_len links.new ≡ vec_len links.old + 1 }
     ensures capacity { vec_capacity links.old ≤ vec_capacity links.new }
 {
-    push_link(
+    push_within(
         links,
         Link {
             child: None,
@@ -100,7 +86,7 @@ pub fn link_triggered(links: &mut Vec<Link>, trigger: usize)
         sibling: old.sibling,
         waiting: old.waiting,
     };
-    push_link(
+    push_within(
         links,
         Link {
             child: None,
@@ -125,7 +111,7 @@ pub fn link_waiting(links: &mut Vec<Link>, heads: &mut Vec<Option<usize>>, place
     let new = links.len();
     let waiting = heads[place];
     heads[place] = Some(new);
-    push_link(
+    push_within(
         links,
         Link {
             child: None,

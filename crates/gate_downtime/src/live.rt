@@ -2,8 +2,8 @@ ghost use Rattle.std.specs.Prelude.{◌≡◌, ◌<◌, ◌≤◌, ◌+◌, ◌+
 ghost use Rattle.gate_downtime.specs.inner.Rows.{is_live_row};
 ghost use Rattle.gate_downtime.specs.inner.Live.{Notes, AreNoted, IsIdle, AreAscending, DropsEnded};
 
-use crate::ids::{Ids, is_live_id, push_id};
-use crate::row::Row;
+use crate::ids::{Ids, is_live_id};
+use crate::row::{Row, push_within};
 use std::alloc::{AllocError, Global};
 
 /// How many ids are removed one by one. More are removed in one pass.
@@ -40,7 +40,7 @@ pub fn note_ended(live: &mut LiveIds, id: u32, ended: bool)
         return;
     }
     if live.ended.len() < live.ended.capacity() {
-        push_id(&mut live.ended, id);
+        push_within(&mut live.ended, id);
     } else {
         live.many = true;
     }

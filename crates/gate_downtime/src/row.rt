@@ -1,7 +1,8 @@
-ghost use Rattle.std.specs.Prelude.{◌≡◌, ◌&&◌, not, ◌<◌, ◌≤◌, ◌+◌, ◌++◌, [], ◌∷◌, length, vec_len, vec_capacity, Some, slice_index_or, slice_set};
+ghost use Rattle.std.specs.Prelude.{◌≡◌, ◌&&◌, not, ◌<◌, ◌≤◌, ◌+◌, ◌++◌, [], ◌∷◌, length, true, vec_len, vec_capacity, Some, slice_index_or, slice_set};
 ghost use Rattle.gate_model.specs.Downtime.{begin_by, begin_alone, over_by};
 ghost use Rattle.gate_downtime.specs.declared.row.Row.{Row};
-ghost use Rattle.gate_downtime.specs.inner.Rows.{active_at, live_at};
+ghost use Rattle.gate_downtime.specs.inner.Rows.{active_at, with_active, live_at, Follows};
+ghost use Rattle.gate_downtime.specs.inner.Cancel.{deleted_row};
 
 use gate_model::Entry;
 
@@ -105,6 +106,41 @@ pub fn over_by(
     }
 }
 
+/// The row of an entry whose trigger begins and ends at these moments, for good.
+pub fn settled_row(entry: Entry, active: bool, trigger_begun: Option<u32>, trigger_over: u64) -> Row
+    ensures entry { result.entry ≡ entry }
+    ensures follows { Follows result trigger_begun (Some trigger_over) }
+    ensures active { result.active ≡ active }
+    ensures settled { result.settled ≡ true }
+{
+    let begun = begin_by(entry, trigger_begun);
+    Row {
+        entry,
+        begun,
+        over: over_by(entry, begun, trigger_begun, trigger_over),
+        active,
+        settled: true,
+    }
+}
+
+/// The row with its entry deleted.
+pub fn deleted_row(row: Row) -> Row
+    ensures { result ≡ with_active row.active (deleted_row row) }
+{
+    let entry = Entry {
+        scheduled: row.entry.scheduled,
+        transition: row.entry.transition,
+        deleted: true,
+    };
+    Row {
+        entry,
+        begun: row.begun,
+        over: row.over,
+        active: row.active,
+        settled: row.settled,
+    }
+}
+
 pub fn row_at(rows: &[Row], at: usize) -> Row
     requires { at < length rows.now }
     ensures { (d : Row) → result ≡ slice_index_or rows.now at d }
@@ -121,13 +157,14 @@ pub fn write_row(rows: &mut Vec<Row>, at: usize, row: Row)
     rows[at] = row;
 }
 
-pub fn push_row(rows: &mut Vec<Row>, row: Row)
-    requires { vec_len rows.old < vec_capacity rows.old }
-    ensures items { rows.new.items ≡ rows.old.items ++ row ∷ [] }
-    ensures len { vec_len rows.new ≡ vec_len rows.old + 1 }
-    ensures capacity { vec_capacity rows.old ≤ vec_capacity rows.new }
+/// Adds an item to those that there is room for.
+pub fn push_within<T: Copy>(items: &mut Vec<T>, item: T)
+    requires { vec_len items.old < vec_capacity items.old }
+    ensures items { items.new.items ≡ items.old.items ++ item ∷ [] }
+    ensures len { vec_len items.new ≡ vec_len items.old + 1 }
+    ensures capacity { vec_capacity items.old ≤ vec_capacity items.new }
 {
-    match rows.push(row) {
+    match items.push(item) {
         Ok(()) => (),
         Err(_) => unreachable!(),
     }

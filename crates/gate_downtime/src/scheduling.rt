@@ -7,8 +7,9 @@ ghost use Rattle.gate_downtime.specs.inner.Tally.{IsSound, HasRoom, AddsAtMost};
 ghost use Rattle.gate_downtime.specs.inner.Gone.{MoreGone};
 ghost use Rattle.gate_downtime.specs.inner.Live.{IsFresh};
 
+use crate::chains::Chains;
 use crate::gone::{list_gone, push_mark};
-use crate::row::{Row, begin_by, is_active_at, is_live_at, over_by, push_row};
+use crate::row::{Row, begin_by, is_active_at, is_live_at, over_by, push_within};
 use crate::tally::{Tally, mark_row, wake_row};
 use gate_model::{Entry, Scheduled};
 
@@ -40,50 +41,57 @@ pub fn find_live(rows: &[Row], first: u32, id: u32, now: u32) -> Option<usize>
     Some(at)
 }
 
-/// When the entry of this id begins, if it does.
-pub fn find_begin(rows: &[Row], first: u32, id: u32) -> Option<u32>
-    ensures { result ≡ begin_of_row first rows.now id }
-{
-    if id < first {
-        return None;
+impl Chains {
+    /// The index of the live row of this id.
+    pub fn find_live(&self, id: u32) -> Option<usize>
+        ensures found { IfSome result (λ at.
+            IsLiveAt self.now.first self.now.rows.items self.now.moment.0 id at) }
+        ensures live { is_some result
+            ≡ is_live_row self.now.first self.now.rows.items self.now.moment.0 id }
+    {
+        find_live(&self.rows, self.first, id, self.moment.0)
     }
-    let at = (id - first) as usize;
-    if at >= rows.len() {
-        return None;
-    }
-    rows[at].begun
-}
 
-/// The trigger of this id: nothing for 0, else a live row.
-pub fn find_trigger(rows: &[Row], first: u32, trigger: u32, now: u32) -> Option<Trigger>
-    ensures found { IfSome result (λ found. IsTrigger first rows.now trigger found) }
-    ensures live { is_some result ≡ ((trigger == 0) || is_live_row first rows.now now trigger) }
-{
-    if trigger == 0 {
-        return Some(Trigger {
-            at: None,
-            begun: None,
-            over: 0,
-            settled: false,
-        });
+    /// When the entry of this id begins, if it does.
+    pub fn find_begin(&self, id: u32) -> Option<u32>
+        ensures { result ≡ begin_of_row self.now.first self.now.rows.items id }
+    {
+        if id < self.first {
+            return None;
+        }
+        let at = (id - self.first) as usize;
+        if at >= self.rows.len() {
+            return None;
+        }
+        self.row_at(at).begun
     }
-    if trigger < first {
-        return None;
+
+    /// The trigger of this id: nothing for 0, else a live row.
+    pub fn find_trigger(&self, trigger: u32) -> Option<Trigger>
+        ensures found { IfSome result (λ found.
+            IsTrigger self.now.first self.now.rows.items trigger found) }
+        ensures live { is_some result ≡ ((trigger == 0)
+            || is_live_row self.now.first self.now.rows.items self.now.moment.0 trigger) }
+    {
+        if trigger == 0 {
+            return Some(Trigger {
+                at: None,
+                begun: None,
+                over: 0,
+                settled: false,
+            });
+        }
+        let Some(at) = self.find_live(trigger) else {
+            return None;
+        };
+        let row = self.row_at(at);
+        Some(Trigger {
+            at: Some(at),
+            begun: row.begun,
+            over: row.over,
+            settled: row.settled,
+        })
     }
-    let at = (trigger - first) as usize;
-    if at >= rows.len() {
-        return None;
-    }
-    let row = rows[at];
-    if row.entry.deleted || row.over <= now as u64 {
-        return None;
-    }
-    Some(Trigger {
-        at: Some(at),
-        begun: row.begun,
-        over: row.over,
-        settled: row.settled,
-    })
 }
 
 /// The row of a new entry, not yet marked.
@@ -136,7 +144,7 @@ pub fn add_row(rows: &mut Vec<Row>, tally: &mut Tally, row: Row, now: u32)
     ensures deadlines { AddsAtMost 2 tally.old tally.new }
 {
     let at = rows.len();
-    push_row(rows, row);
+    push_within(rows, row);
     wake_row(&mut tally.deadlines, at, row, now);
     let active = is_active_at(row, now);
     mark_row(rows, &mut tally.depths, at, active);

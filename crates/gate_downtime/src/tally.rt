@@ -1,9 +1,9 @@
-ghost use Rattle.std.specs.Prelude.{◌≡◌, ◌<◌, ◌≤◌, ◌^◌, ◌+◌, ℕ, [], ◌∷◌, length, vec_len, vec_capacity, All, Contains, IfNone, IfSome, IfOk, replicate, slice_index_or, slice_set};
+ghost use Rattle.std.specs.Prelude.{◌≡◌, ◌<◌, ◌≤◌, ◌^◌, ◌+◌, ◌*◌, ℕ, [], ◌∷◌, length, vec_len, vec_capacity, All, Contains, IfNone, IfSome, IfOk, replicate, slice_index_or, slice_set};
 ghost use Rattle.std.specs.BinaryHeap.{heap_items, heap_len, heap_capacity, IsHeap};
 ghost use Rattle.std.specs.List.Sorted.{IsPermutation};
 ghost use Rattle.gate_downtime.specs.declared.row.Row.{Row};
-ghost use Rattle.gate_downtime.specs.inner.Rows.{active_at, with_active, Counted, CanCount, deadline_cmp, Sound, SameButMarks, Adds, Wakes};
-ghost use Rattle.gate_downtime.specs.inner.Tally.{IsSound, HasRoom, KeepsSize};
+ghost use Rattle.gate_downtime.specs.inner.Rows.{active_at, with_active, Counted, CanCount, deadline_cmp, Sound, SameButMarks, Adds, Wakes, CanReplace, unsettled_one};
+ghost use Rattle.gate_downtime.specs.inner.Tally.{IsSound, KeepsSize};
 ghost use Rattle.gate_downtime.specs.inner.Live.{IsIdle};
 
 use crate::gone::{Gone, list_gone, no_gone};
@@ -176,4 +176,28 @@ pub fn wake_row(deadlines: &mut BinaryHeap<Reverse<(u64, usize)>>, at: usize, ro
     if let Some(moment) = row.begun {
         wake_at(deadlines, moment as u64, at, now);
     }
+}
+
+/// The later beginning and end of a row that replaces an old one become deadlines, where they can
+/// differ: where it is settled, and the old one isn't.
+pub fn wake_settled(
+    deadlines: &mut BinaryHeap<Reverse<(u64, usize)>>,
+    at: usize,
+    old: Row,
+    row: Row,
+    now: u32,
+)
+    requires row { CanReplace old row }
+    requires awake { Wakes now (heap_items deadlines.old) at old }
+    requires room { heap_len deadlines.old + 2 * unsettled_one old ≤ heap_capacity deadlines.old }
+    ensures adds { Adds at (heap_items deadlines.old) (heap_items deadlines.new) }
+    ensures wakes { Wakes now (heap_items deadlines.new) at row }
+    ensures len { heap_len deadlines.new + 2 * unsettled_one row
+        ≤ heap_len deadlines.old + 2 * unsettled_one old }
+    ensures capacity { heap_capacity deadlines.old ≤ heap_capacity deadlines.new }
+{
+    if row.settled == old.settled {
+        return;
+    }
+    wake_row(deadlines, at, row, now);
 }

@@ -2,7 +2,7 @@
 -- line, a status page where one is asked for, and then the log page. The main definitions are
 -- `printed_by`, `EndsWith`, `IsReplayRun`. The rules are those that the queue's answers keep.
 -- Own rule: a script has at most 1,048,576 bytes.
-use Rattle.std.specs.Prelude.{◌≡◌, ℕ, ◌<◌, ◌≤◌, ◌⊎◌, Option, Some, None, Result, Ok, Err, IfSome, Bool, true, false, List, ◌++◌, length}
+use Rattle.std.specs.Prelude.{◌≡◌, ℕ, ◌<◌, ◌≤◌, ◌⊎◌, Option, Some, None, IfSome, Bool, true, false, List, ◌++◌, length}
 use Rattle.gate_model.specs.Meaning.{outcomes_of}
 use Rattle.gate_core.specs.Limits.{Limits}
 use Rattle.gate_core.specs.Legal.{Run}

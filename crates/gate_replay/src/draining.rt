@@ -44,30 +44,21 @@ where
         ensures stopped { IfErr result (StopsTaking (solo_view D.after D.limits)
             (solo_view D.Ended.after D.Ended.limits) self) }
     {
-        let Player {
-            queue,
-            applier,
-            clock,
-            age,
-            queued,
-        } = self;
-        let ready = match prepare(applier) {
+        let ready = match prepare(self.applier) {
             Ok(ready) => ready,
             Err(stop) => {
-                let _ended = queue.end();
+                let _ended = self.queue.end();
                 return Err(stop);
             }
         };
-        let (queue, item) = queue.take();
+        let (queue, item) = self.queue.take();
         match item {
             Some(item) => {
-                let (applier, _) = ready.apply(item, clock);
+                let (applier, _) = ready.apply(item, self.clock);
                 let player = Player {
                     queue,
                     applier,
-                    clock,
-                    age,
-                    queued,
+                    ..self
                 };
                 Ok((player, true))
             }
@@ -76,9 +67,7 @@ where
                 let player = Player {
                     queue,
                     applier,
-                    clock,
-                    age,
-                    queued,
+                    ..self
                 };
                 Ok((player, false))
             }

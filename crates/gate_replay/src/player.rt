@@ -1,13 +1,13 @@
-ghost use Rattle.std.specs.Prelude.{◌≡◌, ◌≢◌, ◌⊎◌, ◌+◌, ◌<◌, ◌^◌, [], length, IfOk, IfErr, OnOk};
+ghost use Rattle.std.specs.Prelude.{◌≡◌, ◌+◌, ◌<◌, ◌^◌, [], IfOk, IfErr, OnOk};
 ghost use Rattle.gate_core.specs.Limits.{limits_of, default_quota};
 ghost use Rattle.gate_core.specs.Legal.{Run};
-ghost use Rattle.gate_reader.specs.Sink.{SinkState, sink_state, Fails};
+ghost use Rattle.gate_reader.specs.Sink.{sink_state, Fails};
 ghost use Rattle.gate_pages.specs.StatusPage.{status_text_at};
 ghost use Rattle.gate_replay.specs.declared.script.Step.TheVariants as step;
 ghost use Rattle.gate_replay.specs.declared.setup.Setup.{Setup};
-ghost use Rattle.gate_replay.specs.ReplayState.{ReplayState, is_session};
+ghost use Rattle.gate_replay.specs.ReplayState.{is_session};
 ghost use Rattle.gate_replay.specs.inner.Sessions.{queued_in};
-ghost use Rattle.gate_replay.specs.inner.Playing.{solo_view, Setting, setting, Shows, IsNew, IsReady, Plays, PlaysFull, PlaysPart, PlayedTo, PlayedFull, PlayedPart, Stays, IsEnded, IsWriteEnd, StopsBy, ServesFrom, StopsServing};
+ghost use Rattle.gate_replay.specs.inner.Playing.{solo_view, setting, IsNew, IsReady, PlayedTo, PlayedFull, PlayedPart, IsEnded, IsWriteEnd, StopsBy, ServesFrom, StopsServing, PlaysFrom, StopsPlaying};
 
 use crate::fault::ReplayFault;
 use crate::printing::{print, print_answer};
@@ -147,27 +147,18 @@ where
             IfErr result (StopsServing (solo_view D.after D.limits) self (state output.old)
             (state output.new)) }
     {
-        let Player {
-            queue,
-            applier,
-            clock,
-            age,
-            queued,
-        } = self;
-        let (queue, report) = serve_packet(alloc, queue, sent, age, clock);
+        let (queue, report) = serve_packet(alloc, self.queue, sent, self.age, self.clock);
         let Some(answer) = only_answer(&report) else {
-            return Err(Stopped::OutOfMemory(applier));
+            return Err(Stopped::OutOfMemory(self.applier));
         };
         if let Err(fault) = print_answer(output, answer) {
-            return Err(unwritten(applier, fault));
+            return Err(unwritten(self.applier, fault));
         }
-        let queued = queued_after(queued, answer);
+        let queued = queued_after(self.queued, answer);
         Ok(Player {
             queue,
-            applier,
-            clock,
-            age,
             queued,
+            ..self
         })
     }
 
@@ -184,31 +175,22 @@ where
             IfErr result (StopsServing (solo_view D.after D.limits) self (state output.old)
             (state output.new)) }
     {
-        let Player {
-            queue,
-            applier,
-            clock,
-            age,
-            queued,
-        } = self;
         let mut written = Vec::new(alloc);
-        let (queue, report) = match serve_line(alloc, queue, text, clock, &mut written) {
+        let (queue, report) = match serve_line(alloc, self.queue, text, self.clock, &mut written) {
             Ok(served) => served,
-            Err(_) => return Err(Stopped::OutOfMemory(applier)),
+            Err(_) => return Err(Stopped::OutOfMemory(self.applier)),
         };
         let Some(answer) = only_answer(&report) else {
-            return Err(Stopped::OutOfMemory(applier));
+            return Err(Stopped::OutOfMemory(self.applier));
         };
         if let Err(fault) = print(output, &written) {
-            return Err(unwritten(applier, fault));
+            return Err(unwritten(self.applier, fault));
         }
-        let queued = queued_after(queued, answer);
+        let queued = queued_after(self.queued, answer);
         Ok(Player {
             queue,
-            applier,
-            clock,
-            age,
             queued,
+            ..self
         })
     }
 
@@ -267,21 +249,13 @@ where
     fn step<W: Sink>(self, alloc: Global, step: &Step, output: &mut W) -> Result<Player<D>, Stopped>
         requires { let state = sink_state W.contents W.pending W.failures in
             IsReady (solo_view D.after D.limits) self (state output.old) }
-        ensures played { let view = solo_view D.after D.limits in
-            let state = sink_state W.contents W.pending W.failures in
-            IfOk result (λ now. (s : Setting) (g : ReplayState)
-            → Shows view s self (state output.old) g
-            → Plays view s now (state output.new) step.now g) }
-        ensures stopped { let view = solo_view D.after D.limits in
-            let ended = solo_view D.Ended.after D.Ended.limits in
-            let state = sink_state W.contents W.pending W.failures in
-            IfErr result (StopsBy (λ kept. (s : Setting) (g : ReplayState)
-            → Shows view s self (state output.old) g
-            → PlaysFull ended s kept (state output.new) step.now g)
-            (λ kept. (s : Setting) (g : ReplayState) → Shows view s self (state output.old) g
-            → Stays view s kept (state output.new) g
-            ⊎ PlaysPart view s kept (state output.new) step.now g)
-            (IsWriteEnd (state output.old) (state output.new))) }
+        ensures played { let state = sink_state W.contents W.pending W.failures in
+            IfOk result (λ now. PlaysFrom (solo_view D.after D.limits) self (state output.old)
+            step.now now (state output.new)) }
+        ensures stopped { let state = sink_state W.contents W.pending W.failures in
+            IfErr result (StopsPlaying (solo_view D.after D.limits)
+            (solo_view D.Ended.after D.Ended.limits) self (state output.old) step.now
+            (state output.new)) }
     {
         match self.serve(alloc, step, output) {
             Ok(player) => {

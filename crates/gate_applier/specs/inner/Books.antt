@@ -1,5 +1,5 @@
 -- Only proofs and private functions use this: what happened in judged records, and when the books follow it.
-use Rattle.std.specs.Prelude.{◌≡◌, ℕ, ℤ, min, max, ◌+◌, ◌/◌, ◌≤◌, ◌==◌, Bool, true, false, not, List, ◌∷◌, ◌++◌, length, map, reverse, filter, slice_get, Option, Some, None, if◌then◌else◌}
+use Rattle.std.specs.Prelude.{◌≡◌, ℕ, ℤ, min, max, ◌+◌, ◌/◌, ◌≤◌, ◌==◌, Bool, true, false, not, List, ◌∷◌, ◌++◌, length, map, reverse, filter, slice_get, Option, Some, None, Result, Ok, Err, if◌then◌else◌}
 use Rattle.std.specs.List.{cons_option, list_any, list_all, enumerate_from}
 use Rattle.std.specs.Option.{option_to_list}
 use Rattle.gate_model.specs.declared.record.Moment.{Moment}
@@ -106,6 +106,11 @@ pub record BooksStand (events : Events) (moment : Moment) (books : Books) : Type
 abbrev pub Follows : Moment → (Events → Events) → Books → Books → Type 0
 Follows moment change old new =
     (events : Events) → BooksFollow events moment old → BooksFollow (change events) moment new
+
+-- the outcome of a body that was accepted, or refused so
+abbrev pub outcome_of : Result (Unit {0}) Outcome → Outcome
+outcome_of (Ok done) = Accepted
+outcome_of (Err refusal) = refusal
 
 -- the body of this outcome was judged after whichever records the old books stand after, and the new ones follow it
 pub record IsJudged (table : List ObjectLine) (before : List Judged) (moment : Moment) (log_index : ℕ) (body : Body)

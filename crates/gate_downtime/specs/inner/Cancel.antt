@@ -74,17 +74,6 @@ deleted_row r =
 abbrev pub is_kept : Row → Bool
 is_kept r = not r.entry.deleted
 
--- a row with a trigger
-pub record IsChild (rows : List Row) (c : ℕ) : Type 0 where
-  pub within : c < length rows
-  pub triggered : (d : Row) → trig (slice_index_or rows c d) ≡ 0 → ⊥
-
--- the pending rows have triggers, and so have those that follow them in the lists
-pub record IsStack (first : ℕ) (rows : List Row) (links : List Link) (pending : List ℕ) : Type 0 where
-  pub from : 0 < first
-  pub linked : Linked first rows links
-  pub ready : All (IsChild rows) pending
-
 -- some of the rows were hit by a deletion
 pub record HasStruck (before rows : List Row) : Type 0 where
   pub hit : List Bool

@@ -115,6 +115,18 @@ Consistent first rows = (k : ℕ) (d : Row) → k < length rows → Local first 
 abbrev pub is_unsettled : Row → Bool
 is_unsettled r = not r.settled
 
+-- the row counts as one, where it isn't settled
+abbrev pub unsettled_one : Row → ℕ
+unsettled_one r = if is_unsettled r then 1 else 0
+
+-- the row can replace the old one: it is that of the same entry as it was scheduled, with its mark, and begins and ends
+-- as before, unless it is settled and the old one isn't
+pub record CanReplace (old new : Row) : Type 0 where
+  pub scheduled : new.entry.scheduled ≡ old.entry.scheduled
+  pub mark : new.active ≡ old.active
+  pub settles : old.settled ≡ true → new.settled ≡ true
+  pub moments : new.settled ≡ old.settled → (new.begun ≡ old.begun) × (new.over ≡ old.over)
+
 -- sound, but for the mark of the row at k
 pub record Nearly (t : ℕ) (rows : List Row) (depths : List ℕ) (deadlines : Deadlines) (k : ℕ) : Type 0 where
   pub fits : Fits rows depths deadlines

@@ -37,8 +37,3 @@ pub record AddsForSettled (rows rows' : List Row) (tally tally' : Tally) : Type 
       heap_len tally'.deadlines + 2 * count_by is_unsettled rows'
       ≤ heap_len tally.deadlines + 2 * count_by is_unsettled rows
   pub capacity : heap_capacity tally.deadlines ≤ heap_capacity tally'.deadlines
-
--- as many deadlines as before, in the same memory
-pub record SameDeadlines (tally tally' : Tally) : Type 0 where
-  pub len : heap_len tally'.deadlines ≡ heap_len tally.deadlines
-  pub capacity : heap_capacity tally'.deadlines ≡ heap_capacity tally.deadlines

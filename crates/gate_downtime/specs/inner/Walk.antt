@@ -1,15 +1,10 @@
 -- For proofs and private functions alone: the walk over the rows of an object that wait for a transition.
-use Rattle.std.specs.Prelude.{◌≡◌, ℕ, ◌+◌, ◌*◌, ◌<◌, ◌≤◌, Bool, false, not, ◌&&◌, nat_lt, is_none, List, [], length, map, slice_index_or, count_by, vec_capacity, Option, Some, None}
-use Rattle.std.specs.Global.{Vec}
+use Rattle.std.specs.Prelude.{◌≡◌, ℕ, ◌+◌, ◌<◌, ◌≤◌, Bool, false, not, ◌&&◌, nat_lt, is_none, List, length, map, slice_index_or, Option, Some, None}
 use Rattle.gate_model.specs.declared.record.Moment.{Moment}
 use Rattle.gate_model.specs.declared.downtime.Entry.{Entry}
 use Rattle.gate_downtime.specs.Book.{after_transition}
 use Rattle.gate_downtime.specs.declared.row.Row.{Row}
 use Rattle.gate_downtime.specs.declared.links.Link.{Link}
-use Rattle.gate_downtime.specs.declared.tally.Tally.{Tally}
-use Rattle.gate_downtime.specs.inner.Rows.{is_unsettled}
-use Rattle.gate_downtime.specs.inner.Tally.{IsSound, HasRoom}
-use Rattle.gate_downtime.specs.inner.Links.{Spreading}
 
 -- an untriggered flexible entry of this object
 pub record IsFlex (p : ℕ) (e : Entry) : Type 0 where
@@ -71,14 +66,3 @@ pub record Walked (m : Moment) (p : ℕ) (before rows : List Row) (cursor : Opti
   pub done :
       (j : ℕ) (d : Row) → j < length before → (Ahead cursor j → ⊥)
       → (slice_index_or rows j d).entry ≡ after_transition m p (slice_index_or before j d).entry
-
--- between two steps of the walk: rows and tally are those of this moment, no row is pending, and there is memory for
--- what
--- a transition can begin
-pub record IsReady
-    (now first : ℕ) (rows : List Row) (links : List Link) (pending : Vec ℕ) (tally : Tally) : Type 0 where
-  pub sound : IsSound now rows tally
-  pub spreading : Spreading first rows links []
-  pub idle : pending.items ≡ []
-  pub room_deadlines : HasRoom (2 * count_by is_unsettled rows) tally
-  pub room_pending : count_by is_unsettled rows ≤ vec_capacity pending

@@ -271,6 +271,20 @@ StopsServing view was before after = StopsBy (λ _. ⊥)
     (λ kept. (s : Setting) (g : ReplayState) → Shows view s was before g → Stays view s kept after g)
     (IsWriteEnd before after)
 
+-- the player, from whatever state of the gateway it had come to, played the step
+abbrev pub PlaysFrom : {D : Type 0} → SoloView D → Player D → SinkState → Step → Player D → SinkState → Type 0
+PlaysFrom view was before step now after =
+    (s : Setting) (g : ReplayState) → Shows view s was before g → Plays view s now after step g
+
+-- the player stopped at the step: an item found the log full; memory ran out before or amid it; or a write failed
+abbrev pub StopsPlaying : {D E : Type 0} → SoloView D → SoloView E → Player D → SinkState → Step → SinkState
+    → Stopped → Type 0
+StopsPlaying view ended was before step after = StopsBy
+    (λ kept. (s : Setting) (g : ReplayState) → Shows view s was before g → PlaysFull ended s kept after step g)
+    (λ kept. (s : Setting) (g : ReplayState) → Shows view s was before g
+    → Stays view s kept after g ⊎ PlaysPart view s kept after step g)
+    (IsWriteEnd before after)
+
 -- an applier had no room for a record: its log is full, or memory ran out while it is not
 abbrev pub StopsPreparing : ApplierView → Stopped → Type 0
 StopsPreparing applier = StopsBy

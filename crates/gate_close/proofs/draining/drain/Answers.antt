@@ -19,7 +19,7 @@ loop-init g c = (
 pub loop-preserved : goal.loop-preserved
 loop-preserved g c =
     let old = c.loop.invariant in
-    let a = c.apply_taken-applier.ensures in
+    let a = c.apply.ensures in
     let item = c.in-Some-take.item in
     let ready_is = c.in_ok-ready.ensures.ready in
     let records = a.records ∙ (λ i. (ready_is i).records ++ record { moment = later (ready_is i).moment c.args.now; item = item } ∷ []) in

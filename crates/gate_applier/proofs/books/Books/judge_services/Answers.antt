@@ -23,7 +23,7 @@ returns-in-Some-clause-judged c = λ moment fixed author text kind before stand.
     judged-services c.args.table.now before moment c.args.host.now c.args.plan fixed author text c.services.result c.schedule_each.result c.args.self.now c.schedule_each.new.self c.in-Some.object.place
     (sym (ap (λ name. place_of c.args.table.now name None) c.bytes.ensures) ∙ at)
     (are ∙ ap (services_of c.args.table.now) c.bytes.ensures)
-    kind c.schedule_each.ensures.answer c.schedule_each.ensures.schedules c.schedule_each.ensures.refused stand.follow
+    kind c.schedule_each.ensures.answer c.schedule_each.ensures.schedules c.schedule_each.ensures.refused c.schedule_each.ensures.kept stand.follow
 
 pub returns-in-Some-clause-takes : goal.returns-in-Some-clause-takes
 returns-in-Some-clause-takes c =

@@ -17,30 +17,30 @@ use Rattle.gate_downtime.proofs.book.DowntimeBook.advance.Goals as goal
 
 pub drop_ended-requires-clause-ascending : goal.drop_ended-requires-clause-ascending
 drop_ended-requires-clause-ascending c =
-    (after-call c.self.inside.first c.self.inside.moment.0 c.later-now.result.0 c.self.inside.rows.items c.settle.new.rows.items c.self.inside.tally.live c.settle.new.tally.live
+    (after-call c.self.inside.chains.first c.self.inside.chains.moment.0 c.later-now.result.0 c.self.inside.chains.rows.items c.settle.new.rows.items c.self.inside.chains.tally.live c.settle.new.tally.live
     (spread-end _ _ _ (spreading-same _ _ _ _ c.settle.ensures.same c.self.invariant.spreading)) (length-same _ _ c.settle.ensures.same)
-    (live-later _ _ _ _ (let early : c.self.inside.moment.0 ≤ c.later-now.result.0 = omega (arith, ap (λ (m : Moment). m.0) c.later-now.ensures) in early) c.settle.ensures.same) c.self.invariant.live_is c.settle.ensures.kept.ids_same c.settle.ensures.sound.noted).ascending
+    (live-later _ _ _ _ (let early : c.self.inside.chains.moment.0 ≤ c.later-now.result.0 = omega (arith, ap (λ (m : Moment). m.0) c.later-now.ensures) in early) c.settle.ensures.same) c.self.invariant.live_is c.settle.ensures.kept.ids_same c.settle.ensures.sound.noted).ascending
 
 pub drop_ended-requires-clause-noted : goal.drop_ended-requires-clause-noted
 drop_ended-requires-clause-noted c =
-    let P : List Row → Type 0 = λ rows. AreNoted (is_live_row c.self.inside.first rows c.later-now.result.0) c.settle.new.tally.live in
-    subst P (sym c.deref.ensures.value) (after-call c.self.inside.first c.self.inside.moment.0 c.later-now.result.0 c.self.inside.rows.items c.settle.new.rows.items c.self.inside.tally.live c.settle.new.tally.live
+    let P : List Row → Type 0 = λ rows. AreNoted (is_live_row c.self.inside.chains.first rows c.later-now.result.0) c.settle.new.tally.live in
+    subst P (sym c.deref.ensures.value) (after-call c.self.inside.chains.first c.self.inside.chains.moment.0 c.later-now.result.0 c.self.inside.chains.rows.items c.settle.new.rows.items c.self.inside.chains.tally.live c.settle.new.tally.live
     (spread-end _ _ _ (spreading-same _ _ _ _ c.settle.ensures.same c.self.invariant.spreading)) (length-same _ _ c.settle.ensures.same)
-    (live-later _ _ _ _ (let early : c.self.inside.moment.0 ≤ c.later-now.result.0 = omega (arith, ap (λ (m : Moment). m.0) c.later-now.ensures) in early) c.settle.ensures.same) c.self.invariant.live_is c.settle.ensures.kept.ids_same c.settle.ensures.sound.noted).noted
+    (live-later _ _ _ _ (let early : c.self.inside.chains.moment.0 ≤ c.later-now.result.0 = omega (arith, ap (λ (m : Moment). m.0) c.later-now.ensures) in early) c.settle.ensures.same) c.self.invariant.live_is c.settle.ensures.kept.ids_same c.settle.ensures.sound.noted).noted
 
 pub invariant_of-self : goal.invariant_of-self
 invariant_of-self c =
-    let early : c.self.inside.moment.0 ≤ c.later-now.result.0 = omega (arith, ap (λ (m : Moment). m.0) c.later-now.ensures) in
-    let is : c.drop_ended.new.live.ids.items ≡ live_ids c.self.inside.first c.later-now.result.0 c.settle.new.rows.items =
-    c.drop_ended.ensures.ids ∙ ap (λ rows. filter (is_live_row c.self.inside.first rows c.later-now.result.0) c.settle.new.tally.live.ids.items) c.deref.ensures.value
-    ∙ (after-call c.self.inside.first c.self.inside.moment.0 c.later-now.result.0 c.self.inside.rows.items c.settle.new.rows.items c.self.inside.tally.live c.settle.new.tally.live
+    let early : c.self.inside.chains.moment.0 ≤ c.later-now.result.0 = omega (arith, ap (λ (m : Moment). m.0) c.later-now.ensures) in
+    let is : c.drop_ended.new.live.ids.items ≡ live_ids c.self.inside.chains.first c.later-now.result.0 c.settle.new.rows.items =
+    c.drop_ended.ensures.ids ∙ ap (λ rows. filter (is_live_row c.self.inside.chains.first rows c.later-now.result.0) c.settle.new.tally.live.ids.items) c.deref.ensures.value
+    ∙ (after-call c.self.inside.chains.first c.self.inside.chains.moment.0 c.later-now.result.0 c.self.inside.chains.rows.items c.settle.new.rows.items c.self.inside.chains.tally.live c.settle.new.tally.live
     (spread-end _ _ _ (spreading-same _ _ _ _ c.settle.ensures.same c.self.invariant.spreading)) (length-same _ _ c.settle.ensures.same)
-    (live-later _ _ _ _ (let early : c.self.inside.moment.0 ≤ c.later-now.result.0 = omega (arith, ap (λ (m : Moment). m.0) c.later-now.ensures) in early) c.settle.ensures.same) c.self.invariant.live_is c.settle.ensures.kept.ids_same c.settle.ensures.sound.noted).left in
+    (live-later _ _ _ _ (let early : c.self.inside.chains.moment.0 ≤ c.later-now.result.0 = omega (arith, ap (λ (m : Moment). m.0) c.later-now.ensures) in early) c.settle.ensures.same) c.self.invariant.live_is c.settle.ensures.kept.ids_same c.settle.ensures.sound.noted).left in
     record {
       sound = record {
         sound = c.settle.ensures.sound.sound;
         gone = c.settle.ensures.sound.gone;
-        noted = live-noted c.self.inside.first _ _ c.drop_ended.new.live (λ k d lt. (spread-end _ _ _ (spreading-same _ _ _ _ c.settle.ensures.same c.self.invariant.spreading) k d lt).id_is) is;
+        noted = live-noted c.self.inside.chains.first _ _ c.drop_ended.new.live (λ k d lt. (spread-end _ _ _ (spreading-same _ _ _ _ c.settle.ensures.same c.self.invariant.spreading) k d lt).id_is) is;
       };
       spreading = spreading-same _ _ _ _ c.settle.ensures.same c.self.invariant.spreading;
       waiting = waiting-same _ _ _ _ _ _ early c.settle.ensures.same c.self.invariant.waiting;
@@ -67,4 +67,4 @@ returns-clause-stands c =
 pub returns-clause-value : goal.returns-clause-value
 returns-clause-value c =
     rw (← c.self.view_is, entries-same _ _ c.settle.ensures.same, c.settle.ensures.kept.gone_same.same)
-    (ap (λ (m : Moment). let v : DowntimeView = record { entries = row_entries c.self.inside.rows.items; moment = m; first_id = c.self.inside.first; objects = vec_len c.self.inside.heads; room = c.self.inside.room; returned = returned_ids c.self.inside.first (map is_returned c.self.inside.tally.gone.marks.items) } in v) c.later-now.ensures)
+    (ap (λ (m : Moment). let v : DowntimeView = record { entries = row_entries c.self.inside.chains.rows.items; moment = m; first_id = c.self.inside.chains.first; objects = vec_len c.self.inside.heads; room = c.self.inside.room; returned = returned_ids c.self.inside.chains.first (map is_returned c.self.inside.chains.tally.gone.marks.items) } in v) c.later-now.ensures)

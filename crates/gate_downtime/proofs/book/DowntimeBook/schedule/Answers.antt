@@ -1,9 +1,7 @@
-use Rattle.std.proofs.Common.{ℕ, List, [], ◌∷◌, ◌++◌, cond, map, ◌≡◌, ◌+◌, ◌||◌, eqb, length, arith, sym, ap, ◌∙◌, subst, refl, inl, inr}
+use Rattle.std.proofs.Common.{ℕ, [], ◌∷◌, ◌++◌, cond, map, ◌≡◌, ◌+◌, ◌||◌, eqb, length, arith, sym, ap, ◌∙◌, subst, refl, inl, inr}
 use Rattle.std.specs.Prelude.{is_some}
 use Rattle.std.proofs.lemmas.List.{length_push}
 use Rattle.gate_model.specs.declared.downtime.Entry.{Entry}
-use Rattle.gate_downtime.specs.declared.row.Row.{Row}
-use Rattle.gate_downtime.specs.inner.Rows.{is_live_row}
 use Rattle.gate_downtime.specs.inner.Scheduling.{IsTrigger, settled_by}
 use Rattle.gate_downtime.specs.declared.live.LiveIds.{LiveIds}
 use Rattle.gate_downtime.specs.inner.Live.{live_ids}
@@ -23,25 +21,23 @@ use Rattle.gate_downtime.proofs.book.DowntimeBook.schedule.Goals as goal
 
 pub returns-in_default-clause-answer : goal.returns-in_default-clause-answer
 returns-in_default-clause-answer c =
-    let row : is_live_row c.self.inside.first c.deref.result.now c.self.inside.moment.0 c.args.plan.trigger ≡ is_live_row c.self.inside.first c.self.inside.rows.items c.self.inside.moment.0 c.args.plan.trigger = ap (λ rows. is_live_row c.self.inside.first rows c.self.inside.moment.0 c.args.plan.trigger) c.deref.ensures.value in
     rw (← c.self.view_is)
     (no-trigger c.args.plan (book_view c.self.inside) c.if-plan.false c.if-plan-self.false
-    (ap (λ b. eqb c.args.plan.trigger 0 || b) (sym (row ∙ live-row _ _ _ _ (spread-end _ _ _ c.self.invariant.spreading))) ∙ sym c.find_trigger.ensures.live ∙ ap is_some c.in_default.is))
+    (ap (λ b. eqb c.args.plan.trigger 0 || b) (sym (live-row _ _ _ _ (spread-end _ _ _ c.self.invariant.spreading))) ∙ sym c.find_trigger.ensures.live ∙ ap is_some c.in_default.is))
 
 pub returns-in_default-try_from-clause-answer : goal.returns-in_default-try_from-clause-answer
 returns-in_default-try_from-clause-answer c =
-    let row : is_live_row c.self.inside.first c.deref.result.now c.self.inside.moment.0 c.args.plan.trigger ≡ is_live_row c.self.inside.first c.self.inside.rows.items c.self.inside.moment.0 c.args.plan.trigger = ap (λ rows. is_live_row c.self.inside.first rows c.self.inside.moment.0 c.args.plan.trigger) c.deref.ensures.value in
-    let count : c.len.result ≡ length c.self.inside.rows.items = c.len.ensures ∙ c.self.inside.rows.ok.0 in
+    let count : c.len.result ≡ length c.self.inside.chains.rows.items = c.len.ensures ∙ c.self.inside.chains.rows.ok.0 in
     rw (← c.self.view_is)
     (ids-spent c.args.plan (book_view c.self.inside) c.if-plan.false c.if-plan-self.false
-    (ap (λ b. eqb c.args.plan.trigger 0 || b) (sym (row ∙ live-row _ _ _ _ (spread-end _ _ _ c.self.invariant.spreading))) ∙ sym c.find_trigger.ensures.live ∙ ap is_some c.in-Some.is)
-    (omega (arith, c.in_default-try_from.ensures, count, length-entries c.self.inside.rows.items)))
+    (ap (λ b. eqb c.args.plan.trigger 0 || b) (sym (live-row _ _ _ _ (spread-end _ _ _ c.self.invariant.spreading))) ∙ sym c.find_trigger.ensures.live ∙ ap is_some c.in-Some.is)
+    (omega (arith, c.in_default-try_from.ensures, count, length-entries c.self.inside.chains.rows.items)))
 
 pub add_row-requires-clause-fresh : goal.add_row-requires-clause-fresh
 add_row-requires-clause-fresh c =
-    let count : c.len.result ≡ length c.self.inside.rows.items = c.len.ensures ∙ c.self.inside.rows.ok.0 in
-    let id : c.fresh_row-row.result.entry.scheduled.id ≡ c.self.inside.first + length c.self.inside.rows.items = ap (λ (e : Entry). e.scheduled.id) c.fresh_row-row.ensures.entry ∙ omega (arith, c.in-Ok.ensures.1, count) in
-    not-among c.self.inside.first c.self.inside.moment.0 _ c.self.inside.rows.items _ c.self.invariant.live_is id
+    let count : c.len.result ≡ length c.self.inside.chains.rows.items = c.len.ensures ∙ c.self.inside.chains.rows.ok.0 in
+    let id : c.fresh_row-row.result.entry.scheduled.id ≡ c.self.inside.chains.first + length c.self.inside.chains.rows.items = ap (λ (e : Entry). e.scheduled.id) c.fresh_row-row.ensures.entry ∙ omega (arith, c.in-Ok.ensures.1, count) in
+    not-among c.self.inside.chains.first c.self.inside.chains.moment.0 _ c.self.inside.chains.rows.items _ c.self.invariant.live_is id
 
 pub push_live-requires : goal.push_live-requires
 push_live-requires c =
@@ -55,24 +51,23 @@ push_live-requires c =
 
 pub invariant_of-self : goal.invariant_of-self
 invariant_of-self c =
-    let count : c.len.result ≡ length c.self.inside.rows.items = c.len.ensures ∙ c.self.inside.rows.ok.0 in
+    let count : c.len.result ≡ length c.self.inside.chains.rows.items = c.len.ensures ∙ c.self.inside.chains.rows.ok.0 in
     let plan : c.fresh_row-row.result.entry.scheduled.plan.trigger ≡ c.args.plan.trigger = ap (λ (e : Entry). e.scheduled.plan.trigger) c.fresh_row-row.ensures.entry in
-    let id : c.fresh_row-row.result.entry.scheduled.id ≡ c.self.inside.first + length c.self.inside.rows.items = ap (λ (e : Entry). e.scheduled.id) c.fresh_row-row.ensures.entry ∙ omega (arith, c.in-Ok.ensures.1, count) in
-    let long : length c.add_row.new.rows.items ≡ length c.self.inside.rows.items + 1 = length-same _ _ c.add_row.ensures.rows ∙ length_push c.self.inside.rows.items c.fresh_row-row.result in
-    let P : ℕ → Type 0 = λ x. IsTrigger c.self.inside.first c.self.inside.rows.items x c.in-Some.trigger in
-    let Q : List Row → Type 0 = λ rows. IsTrigger c.self.inside.first rows c.args.plan.trigger c.in-Some.trigger in
-    let trigger : IsTrigger c.self.inside.first c.self.inside.rows.items c.fresh_row-row.result.entry.scheduled.plan.trigger c.in-Some.trigger = subst P (sym plan) (subst Q c.deref.ensures.value c.in-Some.ensures.found) in
-    let R : Entry → Type 0 = λ e. IsLinkedMore c.self.inside.links.items c.self.inside.heads.items c.in-Some.trigger.at e.scheduled.plan.fixed e.scheduled.object.place c.link_row.new.links.items c.link_row.new.heads.items in
-    let lists : MoreLists c.self.inside.first c.self.inside.moment.0 c.self.inside.rows.items c.fresh_row-row.result c.link_row.new.links.items c.link_row.new.heads.items =
+    let id : c.fresh_row-row.result.entry.scheduled.id ≡ c.self.inside.chains.first + length c.self.inside.chains.rows.items = ap (λ (e : Entry). e.scheduled.id) c.fresh_row-row.ensures.entry ∙ omega (arith, c.in-Ok.ensures.1, count) in
+    let long : length c.add_row.new.rows.items ≡ length c.self.inside.chains.rows.items + 1 = length-same _ _ c.add_row.ensures.rows ∙ length_push c.self.inside.chains.rows.items c.fresh_row-row.result in
+    let P : ℕ → Type 0 = λ x. IsTrigger c.self.inside.chains.first c.self.inside.chains.rows.items x c.in-Some.trigger in
+    let trigger : IsTrigger c.self.inside.chains.first c.self.inside.chains.rows.items c.fresh_row-row.result.entry.scheduled.plan.trigger c.in-Some.trigger = subst P (sym plan) c.in-Some.ensures.found in
+    let R : Entry → Type 0 = λ e. IsLinkedMore c.self.inside.chains.links.items c.self.inside.heads.items c.in-Some.trigger.at e.scheduled.plan.fixed e.scheduled.object.place c.link_row.new.links.items c.link_row.new.heads.items in
+    let lists : MoreLists c.self.inside.chains.first c.self.inside.chains.moment.0 c.self.inside.chains.rows.items c.fresh_row-row.result c.link_row.new.links.items c.link_row.new.heads.items =
     lists-push _ _ _ _ _ _ _ _ c.in-Some.trigger.at c.self.invariant.spreading.from c.self.invariant.spreading.placed c.self.invariant.spreading.linked c.self.invariant.waiting
     (elim trigger [ inl w ↦ inl w | inr w ↦ inr (w.low, w.high, w.at) ])
     (subst R (sym c.fresh_row-row.ensures.entry) c.link_row.ensures.linked) in
-    let is : c.push_live.new.live.ids.items ≡ live_ids c.self.inside.first c.self.inside.moment.0 c.add_row.new.rows.items =
+    let is : c.push_live.new.live.ids.items ≡ live_ids c.self.inside.chains.first c.self.inside.chains.moment.0 c.add_row.new.rows.items =
     c.push_live.ensures.ids ∙ ap (λ (l : LiveIds). cond c.is_live_at.result (l.ids.items ++ c.in-Ok.id ∷ []) l.ids.items) c.add_row.ensures.live_same
     ∙ ap (λ xs. cond c.is_live_at.result (xs ++ c.in-Ok.id ∷ []) xs) c.self.invariant.live_is
-    ∙ ap (λ b. cond b (live_ids c.self.inside.first c.self.inside.moment.0 c.self.inside.rows.items ++ c.in-Ok.id ∷ []) (live_ids c.self.inside.first c.self.inside.moment.0 c.self.inside.rows.items)) c.is_live_at.ensures
-    ∙ sym (live-push c.self.inside.first _ c.fresh_row-row.result c.self.inside.rows.items _ c.in-Ok.id c.add_row.ensures.rows (omega (arith, c.in-Ok.ensures.1, count))) in
-    let spreading : Spreading c.self.inside.first c.add_row.new.rows.items c.link_row.new.links.items [] =
+    ∙ ap (λ b. cond b (live_ids c.self.inside.chains.first c.self.inside.chains.moment.0 c.self.inside.chains.rows.items ++ c.in-Ok.id ∷ []) (live_ids c.self.inside.chains.first c.self.inside.chains.moment.0 c.self.inside.chains.rows.items)) c.is_live_at.ensures
+    ∙ sym (live-push c.self.inside.chains.first _ c.fresh_row-row.result c.self.inside.chains.rows.items _ c.in-Ok.id c.add_row.ensures.rows (omega (arith, c.in-Ok.ensures.1, count))) in
+    let spreading : Spreading c.self.inside.chains.first c.add_row.new.rows.items c.link_row.new.links.items [] =
     spreading-same _ _ _ _ c.add_row.ensures.rows
     (spreading-push _ _ _ _ _ _ c.self.invariant.spreading id trigger c.fresh_row-row.ensures.follows
     (c.fresh_row-row.ensures.settled ∙ sym (ap (λ (e : Entry). settled_by e.scheduled c.in-Some.trigger) c.fresh_row-row.ensures.entry)) lists.linked) in
@@ -80,7 +75,7 @@ invariant_of-self c =
       sound = record {
         sound = c.add_row.ensures.sound.sound;
         gone = c.add_row.ensures.sound.gone;
-        noted = live-noted c.self.inside.first _ _ c.push_live.new.live (λ k d lt. (spread-end _ _ _ spreading k d lt).id_is) is;
+        noted = live-noted c.self.inside.chains.first _ _ c.push_live.new.live (λ k d lt. (spread-end _ _ _ spreading k d lt).id_is) is;
       };
       spreading = spreading;
       waiting = waiting-same _ _ _ _ _ _ (omega arith) c.add_row.ensures.rows lists.waiting;
@@ -99,7 +94,7 @@ invariant_of-self c =
             c.requires.room,
             ap (λ v. v.room) c.self.view_is,
             unsettled-same _ _ c.add_row.ensures.rows,
-            unsettled-push-le c.self.inside.rows.items c.fresh_row-row.result,
+            unsettled-push-le c.self.inside.chains.rows.items c.fresh_row-row.result,
           );
       room_pending = omega (arith, c.add_row.ensures.len, c.self.invariant.room_pending, c.requires.room, ap (λ v. v.room) c.self.view_is);
       room_marks = omega (arith, c.add_row.ensures.gone_more.marks_len, c.add_row.ensures.gone_more.marks_capacity, c.self.invariant.room_marks, c.requires.room, ap (λ v. v.room) c.self.view_is);
@@ -122,29 +117,28 @@ invariant_of-self c =
 
 pub returns-clause-entries : goal.returns-clause-entries
 returns-clause-entries c =
-    let count : c.len.result ≡ length c.self.inside.rows.items = c.len.ensures ∙ c.self.inside.rows.ok.0 in
+    let count : c.len.result ≡ length c.self.inside.chains.rows.items = c.len.ensures ∙ c.self.inside.chains.rows.ok.0 in
     rw (← c.self.view_is)
     (fresh-entries (book_view c.self.inside) _ c.add_row.new.rows.items c.fresh_row-row.result c.in-Ok.id c.args.object c.args.plan refl c.add_row.ensures.rows c.fresh_row-row.ensures.entry
-    (let given : c.in-Ok.id ≡ c.self.inside.first + length c.self.inside.rows.items = omega (arith, c.in-Ok.ensures.1, count) in given))
+    (let given : c.in-Ok.id ≡ c.self.inside.chains.first + length c.self.inside.chains.rows.items = omega (arith, c.in-Ok.ensures.1, count) in given))
 
 pub returns-clause-stands : goal.returns-clause-stands
 returns-clause-stands c =
-    let count : c.len.result ≡ length c.self.inside.rows.items = c.len.ensures ∙ c.self.inside.rows.ok.0 in
+    let count : c.len.result ≡ length c.self.inside.chains.rows.items = c.len.ensures ∙ c.self.inside.chains.rows.ok.0 in
     rw (← c.self.view_is)
     (schedule-stands (book_view c.self.inside) _ c.args.object c.args.plan
     (fresh-entries (book_view c.self.inside) _ c.add_row.new.rows.items c.fresh_row-row.result c.in-Ok.id c.args.object c.args.plan refl c.add_row.ensures.rows c.fresh_row-row.ensures.entry
-    (let given : c.in-Ok.id ≡ c.self.inside.first + length c.self.inside.rows.items = omega (arith, c.in-Ok.ensures.1, count) in given)) refl refl)
+    (let given : c.in-Ok.id ≡ c.self.inside.chains.first + length c.self.inside.chains.rows.items = omega (arith, c.in-Ok.ensures.1, count) in given)) refl refl)
 
 pub returns-clause-answer : goal.returns-clause-answer
 returns-clause-answer c =
-    let row : is_live_row c.self.inside.first c.deref.result.now c.self.inside.moment.0 c.args.plan.trigger ≡ is_live_row c.self.inside.first c.self.inside.rows.items c.self.inside.moment.0 c.args.plan.trigger = ap (λ rows. is_live_row c.self.inside.first rows c.self.inside.moment.0 c.args.plan.trigger) c.deref.ensures.value in
-    let count : c.len.result ≡ length c.self.inside.rows.items = c.len.ensures ∙ c.self.inside.rows.ok.0 in
+    let count : c.len.result ≡ length c.self.inside.chains.rows.items = c.len.ensures ∙ c.self.inside.chains.rows.ok.0 in
     rw (← c.self.view_is)
     (id-given c.args.plan (book_view c.self.inside) c.in-Ok.id c.if-plan.false c.if-plan-self.false
-    (ap (λ b. eqb c.args.plan.trigger 0 || b) (sym (row ∙ live-row _ _ _ _ (spread-end _ _ _ c.self.invariant.spreading))) ∙ sym c.find_trigger.ensures.live ∙ ap is_some c.in-Some.is)
-    (omega (arith, c.in-Ok.ensures.0, count, length-entries c.self.inside.rows.items))
-    (omega (arith, c.in-Ok.ensures.1, count, length-entries c.self.inside.rows.items)))
+    (ap (λ b. eqb c.args.plan.trigger 0 || b) (sym (live-row _ _ _ _ (spread-end _ _ _ c.self.invariant.spreading))) ∙ sym c.find_trigger.ensures.live ∙ ap is_some c.in-Some.is)
+    (omega (arith, c.in-Ok.ensures.0, count, length-entries c.self.inside.chains.rows.items))
+    (omega (arith, c.in-Ok.ensures.1, count, length-entries c.self.inside.chains.rows.items)))
 
 pub returns-clause-same : goal.returns-clause-same
 returns-clause-same c =
-    rw (← c.self.view_is, c.link_row.ensures.heads_len, c.add_row.ensures.gone_more.more, returned-push c.self.inside.first (map is_returned c.self.inside.tally.gone.marks.items)) refl
+    rw (← c.self.view_is, c.link_row.ensures.heads_len, c.add_row.ensures.gone_more.more, returned-push c.self.inside.chains.first (map is_returned c.self.inside.chains.tally.gone.marks.items)) refl
