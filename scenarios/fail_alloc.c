@@ -2,7 +2,8 @@
  * For LD_PRELOAD: refuses one request for memory of a program, the one of the number FAIL_ALLOC, and grants all others.
  * Requests are counted from 1, from the entry of main to its return, so those of the C library before and after are none.
  * Where one was refused, a file of the name FAIL_ALLOC_MARK stands afterwards. Nothing is printed. In the same way the
- * thread of the number FAIL_THREAD isn't started.
+ * thread of the number FAIL_THREAD isn't started. While a file of the name FAIL_ALLOC_WHILE is there, each request for
+ * FAIL_ALLOC_LARGE bytes or more is refused.
  */
 #define _GNU_SOURCE
 #include <dlfcn.h>
@@ -19,6 +20,8 @@ typedef int start_function(main_function *, int, char **, void (*)(void), void (
 static main_function *program_main;
 static unsigned long number_refused;
 static unsigned long requests;
+static unsigned long large;
+static const char *large_while;
 static unsigned long thread_refused;
 static unsigned long threads;
 static int in_main;
@@ -45,7 +48,15 @@ static int is_refused(unsigned long number, unsigned long refused) {
     return 1;
 }
 
-static int refuses(void) { return in_main && is_refused(__atomic_add_fetch(&requests, 1, __ATOMIC_RELAXED), number_refused); }
+static int refuses(size_t size) {
+    if (!in_main) {
+        return 0;
+    }
+    if (large_while != NULL && size >= large && access(large_while, F_OK) == 0) {
+        return 1;
+    }
+    return is_refused(__atomic_add_fetch(&requests, 1, __ATOMIC_RELAXED), number_refused);
+}
 
 static unsigned long number_in(const char *name) {
     const char *number = getenv(name);
@@ -55,6 +66,8 @@ static unsigned long number_in(const char *name) {
 static int counted_main(int argc, char **argv, char **envp) {
     number_refused = number_in("FAIL_ALLOC");
     thread_refused = number_in("FAIL_THREAD");
+    large = number_in("FAIL_ALLOC_LARGE");
+    large_while = getenv("FAIL_ALLOC_WHILE");
     in_main = 1;
     int status = program_main(argc, argv, envp);
     in_main = 0;
@@ -72,7 +85,7 @@ int __libc_start_main(main_function *entry, int argc, char **argv, void (*init)(
 void *malloc(size_t size) {
     static void *known;
     void *(*next)(size_t) = (void *(*)(size_t))next_function(&known, "malloc");
-    if (next == NULL || refuses()) {
+    if (next == NULL || refuses(size)) {
         errno = ENOMEM;
         return NULL;
     }
@@ -82,7 +95,7 @@ void *malloc(size_t size) {
 void *calloc(size_t count, size_t size) {
     static void *known;
     void *(*next)(size_t, size_t) = (void *(*)(size_t, size_t))next_function(&known, "calloc");
-    if (next == NULL || refuses()) {
+    if (next == NULL || refuses(count * size)) {
         errno = ENOMEM;
         return NULL;
     }
@@ -92,7 +105,7 @@ void *calloc(size_t count, size_t size) {
 void *realloc(void *block, size_t size) {
     static void *known;
     void *(*next)(void *, size_t) = (void *(*)(void *, size_t))next_function(&known, "realloc");
-    if (next == NULL || refuses()) {
+    if (next == NULL || refuses(size)) {
         errno = ENOMEM;
         return NULL;
     }
@@ -102,7 +115,7 @@ void *realloc(void *block, size_t size) {
 void *aligned_alloc(size_t alignment, size_t size) {
     static void *known;
     void *(*next)(size_t, size_t) = (void *(*)(size_t, size_t))next_function(&known, "aligned_alloc");
-    if (next == NULL || refuses()) {
+    if (next == NULL || refuses(size)) {
         errno = ENOMEM;
         return NULL;
     }
@@ -112,7 +125,7 @@ void *aligned_alloc(size_t alignment, size_t size) {
 int posix_memalign(void **block, size_t alignment, size_t size) {
     static void *known;
     int (*next)(void **, size_t, size_t) = (int (*)(void **, size_t, size_t))next_function(&known, "posix_memalign");
-    if (next == NULL || refuses()) {
+    if (next == NULL || refuses(size)) {
         return ENOMEM;
     }
     return next(block, alignment, size);

@@ -603,6 +603,10 @@ def play_checks():
     figures = "'{0} problems'=3 '{0} unhandled'=2 '{0} stale'=0"
     check("nscagate-check", helper("nscagate-check", east),
           (0, f"NSCAGATE OK - {east}: {counts} | {figures.format(east)}\n", ""))
+    agents = f"127.0.0.1:{daemon.ports['agents']}"
+    check("nscagate-check asks for a greeting", helper("nscagate-check", "--agents", agents, east)[0], 0)
+    check("an agents' port that nobody has", helper("nscagate-check", "--agents", "127.0.0.1:9", east)[:2],
+          (2, f"NSCAGATE CRITICAL - the agents' port 127.0.0.1:9 greets nobody; {east}: {counts} | {figures.format(east)}\n"))
     now = int(time.time())
     closing = answer_with(b"status %d\nclosing;%d\n" % (now, now))
     check("a gateway that closes", helper("nscagate-check", "a=" + closing)[:2],

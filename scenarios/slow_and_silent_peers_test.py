@@ -6,6 +6,7 @@ import os
 import re
 import shutil
 import socket
+import struct
 import subprocess
 import sys
 import tempfile
@@ -17,6 +18,7 @@ from daemon_clients import CONFIGURATION, TIME_LIMIT, Daemon, ask, check, end_te
 
 END = 15.0  # seconds from the answer `closing` to the end of the daemon, at most
 SENDER = 10.0  # seconds after which a send_nsca gives up
+AT_ONCE = 0.5  # seconds: a tenth where nothing else runs, and more beside the other plays
 
 # Of the system's ptrace.h and wait.h.
 PTRACE_DETACH = 17
@@ -148,7 +150,7 @@ def play_a_trickle_at_the_end(program, folder):
 
 
 def play_a_silent_sender(program, folder):
-    """A sender that comes after one silent one is served before it gives up."""
+    """A sender that comes after a silent one is served after a second."""
     daemon = Daemon(program, folder, CONFIGURATION)
     client = shutil.which("send_nsca") or shutil.which("send_nsca", path="/usr/sbin")
     with daemon.connect("agents") as silent:
@@ -165,9 +167,70 @@ def play_a_silent_sender(program, folder):
                                  check=False)
             served = ran.returncode == 0
         took = time.monotonic() - began
-    check("a silent sender: the next one is served", served and 7.0 < took < SENDER, True)
+    print(f"a silent sender: the next one was served after {took:.2f} s", flush=True)
+    check("a silent sender: the next one is served", served and 0.9 < took < 3.0, True)
     check("a silent sender: its result is shown", "after the silence" in daemon.page_with("after the silence"), True)
     shut_down(daemon, "a silent sender", 3.0)
+
+
+def play_many_silent_senders(program, folder):
+    """A sender that comes after 100 silent ones is greeted before it gives up, where there are 16 workers."""
+    daemon = Daemon(program, folder, limited(workers=16))
+    silent = [daemon.connect("agents") for _ in range(100)]
+    began = time.monotonic()
+    served = send_one(daemon, b"after 100", SENDER)
+    took = time.monotonic() - began
+    print(f"many silent senders: the next one was greeted after {took:.2f} s", flush=True)
+    check("many silent senders: the next one is greeted", served, True)
+    check("many silent senders: its result is shown", "after 100" in daemon.page_with("after 100"), True)
+    for connection in silent:
+        connection.close()
+    shut_down(daemon, "many silent senders", 3.0)
+
+
+def play_a_steady_sender(program, folder):
+    """A sender of a packet every 9 seconds keeps the next one out for a second, and is served for as long as it is alone."""
+    daemon = Daemon(program, folder, CONFIGURATION)
+    with daemon.connect("agents") as steady:
+        moment = int.from_bytes(read_exactly(steady, 132)[128:], "big")
+        for number in range(2):
+            steady.sendall(packet(moment, b"web1", b"HTTP", 1, b"steady %d" % number))
+            time.sleep(9.0)
+        steady.sendall(packet(moment, b"web1", b"HTTP", 1, b"steady 2"))
+        began = time.monotonic()
+        check("a steady sender: the next one is served", send_one(daemon, b"the next one", SENDER), True)
+        took = time.monotonic() - began
+    print(f"a steady sender: the next one waited {took:.2f} s", flush=True)
+    check("a steady sender: the next one waits for a second", took < 3.0, True)
+    output = shut_down(daemon, "a steady sender", 3.0)[1]
+    check("a steady sender: all is logged", output.split("\n", 1)[0], "log 4")
+
+
+def end_at_once(daemon, how):
+    """Connects to the agents' port, and ends at once: in order, or by a reset."""
+    with daemon.connect("agents") as connection:
+        if how == "reset":
+            connection.setsockopt(socket.SOL_SOCKET, socket.SO_LINGER, struct.pack("ii", 1, 0))
+
+
+def play_connections_that_end_at_once(program, folder):
+    """A connection whose peer has gone before it is greeted costs no session, nor does one that asks for a greeting alone."""
+    daemon = Daemon(program, folder, limited(sessions=50))
+    # While this one is served, those after it wait, and end before they are greeted.
+    for how in ("in order", "reset"):
+        with daemon.connect("agents") as first:
+            read_exactly(first, 132)
+            for _ in range(100):
+                end_at_once(daemon, how)
+    for _ in range(60):
+        with daemon.connect("agents") as asking:
+            asking.shutdown(socket.SHUT_WR)
+            greeting = read_all(asking)
+        if len(greeting) != 132:
+            check("ended connections: one that asks for a greeting gets it", len(greeting), 132)
+    check("ended connections: a sender is served", send_one(daemon, b"after them"), True)
+    check("ended connections: its result is shown", "after them" in daemon.page_with("after them"), True)
+    shut_down(daemon, "ended connections", 3.0)
 
 
 def play_a_slow_sender(program, folder):
@@ -200,22 +263,24 @@ def large_daemon(program, folder):
     return daemon
 
 
-def held(daemon, what, within):
-    """How long the next reader of a page waits; it has to get the whole page."""
+def check_next_reader(daemon, what, lines=OBJECTS + 3):
+    """The next reader gets the first bytes of its page at once, and the whole page."""
     began = time.monotonic()
-    page = daemon.page()
-    took = time.monotonic() - began
-    print(f"{what}: the next reader waited {took:.2f} s", flush=True)
-    check(f"{what}: the next reader is served in time", took < within, True)
-    check(f"{what}: it gets the whole page", page.count("\n"), OBJECTS + 3)
+    with daemon.connect("pages") as reader:
+        first = reader.recv(1)
+        took = time.monotonic() - began
+        page = first + read_all(reader)
+    print(f"{what}: the next reader waited {took:.3f} s", flush=True)
+    check(f"{what}: the next reader is served in time", took < AT_ONCE, True)
+    check(f"{what}: it gets the whole page", page.count(b"\n"), lines)
 
 
 def play_readers_that_never_read(program, folder):
-    """A reader that takes nothing, or little, of a page holds the others for 10 seconds, and no shutdown for longer."""
+    """Readers that take nothing, or little, of a page hold nobody up, and no shutdown for longer than 10 seconds."""
     daemon = large_daemon(program, folder)
-    with daemon.connect("pages"):
+    with daemon.connect("pages"), daemon.connect("pages"), daemon.connect("pages"):
         time.sleep(0.3)
-        held(daemon, "a reader that never reads", 12.0)
+        check_next_reader(daemon, "readers that never read")
     with daemon.connect("pages") as slow:
         is_over = threading.Event()
 
@@ -230,12 +295,60 @@ def play_readers_that_never_read(program, folder):
         reader = threading.Thread(target=read_slowly)
         reader.start()
         time.sleep(0.3)
-        held(daemon, "a reader of 20 KB a second", 12.0)
+        check_next_reader(daemon, "a reader of 20 KB a second")
         is_over.set()
         reader.join()
     with daemon.connect("pages"):
         time.sleep(0.3)
         shut_down(daemon, "a reader that never reads at the end")
+
+
+def play_readers_that_hold_on(program, folder):
+    """Readers that hold on after their page hold nobody up, up to 300 of them."""
+    daemon = Daemon(program, folder, CONFIGURATION)
+    for count in (20, 128, 300):
+        holding = [daemon.connect("pages") for _ in range(count)]
+        for reader in holding[-100:]:
+            read_all(reader)
+        check_next_reader(daemon, f"{count} readers that hold on", 3)
+        for reader in holding:
+            reader.close()
+    shut_down(daemon, "readers that hold on", 3.0)
+
+
+def play_many_readers_that_never_read(program, folder):
+    """Of 60 readers that take nothing of a page of 8 MB, those that came first are let go of; the daemon keeps 128 MiB for them."""
+    daemon = large_daemon(program, folder)
+    deaf = []
+    for _ in range(60):
+        reader = socket.socket()
+        reader.setsockopt(socket.SOL_SOCKET, socket.SO_RCVBUF, 4096)
+        reader.connect((daemon.hosts["pages"], daemon.ports["pages"]))
+        deaf.append(reader)
+    deaf[-1].settimeout(60.0)
+    first = deaf[-1].recv(1)  # all others have been served
+    check_next_reader(daemon, "60 readers that never read")
+    with open(f"/proc/{daemon.process.pid}/status", encoding="ascii") as file:
+        kilobytes = int(re.search(r"^VmRSS:\s+(\d+) kB$", file.read(), re.MULTILINE)[1])
+    print(f"60 readers that never read: the daemon has {kilobytes // 1024} MiB", flush=True)
+    check("60 readers that never read: the daemon keeps no page for each", kilobytes < 400 * 1024, True)
+    check("60 readers that never read: the first is let go of", len(read_to_its_end(deaf[0])) < 8_000_000, True)
+    check("60 readers that never read: the last is not", (first + read_to_its_end(deaf[-1])).count(b"\n"), OBJECTS + 3)
+    for reader in deaf:
+        reader.close()
+    shut_down(daemon, "60 readers that never read", 4.0)
+
+
+def read_to_its_end(connection):
+    """What comes until a connection ends, also by a reset."""
+    pieces = []
+    connection.settimeout(TIME_LIMIT)
+    try:
+        while piece := connection.recv(65536):
+            pieces.append(piece)
+    except OSError:
+        pass
+    return b"".join(pieces)
 
 
 def play_a_reader_that_writes(program, folder):
@@ -252,8 +365,20 @@ def play_a_reader_that_writes(program, folder):
     shut_down(daemon, "a reader that writes", 3.0)
 
 
+def check_next_operator(daemon, what):
+    """The next operator is answered at once."""
+    began = time.monotonic()
+    with daemon.connect("operators") as other:
+        other.sendall(b"[1] ADD_HOST_COMMENT;web1;0;ann;hi\n")
+        answer = other.recv(100)
+    took = time.monotonic() - began
+    print(f"{what}: the next one waited {took:.3f} s", flush=True)
+    check(f"{what}: the next one is answered", answer[:7], b"queued ")
+    check(f"{what}: it is answered in time", took < AT_ONCE, True)
+
+
 def play_an_operator_that_never_reads(program, folder):
-    """An operator that takes no answer holds the others for 60 seconds, since each answer has that time."""
+    """An operator that takes no answer holds nobody up."""
     daemon = Daemon(program, folder, limited(items=1000000, limit=1000000))
     deaf = socket.socket()
     deaf.setsockopt(socket.SOL_SOCKET, socket.SO_RCVBUF, 4096)
@@ -264,18 +389,92 @@ def play_an_operator_that_never_reads(program, folder):
             deaf.sendall(b"x\n" * 4000)
     except OSError:
         pass
-    began = time.monotonic()
-    with socket.create_connection((daemon.hosts["operators"], daemon.ports["operators"]), 90.0) as other:
-        other.settimeout(90.0)
-        other.sendall(b"[1] ADD_HOST_COMMENT;web1;0;ann;hi\n")
-        other.shutdown(socket.SHUT_WR)
-        answer = read_all(other)
-    took = time.monotonic() - began
-    print(f"an operator that never reads: the next one waited {took:.2f} s", flush=True)
-    check("an operator that never reads: the next one is answered", answer, b"queued 1\n")
-    check("an operator that never reads: within 65 s", took < 65.0, True)
+    check_next_operator(daemon, "an operator that never reads")
+    shut_down(daemon, "an operator that never reads", 4.0)
     deaf.close()
-    shut_down(daemon, "an operator that never reads", 3.0)
+
+
+def play_silent_operators(program, folder):
+    """Operators that send nothing, or a part of a line, hold nobody up, and are let go of after 60 seconds; up to 300 of them."""
+    daemon = Daemon(program, folder, CONFIGURATION)
+    silent = [daemon.connect("operators") for _ in range(3)]
+    silent[2].sendall(b"[1] ADD_HOST")
+    began = time.monotonic()
+    check_next_operator(daemon, "three silent operators")
+    more = [daemon.connect("operators") for _ in range(300)]
+    check_next_operator(daemon, "300 silent operators")
+    check("300 silent operators: the first was let go of", read_to_its_end(silent.pop(0)), b"")
+    more[-1].sendall(b"[1] x\n")
+    check("300 silent operators: the last is served", more[-1].recv(100), b"bad UnknownCommand\n")
+    for connection in more:
+        connection.close()
+    slow = daemon.connect("operators")
+    slow.settimeout(70.0)
+    check("silent operators: they are let go of", slow.recv(1), b"")
+    took = time.monotonic() - began
+    check("silent operators: after a minute", 59.0 < took < 65.0, True)
+    shut_down(daemon, "silent operators", 3.0)
+
+
+def play_an_operator_between_lines(program, folder):
+    """Between two lines of an operator others are served, and a shutdown too; its own connection goes on."""
+    daemon = Daemon(program, folder, CONFIGURATION)
+    with daemon.connect("operators") as talking:
+        for number in range(3):
+            talking.sendall(b"[1] ADD_HOST_COMMENT;web1;0;ann;of the first\n[1] ADD_HO")
+            check("between lines: the first is answered", talking.recv(100), b"queued %d\n" % (2 * number + 1))
+            check_next_operator(daemon, "between lines")
+            talking.sendall(b"ST;1\n")
+            check("between lines: the line goes on", talking.recv(100), b"bad UnknownCommand\n")
+        output = shut_down(daemon, "between lines", 3.0)[1]
+    check("between lines: all is logged", output.split("\n", 1)[0], "log 6")
+
+
+def play_two_talking_operators(program, folder):
+    """Two operators that send without a pause are served in turn: neither waits for the end of the other."""
+    daemon = Daemon(program, folder, limited(items=1000000, limit=1000000, capacity=65536))
+    with daemon.connect("operators") as first, daemon.connect("operators") as second:
+        lines = b"[1] ADD_HOST_COMMENT;web1;0;ann;hi\n" * 100000
+        readers = []
+        for connection in (first, second):
+            threading.Thread(target=send_all, args=(connection, lines + b"x\n")).start()
+            readers.append(threading.Thread(target=lambda connection=connection, place=len(readers): ends.insert(
+                0, (place, read_until(connection, b"bad NoTime\n")))))
+        ends = []
+        for reader in readers:
+            reader.start()
+        time.sleep(0.1)
+        check_next_operator(daemon, "two talking operators")
+        for reader in readers:
+            reader.join()
+    counts = [answers.count(b"queued") for _, answers in ends]
+    check("two talking operators: each line is queued", counts, [100000, 100000])
+    output = shut_down(daemon, "two talking operators", 10.0)[1]
+    check("two talking operators: all is logged", output.split("\n", 1)[0], "log 200001")
+
+
+def read_until(connection, end):
+    """What comes until it ends so."""
+    pieces = [b""]
+    while not (pieces[-2:] and b"".join(pieces[-2:]).endswith(end)):
+        piece = connection.recv(65536)
+        if not piece:
+            break
+        pieces.append(piece)
+    return b"".join(pieces)
+
+
+def play_answers_after_the_lines(program, folder):
+    """An operator that sends 5,000 lines, a shutdown and two lines more, and reads only then, gets all 5,001 answers."""
+    daemon = Daemon(program, folder, limited(capacity=10000))
+    with daemon.connect("operators") as operator:
+        operator.sendall(b"[1] ADD_HOST_COMMENT;web1;0;ann;hi\n" * 5000 + b"[1] SHUTDOWN_PROGRAM\n" + b"[1] x\n" * 2)
+        time.sleep(0.3)
+        answers = read_all(operator).decode().splitlines()
+    check("answers after the lines: all are there",
+          answers, [f"queued {number}" for number in range(1, 5001)] + ["closing"])
+    status, output, errors = daemon.end()
+    check("answers after the lines: all is logged", (status, output.split("\n", 1)[0], errors), (0, "log 5000", ""))
 
 
 def play_too_many_lines(program, folder):
@@ -333,20 +532,9 @@ def end_burst(daemon, senders):
 
 
 def applier_of(daemon):
-    """The thread that rests most often: the applier rests for 2 ms, the others for 100."""
-
-    def rests():
-        found = {}
-        for thread in os.listdir(f"/proc/{daemon.process.pid}/task"):
-            with open(f"/proc/{daemon.process.pid}/task/{thread}/status", encoding="ascii") as file:
-                found[int(thread)] = int(re.search(r"^voluntary_ctxt_switches:\s+(\d+)$", file.read(), re.MULTILINE)[1])
-        return found
-
+    """The applier's thread, which is the first one that is started."""
     ask(daemon, "[1] x")  # all threads have started
-    before = rests()
-    time.sleep(1.0)
-    after = rests()
-    return max(after, key=lambda thread: after[thread] - before.get(thread, 0))
+    return sorted(int(thread) for thread in os.listdir(f"/proc/{daemon.process.pid}/task"))[1]
 
 
 def hold(thread, seconds):
@@ -482,19 +670,93 @@ def play_bursts(program, folder):
                 check("a burst: a sender's packets are logged once, in order", ones, list(range(len(ones))))
 
 
+def processor_seconds(daemon):
+    """What the threads of a daemon used so far."""
+    sum_of_all = 0
+    for thread in os.listdir(f"/proc/{daemon.process.pid}/task"):
+        with open(f"/proc/{daemon.process.pid}/task/{thread}/schedstat", encoding="ascii") as file:
+            sum_of_all += int(file.read().split()[0])
+    return sum_of_all / 1e9
+
+
 def play_nothing(program, folder):
-    """A daemon that nobody asks takes less than a hundredth of a processor; here two are allowed, for a slow machine."""
-    daemon = Daemon(program, folder, CONFIGURATION)
-    time.sleep(1.0)
-    used = []
-    for _ in range(2):
-        with open(f"/proc/{daemon.process.pid}/stat", encoding="ascii") as file:
-            fields = file.read().rsplit(")", 1)[1].split()
-        used.append((int(fields[11]) + int(fields[12])) / os.sysconf("SC_CLK_TCK"))
+    """A daemon that nobody asks takes less than a thousandth of a processor, with 63 workers too; twice that on a slow machine."""
+    for workers in (1, 63):
+        daemon = Daemon(program, folder, limited(workers=workers))
+        time.sleep(1.0)
+        before = processor_seconds(daemon)
         time.sleep(10.0)
-    print(f"an idle daemon used {used[1] - used[0]:.2f} s of 10", flush=True)
-    check("an idle daemon is idle", used[1] - used[0] <= 0.2, True)
-    shut_down(daemon, "an idle daemon", 2.0)
+        used = processor_seconds(daemon) - before
+        print(f"an idle daemon with {workers} workers used {used * 1000:.1f} ms of 10 s", flush=True)
+        check("an idle daemon is idle", used <= 0.02, True)
+        shut_down(daemon, "an idle daemon", 2.0)
+
+
+def play_few_descriptors(program, folder):
+    """Where the system grants fewer descriptors than the daemon needs, it doesn't start, and names the address."""
+    path = os.path.join(folder, "gateway.toml")
+    with open(path, "w", encoding="ascii") as file:
+        file.write(limited(workers=16))
+    ran = subprocess.run(["sh", "-c", f"ulimit -n 32; exec {program} serve --config {path}"], capture_output=True, text=True,
+                         timeout=TIME_LIMIT, check=False)
+    check("few descriptors: it doesn't start", (ran.returncode, ran.stdout, ran.stderr), (4, "", "nscagate: bind 127.0.0.1:0\n"))
+
+
+def starved_daemon(program, folder, configuration, large):
+    """A daemon, and a file: while it is there, requests for so many bytes or more are refused. None where that can't be done."""
+    compiler = shutil.which("cc") or shutil.which("gcc")
+    if compiler is None:
+        print("without memory ... skipped: there is no C compiler", flush=True)
+        return None
+    library = os.path.join(folder, "fail_alloc.so")
+    source = os.path.join(os.path.dirname(os.path.abspath(__file__)), "fail_alloc.c")
+    subprocess.run([compiler, "-shared", "-fPIC", "-O2", "-o", library, source, "-ldl"], check=True)
+    refusing = os.path.join(folder, "refusing")
+    program_path = os.path.join(folder, "starved")
+    with open(program_path, "w", encoding="ascii") as file:
+        file.write(f"#!/bin/sh\nLD_PRELOAD={library} FAIL_ALLOC_LARGE={large} FAIL_ALLOC_WHILE={refusing} exec {os.path.abspath(program)} \"$@\"\n")
+    os.chmod(program_path, 0o700)
+    return Daemon(program_path, folder, configuration), refusing
+
+
+def play_no_memory_for_a_record(program, folder):
+    """Where there is no memory for the next record, a shutdown ends the daemon, and the log page shows what was applied."""
+    started = starved_daemon(program, folder, limited(limit=1000000, items=1000000), 1 << 20)
+    if started is None:
+        return
+    daemon, refusing = started
+    open(refusing, "w", encoding="ascii").close()
+    with daemon.connect("operators") as operator:
+        operator.settimeout(60.0)
+        threading.Thread(target=send_all, args=(operator, b"[1] ADD_HOST_COMMENT;web1;0;ann;hi\n" * 40000)).start()
+        answers = read_until(operator, b"full\n")
+    queued = answers.count(b"queued")
+    check("no memory for a record: lines are refused once the queue is full", queued > 1000, True)
+    check("no memory for a record: a shutdown is answered", ask(daemon, "[1] SHUTDOWN_PROGRAM"), ["closing"])
+    began = time.monotonic()
+    status, output, errors = daemon.end(60.0)
+    took = time.monotonic() - began
+    print(f"no memory for a record: ended {took:.2f} s after the answer", flush=True)
+    check("no memory for a record: it ends in time", took < END, True)
+    check("no memory for a record: it is reported", (status, errors), (3, "nscagate: OutOfMemory\n"))
+    logged = int(output.split("\n", 1)[0].split()[1]) if output.startswith("log ") else 0
+    check("no memory for a record: what was applied is logged", queued - 257 <= logged <= queued and output.count("\n") == logged + 1, True)
+
+
+def play_no_memory_for_a_board(program, folder):
+    """Where there is no memory for a last board, a shutdown ends the daemon, and all is logged."""
+    services = "".join(f'[[host.service]]\nname = "S{number}"\n' for number in range(900))
+    hosts = "".join(f'[[host]]\nname = "web{number}"\n{services}' for number in range(2))
+    started = starved_daemon(program, folder, CONFIGURATION.split("[[host]]")[0] + hosts, 1 << 16)
+    if started is None:
+        return
+    daemon, refusing = started
+    check("no memory for a board: a line is answered", ask(daemon, "[1] ADD_HOST_COMMENT;web1;0;ann;hi"), ["queued 1"])
+    daemon.page_with("comment;1;")
+    open(refusing, "w", encoding="ascii").close()
+    check("no memory for a board: a line is answered", ask(daemon, "[1] ADD_HOST_COMMENT;web1;0;ann;hi"), ["queued 2"])
+    output = shut_down(daemon, "no memory for a board")[1]
+    check("no memory for a board: all is logged", output.split("\n", 1)[0], "log 2")
 
 
 PLAYS = [play for name, play in sorted(globals().items()) if name.startswith("play_")]

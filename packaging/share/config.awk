@@ -4,6 +4,7 @@
 
 # Sets address[KEY], most_items, and threshold[NAME] of each object, whose NAME is HOST;SERVICE as on a status page.
 function read_config(path,    text, number, got) {
+    address["agents"] = "127.0.0.1:5667"
     address["operators"] = "127.0.0.1:5668"
     address["pages"] = "127.0.0.1:5669"
     most_items = 10000

@@ -1,7 +1,8 @@
 use crate::fakes::{packet, settings};
 use crate::gateways::left_by;
 use gate_daemon::{Endpoint, Endpoints, run_gateway};
-use gate_worker::{Accepted, Ending, NoHold, SystemWatch, by_turns};
+use gate_ports::{AgentsPort, OperatorsPort, PagesPort, Ports, SystemWatch};
+use gate_worker::NoHold;
 use std::alloc::Global;
 use std::io::{Read, Write};
 use std::net::{Net, Shutdown, SocketAddr, TcpListener, TcpStream};
@@ -48,33 +49,41 @@ fn talk<R: Net<Listener = TcpListener, Stream = TcpStream>>(
     Ok(&queued == b"queued 1\n" && &page == b"status " && &closing == b"closing\n")
 }
 
-// Runs a gateway on these listeners: how many records it left.
-fn serve<R: Net<Listener = TcpListener, Stream = TcpStream> + Threads + Wait + Clock + Sync>(
-    rt: &R,
-    alloc: Global,
-    agents: TcpListener,
-    operators: TcpListener,
-    pages: TcpListener,
-) -> Option<usize> {
-    let ending = Ending::new();
+// Runs a gateway on these ports: how many records it left.
+fn serve<R: Threads + Wait + Clock + Sync>(rt: &R, alloc: Global, ports: &Ports) -> Option<usize> {
     let settings = settings(alloc, 1)?;
     let mut of_agents = Vec::with_capacity(alloc, 1).ok()?;
     of_agents.push_reserved(Endpoint {
-        connections: Accepted::of_agents(rt, agents, &ending),
+        connections: ports.agents.connections(rt, alloc),
         hold: NoHold,
     });
     let endpoints = Endpoints {
         agents: of_agents,
         operator: Endpoint {
-            connections: Accepted::of_operators(rt, operators, &ending),
+            connections: ports.operators.connections(rt),
             hold: NoHold,
         },
-        pages: Accepted::of_readers(rt, pages, &ending),
+        pages: ports.pages.connections(rt),
         applier: NoHold,
     };
     let watch = SystemWatch { rt };
-    let left = left_by(run_gateway(rt, alloc, settings, endpoints, &watch, &ending))?;
+    let left = left_by(run_gateway(rt, alloc, settings, endpoints, &watch, ports))?;
     Some(left.records)
+}
+
+// The ports of these listeners.
+fn ports_of<R: Net + Clock>(
+    rt: &R,
+    alloc: Global,
+    agents: TcpListener,
+    operators: TcpListener,
+    pages: TcpListener,
+) -> io::Result<Ports> {
+    Ok(Ports {
+        agents: AgentsPort::new(agents)?,
+        operators: OperatorsPort::new(rt, alloc, operators)?,
+        pages: PagesPort::new(rt, alloc, pages)?,
+    })
 }
 
 fn is_served<R: Net<Listener = TcpListener, Stream = TcpStream> + Threads + Wait + Clock + Sync>(
@@ -84,18 +93,19 @@ fn is_served<R: Net<Listener = TcpListener, Stream = TcpStream> + Threads + Wait
     let Some(bytes) = packet(alloc) else {
         return Ok(None);
     };
-    let agents = by_turns(TcpListener::bind(rt, "127.0.0.1:0")?)?;
-    let operators = by_turns(TcpListener::bind(rt, "127.0.0.1:0")?)?;
-    let pages = by_turns(TcpListener::bind(rt, "127.0.0.1:0")?)?;
+    let agents = TcpListener::bind(rt, "127.0.0.1:0")?;
+    let operators = TcpListener::bind(rt, "127.0.0.1:0")?;
+    let pages = TcpListener::bind(rt, "127.0.0.1:0")?;
     let addresses = (
         agents.local_addr()?,
         operators.local_addr()?,
         pages.local_addr()?,
     );
+    let ports = ports_of(rt, alloc, agents, operators, pages)?;
     let (answered, records) = thread::join(
         rt,
         || talk(rt, addresses, &bytes),
-        || serve(rt, alloc, agents, operators, pages),
+        || serve(rt, alloc, &ports),
     );
     Ok(Some(answered? && records == Some(2)))
 }

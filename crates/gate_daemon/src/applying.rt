@@ -14,15 +14,17 @@ use gate_model::{Moment, Numbered};
 use gate_pages::Board;
 use gate_queue::{Gate, Taker};
 use gate_reader::Clock;
+use gate_worker::times::PAUSE_MILLIS;
 use gate_worker::{Hold, Point, pause};
 use std::alloc::Global;
 use std::sync::{Mutex, Wait};
 use std::time;
+use std::time::{Duration, Instant, SystemTime};
 
 /// Why the applier stopped. Own rules.
 #[derive(Clone, Copy, Debug, PartialEq, Eq)]
 pub enum ApplierStop {
-    /// The queue was empty, and the gate is closing.
+    /// The gate is closing, and the queue was empty or there was no memory for one more record.
     Closing,
     /// The log is full.
     LogFull,
@@ -129,8 +131,8 @@ fn go_on<K: Clock>(applier: &mut Applier, clock: &mut K)
 }
 
 // Publishes a board, where one is due. Where no item was found, the applier goes on with the clock
-// before it, and rests after it.
-fn show_turn<R: Wait + time::Clock, K: Clock>(
+// before it.
+fn show_turn<R: Wait, K: Clock>(
     rt: &R,
     alloc: Global,
     applier: &mut Applier,
@@ -153,23 +155,66 @@ fn show_turn<R: Wait + time::Clock, K: Clock>(
         Found::Item => show(rt, alloc, applier, found, last, board),
         Found::Nothing => {
             go_on(applier, clock);
-            let shown = show(rt, alloc, applier, found, last, board);
-            // No call waits for the queue to have an item, so the applier looks every 2 ms.
-            pause(rt);
-            shown
+            show(rt, alloc, applier, found, last, board)
         }
     }
+}
+
+// The time until the clock's next second.
+fn until_next_second<R: time::Clock>(rt: &R) -> Duration {
+    let now = SystemTime::now(rt).ok();
+    let since = now.and_then(|now| now.duration_since(SystemTime::UNIX_EPOCH).ok());
+    let within = since.map_or(0, |since| since.subsec_millis());
+    Duration::from_millis(1_000 - u64::from(within))
+}
+
+// Rests until an item is queued or the gate is closed, where the queue was empty: for a pause where a
+// board is still due, and otherwise until the clock's next second.
+fn rest_after<R: Wait + time::Clock>(
+    rt: &R,
+    gate: &Gate,
+    taker: &mut Taker,
+    applier: &Applier,
+    attempt: Attempt,
+    last: LastBoard,
+) -> LastBoard
+    requires gate { taker.old.gate ≡ gate.now }
+    requires pauses { last.pauses_left ≤ 25 }
+    ensures gate { taker.new.gate ≡ taker.old.gate }
+    ensures taken { taker.new.taken ≡ taker.old.taken }
+    ensures ended { taker.new.ended ≡ taker.old.ended }
+    ensures pauses { result.pauses_left ≤ 25 }
+{
+    match attempt {
+        Attempt::Took(Found::Nothing) => {}
+        // An item may be queued that can't be applied, for which it would not rest.
+        Attempt::OutOfMemory => {
+            pause(rt);
+            return last;
+        }
+        Attempt::Took(Found::Item) | Attempt::LogFull => return last,
+    }
+    let most = if last.shows_all(applier.records().len(), applier.moment()) {
+        until_next_second(rt)
+    } else {
+        Duration::from_millis(PAUSE_MILLIS)
+    };
+    let began = Instant::now(rt);
+    taker.rest(rt, gate, most);
+    let rested = began.and_then(|began| began.elapsed(rt));
+    last.after_rest(rested.unwrap_or(Duration::from_millis(PAUSE_MILLIS)))
 }
 
 /// Takes and applies the items of the queue, one by one, each at the clock's moment or the
 /// applier's, whichever is later. While no item comes it goes on to the clock's moment, and publishes
 /// a board where something was applied or a second has passed, at most every 50 ms. While items come
-/// one after another a board is published each second.
+/// one after another a board is published each second. It sleeps until an item is queued or the gate
+/// is closed, and wakes each second.
 ///
-/// It stops where the queue is empty and the gate is closing, and where the log is full, once a
-/// board shows all of it: the queue fills up then, and nobody waits for room in it. Where memory is
-/// missing, it tries again. It waits for items, and for other threads at the queue and at the board.
-/// Own rule.
+/// It stops where the gate is closing and the queue is empty or memory for one more record is missing,
+/// and where the log is full, once a board shows all of it or memory for one is missing for a second:
+/// the queue fills up then, and nobody waits for room in it. Where memory is missing and the gate is open, it tries again. It waits for items, and
+/// for other threads at the queue and at the board. Own rule.
 pub fn run_applier<R: Wait + time::Clock, K: Clock, H: Hold + Drop>(
     rt: &R,
     alloc: Global,
@@ -211,9 +256,8 @@ pub fn run_applier<R: Wait + time::Clock, K: Clock, H: Hold + Drop>(
                 show_last(rt, alloc, &applier, board);
                 return (taker, applier, ApplierStop::LogFull);
             }
-            Attempt::OutOfMemory => Found::Nothing,
             Attempt::Took(Found::Item) => Found::Item,
-            Attempt::Took(Found::Nothing) => {
+            Attempt::Took(Found::Nothing) | Attempt::OutOfMemory => {
                 if taker.look(gate).is_some() {
                     return (taker, applier, ApplierStop::Closing);
                 }
@@ -221,6 +265,7 @@ pub fn run_applier<R: Wait + time::Clock, K: Clock, H: Hold + Drop>(
             }
         };
         last = show_turn(rt, alloc, &mut applier, found, clock, last, board);
+        last = rest_after(rt, gate, &mut taker, &applier, attempt, last);
     }
     unreachable!()
 }

@@ -7,10 +7,10 @@ use gate_applier::Applier;
 use gate_model::Moment;
 use gate_pages::{Board, publish};
 use gate_worker::pause;
-use gate_worker::times::{BOARD_PAUSES, QUIET_PAUSES};
+use gate_worker::times::{BOARD_PAUSES, MEMORY_TRIES, PAUSE_MILLIS, QUIET_PAUSES};
 use std::alloc::{AllocError, Global};
 use std::sync::{Mutex, Wait};
-use std::time::Clock;
+use std::time::{Clock, Duration};
 
 /// What the applier found in the queue.
 #[derive(Clone, Copy, Debug, PartialEq, Eq)]
@@ -36,6 +36,28 @@ pub(crate) struct LastBoard {
     pub(crate) pauses_left: u32,
 }
 
+impl LastBoard {
+    /// Whether it was published, and shows so many records and this moment.
+    pub(crate) fn shows_all(&self, records: usize, now: Moment) -> bool
+        ensures { result ≡ shows_all self.now records now }
+    {
+        self.published.is_some() && self.records == records && now.0 <= self.moment.0
+    }
+
+    /// The same after a rest of this time, of which a pause was counted already.
+    pub(crate) fn after_rest(self, rested: Duration) -> LastBoard
+        ensures same { result ≡ record self { pauses_left = result.pauses_left } }
+        ensures fewer { result.pauses_left ≤ self.pauses_left }
+    {
+        let pauses = rested.as_millis() / u128::from(PAUSE_MILLIS);
+        let more = u32::try_from(pauses).unwrap_or(u32::MAX).saturating_sub(1);
+        LastBoard {
+            pauses_left: self.pauses_left.saturating_sub(more),
+            ..self
+        }
+    }
+}
+
 /// Whether a board is tried now, and how many pauses then stand before the next one.
 #[derive(Clone, Copy, Debug, PartialEq, Eq)]
 pub(crate) struct NextBoard {
@@ -56,7 +78,7 @@ pub(crate) fn next_board(last: LastBoard, found: Found, records: usize, now: Mom
     // While items come, no second passes without one.
     ensures second { found ≡ Item → result.is_due ≡ false → now.0 ≤ last.moment.0 }
 {
-    let shows_all = last.published.is_some() && last.records == records && now.0 <= last.moment.0;
+    let shows_all = last.shows_all(records, now);
     let is_due = match found {
         Found::Item => last.moment.0 < now.0,
         Found::Nothing => last.pauses_left == 0 && !shows_all,
@@ -137,18 +159,18 @@ pub(crate) fn show<R: Wait>(
     }
 }
 
-/// Publishes a board of what the applier shows, once there is memory for it.
+/// Publishes a board of what the applier shows. Where there is no memory for it, it is tried for a
+/// second.
 pub(crate) fn show_last<R: Wait + Clock>(
     rt: &R,
     alloc: Global,
     applier: &Applier,
     board: &Mutex<Board>,
 ) {
-    for _ in rt.forever() {
+    for _ in 0..MEMORY_TRIES {
         if try_show(rt, alloc, applier, board).is_some() {
             return;
         }
         pause(rt);
     }
-    unreachable!()
 }

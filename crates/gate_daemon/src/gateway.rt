@@ -152,7 +152,9 @@ fn finish<R: Wait, K: gate_reader::Clock>(
 // Runs a gateway that is opened, and drains it.
 fn run_opened<
     R: Threads + Wait + Clock + Sync,
-    C: Connections + Send + Drop,
+    A: Connections + Send + Drop,
+    O: Connections + Send + Drop,
+    P: Connections + Send + Drop,
     H: Hold + Send + Drop,
     K: Watch + Sync,
     W: Wake + Sync,
@@ -160,7 +162,7 @@ fn run_opened<
     rt: &R,
     alloc: Global,
     parts: Parts,
-    endpoints: Endpoints<C, H>,
+    endpoints: Endpoints<A, O, P, H>,
     clock: &K,
     wake: &W,
     limits: WorkerLimits,
@@ -235,7 +237,9 @@ fn run_opened<
 /// It waits for all of its threads. Own rule.
 pub fn run_gateway<
     R: Threads + Wait + Clock + Sync,
-    C: Connections + Send + Drop,
+    A: Connections + Send + Drop,
+    O: Connections + Send + Drop,
+    P: Connections + Send + Drop,
     H: Hold + Send + Drop,
     K: Watch + Sync,
     W: Wake + Sync,
@@ -243,7 +247,7 @@ pub fn run_gateway<
     rt: &R,
     alloc: Global,
     settings: GatewaySettings,
-    endpoints: Endpoints<C, H>,
+    endpoints: Endpoints<A, O, P, H>,
     clock: &K,
     wake: &W,
 ) -> Result<Finished, GatewayFault>

@@ -18,12 +18,12 @@ use std::time::Clock;
 
 // What the threads of a gateway begin with, but for their gate and board.
 #[derive(Drop)]
-pub(crate) struct Start<C, H> {
+pub(crate) struct Start<A, O, P, H> {
     pub(crate) taker: Taker,
     pub(crate) applier: Applier,
     pub(crate) closer: Closer,
-    pub(crate) workers: Workers<C, H>,
-    pub(crate) pages: C,
+    pub(crate) workers: Workers<A, O, H>,
+    pub(crate) pages: P,
     pub(crate) hold: H,
 }
 
@@ -32,14 +32,16 @@ pub(crate) fn run_threads<
     's,
     E,
     R: Threads + Wait + Clock + Sync,
-    C: Connections + Send + Drop + 's,
+    A: Connections + Send + Drop + 's,
+    O: Connections + Send + Drop + 's,
+    P: Connections + Send + Drop + 's,
     H: Hold + Send + Drop + 's,
     K: Watch + Sync,
     W: Wake,
 >(
     shared: &Shared<'s, R, K, W>,
     scope: &Scope<'s, E>,
-    start: Start<C, H>,
+    start: Start<A, O, P, H>,
     board: &'s Mutex<Board>,
 ) -> Result<Joined, Unstarted>
     requires applied { IsApplied shared.now.gate.now start.taker start.applier }
@@ -93,13 +95,15 @@ pub(crate) fn run_threads<
 // Runs all threads in a scope.
 pub(crate) fn run_scoped<
     R: Threads + Wait + Clock + Sync,
-    C: Connections + Send + Drop,
+    A: Connections + Send + Drop,
+    O: Connections + Send + Drop,
+    P: Connections + Send + Drop,
     H: Hold + Send + Drop,
     K: Watch + Sync,
     W: Wake + Sync,
 >(
     shared: &Shared<'_, R, K, W>,
-    start: Start<C, H>,
+    start: Start<A, O, P, H>,
     board: &Mutex<Board>,
 ) -> Result<Joined, Unstarted>
     requires applied { IsApplied shared.now.gate.now start.taker start.applier }

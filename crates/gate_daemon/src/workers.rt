@@ -26,11 +26,11 @@ fn unlimited(limits: WorkerLimits) -> WorkerLimits
 // The workers before they start: the clients and endpoints of those of packets, those of the operator's
 // worker, and room for what all of them return.
 #[derive(Drop)]
-pub(crate) struct Workers<C, H> {
+pub(crate) struct Workers<A, O, H> {
     pub(crate) clients: Vec<Client>,
-    pub(crate) endpoints: Vec<Endpoint<C, H>>,
+    pub(crate) endpoints: Vec<Endpoint<A, H>>,
     pub(crate) operator: Client,
-    pub(crate) operator_endpoint: Endpoint<C, H>,
+    pub(crate) operator_endpoint: Endpoint<O, H>,
     pub(crate) collected: Collected,
 }
 
@@ -95,14 +95,15 @@ pub(crate) fn run_workers<
     's,
     E,
     R: Threads + Wait + Clock + Sync,
-    C: Connections + Send + Drop + 's,
+    A: Connections + Send + Drop + 's,
+    O: Connections + Send + Drop + 's,
     H: Hold + Send + Drop + 's,
     K: Watch + Sync,
     W: Wake,
 >(
     shared: &Shared<'s, R, K, W>,
     scope: &Scope<'s, E>,
-    workers: Workers<C, H>,
+    workers: Workers<A, O, H>,
     closer: &mut Closer,
 ) -> (Collected, Option<Cause>)
     requires new { AreNew shared.now.gate.now

@@ -49,7 +49,8 @@ impl Client {
     ///
     /// It fails with Closing where the gate is closing, with Spent where the client's quota is used
     /// up, and with Full where the queue is full, tested in this order. The body is returned. It
-    /// waits while other threads are in the midst of a step at the queue. Own rule.
+    /// waits while other threads are in the midst of a step at the queue. A taker that rests is woken.
+    /// Own rule.
     pub fn submit<R: Wait>(&mut self, rt: &R, gate: &Gate, body: Body) -> Result<u64, Refused>
         requires { self.old.gate ≡ gate.now }
         ensures number { IfOk result (λ number. number ≡ length self.old.queued + 1) }
@@ -73,6 +74,7 @@ impl Client {
         };
         match gate.ring.push_as::<Push, R>(rt, &mut self.pass, item) {
             Ok(()) => {
+                gate.bell.ring();
                 self.count += 1;
                 Ok(self.count)
             }

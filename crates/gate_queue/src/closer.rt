@@ -30,7 +30,7 @@ impl Closer {
     ///
     /// It fails with AlreadyClosing where a close was first, and then the closer knows of that one.
     /// It fails with OutOfMemory where there is no room for the moment; nothing is closed then. A
-    /// closer that knows of a close takes no memory. Own rule.
+    /// closer that knows of a close takes no memory. A taker that rests is woken. Own rule.
     pub fn close(
         &mut self,
         alloc: Global,
@@ -51,10 +51,13 @@ impl Closer {
             return Err(CloseFault::OutOfMemory);
         };
         match self.knowledge.set(&gate.cell, value) {
-            Ok(()) => Ok(Notice {
-                knowledge: self.knowledge.again(),
-                moment,
-            }),
+            Ok(()) => {
+                gate.bell.ring();
+                Ok(Notice {
+                    knowledge: self.knowledge.again(),
+                    moment,
+                })
+            }
             Err(first) => Err(CloseFault::AlreadyClosing(first)),
         }
     }

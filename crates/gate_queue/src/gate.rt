@@ -1,5 +1,6 @@
 ghost use Rattle.std.specs.Prelude.{◌≡◌};
 
+use crate::bell::Bell;
 use crate::rule::Ring;
 use gate_model::Moment;
 use once_cell::race::OnceBox;
@@ -15,6 +16,7 @@ pub struct Gate {
     pub(crate) clients: u32,
     pub(crate) quota: u32,
     pub(crate) is_taking: AtomicBool,
+    pub(crate) bell: Bell,
 }
 
 impl Model for Gate {

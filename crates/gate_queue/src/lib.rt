@@ -4,6 +4,7 @@
 //! was answered is queued. No lock covers the queue and the close.
 #![tactic(auto)]
 
+mod bell;
 mod client;
 mod closer;
 mod gate;

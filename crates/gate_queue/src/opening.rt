@@ -11,6 +11,7 @@ ghost use Rattle.gate_queue.specs.Opening.{new_clients};
 ghost use Rattle.gate_queue.specs.Gate.{gate_id};
 ghost use Rattle.gate_queue.specs.inner.Rule.{opener, taker};
 
+use crate::bell::Bell;
 use crate::client::Client;
 use crate::closer::Closer;
 use crate::gate::Gate;
@@ -124,6 +125,7 @@ fn open_all(alloc: Global, bounds: Bounds) -> Result<(Gate, Taker, Closer, Vec<C
         clients: bounds.clients,
         quota: bounds.quota,
         is_taking: AtomicBool::new(true),
+        bell: Bell::new(),
     };
     Ok((gate, taker, closer, clients))
 }

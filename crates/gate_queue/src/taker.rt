@@ -13,6 +13,7 @@ use crossbeam_queue::Pass;
 use gate_model::{Moment, Numbered};
 use std::marker::Model;
 use std::sync::Wait;
+use std::time::Duration;
 
 /// The taker, which empties a gate's queue. Contracts see its gate, what was taken, what was queued
 /// for the clients taken in, and the moment of the close, once the taker knows of it.
@@ -65,6 +66,22 @@ impl Taker {
         ensures same { IfSome self.old.known_close (λ known. result ≡ Some known) }
     {
         self.knowledge.look(&gate.cell)
+    }
+
+    /// Rests until an item is queued or the gate is closed, and for this time at most. It returns at
+    /// once where an item is queued or the gate is closing, and may return sooner than it has to. Own
+    /// rule.
+    pub fn rest<R: Wait>(&mut self, rt: &R, gate: &Gate, most: Duration)
+        requires { self.old.gate ≡ gate.now }
+        ensures same { self.new ≡ taker_state
+            self.old.gate self.old.taken self.old.ended self.new.known_close }
+        ensures known { IfSome self.old.known_close (λ known. self.new.known_close ≡ Some known) }
+    {
+        gate.bell.lie_down();
+        if gate.ring.is_empty_as::<Pop>(&mut self.pass) && self.look(gate).is_none() {
+            gate.bell.sleep(rt, most);
+        }
+        gate.bell.get_up();
     }
 
     /// Learns of the close from a notice.

@@ -1,36 +1,34 @@
-ghost use Rattle.std.specs.Prelude.{◌≡◌, ◌≤◌, IfErr, IfOk, IsTrue, vec_len};
+ghost use Rattle.std.specs.Prelude.{◌≡◌, IfErr, IfOk, IsTrue};
 ghost use Rattle.gate_serve.specs.BeforeServing.{AreBoundAs, IsAddressIn, IsBindEnd, IsBoundAs};
 
 use crate::fault::ServeFault;
 use gate_config::{Address, Config};
 use gate_model::Text;
-use gate_worker::by_turns;
+use gate_ports::{AgentsPort, OperatorsPort, PagesPort, Ports};
 use std::alloc::Global;
 use std::io;
 use std::io::ErrorKind;
 use std::net::{Net, SocketAddr, TcpListener, TcpStream};
+use std::time::Clock;
 
-/// A listener whose `accept` waits for a turn at most, with the address that it is bound to. Where a
-/// configuration has port 0, the system chose the port.
+// How many descriptors are needed beside those of the agents' workers, at least.
+const SPARE_DESCRIPTORS: u32 = 16;
+
+/// A port, with the address that it is bound to. Where a configuration has port 0, the system chose the
+/// port.
 #[derive(Drop)]
-pub(crate) struct Bound {
-    pub(crate) listener: TcpListener,
+pub(crate) struct Bound<P> {
+    pub(crate) port: P,
     pub(crate) address: SocketAddr,
 }
 
-/// Listeners of one socket: each connection to its address is accepted by one of them.
+/// The daemon's ports, and the addresses of agents, of operators and of pages.
 #[derive(Drop)]
-pub(crate) struct Shared {
-    pub(crate) listeners: Vec<TcpListener>,
-    pub(crate) address: SocketAddr,
-}
-
-/// The daemon's listeners: of agents one for each agents' worker, of operators and of pages one.
-#[derive(Drop)]
-pub(crate) struct Listeners {
-    pub(crate) agents: Shared,
-    pub(crate) operators: Bound,
-    pub(crate) pages: Bound,
+pub(crate) struct Listening {
+    pub(crate) ports: Ports,
+    pub(crate) agents: SocketAddr,
+    pub(crate) operators: SocketAddr,
+    pub(crate) pages: SocketAddr,
 }
 
 fn is_bound_as(configured: SocketAddr, address: SocketAddr) -> bool
@@ -43,100 +41,118 @@ fn is_bound_as(configured: SocketAddr, address: SocketAddr) -> bool
 fn bind_socket<R: Net<Listener = TcpListener, Stream = TcpStream>>(
     rt: &R,
     socket: SocketAddr,
-) -> io::Result<Bound>
+) -> io::Result<Bound<TcpListener>>
     ensures { IfOk result (λ bound. IsBoundAs socket bound.address) }
 {
-    let listener = by_turns(TcpListener::bind(rt, socket)?)?;
-    let address = listener.local_addr()?;
+    let port = TcpListener::bind(rt, socket)?;
+    let address = port.local_addr()?;
     if !is_bound_as(socket, address) {
         return Err(io::Error::from(ErrorKind::AddrNotAvailable));
     }
-    Ok(Bound { listener, address })
+    Ok(Bound { port, address })
 }
 
-// The fault of an address that can't be bound.
-fn bind_fault(alloc: Global, address: &Address) -> ServeFault
+// The fault of an address that can't be bound for this cause.
+fn bind_fault(alloc: Global, address: &Address, error: io::Error) -> ServeFault
     ensures { IsBindEnd (λ text. text ≡ address.now.text) result }
 {
+    if error.kind() == ErrorKind::OutOfMemory {
+        return ServeFault::OutOfMemory;
+    }
     match Text::copied(alloc, address.text.bytes()) {
         Ok(text) => ServeFault::Bind(text),
         Err(_) => ServeFault::OutOfMemory,
     }
 }
 
-fn bind<R: Net<Listener = TcpListener, Stream = TcpStream>>(
+// Whether the system grants so many descriptors: they are those of peers, once the daemon serves.
+fn grants_descriptors(alloc: Global, listener: &TcpListener, count: u32) -> io::Result<()> {
+    let mut taken = Vec::with_capacity(alloc, count as usize)?;
+    for _ in 0..count {
+        taken.push(listener.try_clone()?)?;
+    }
+    Ok(())
+}
+
+fn bind_agents<R: Net<Listener = TcpListener, Stream = TcpStream>>(
     rt: &R,
     alloc: Global,
-    address: &Address,
-) -> Result<Bound, ServeFault>
-    ensures bound { IfOk result (λ bound. IsBoundAs address.now.socket bound.address) }
-    ensures err { IfErr result (IsBindEnd (λ text. text ≡ address.now.text)) }
+    socket: SocketAddr,
+    workers: u32,
+) -> io::Result<Bound<AgentsPort>>
+    ensures { IfOk result (λ bound. IsBoundAs socket bound.address) }
 {
-    match bind_socket(rt, address.socket) {
-        Ok(bound) => Ok(bound),
-        Err(_) => Err(bind_fault(alloc, address)),
-    }
+    let Bound { port, address } = bind_socket(rt, socket)?;
+    grants_descriptors(alloc, &port, workers.saturating_add(SPARE_DESCRIPTORS))?;
+    Ok(Bound {
+        port: AgentsPort::new(port)?,
+        address,
+    })
 }
 
-// So many listeners of the socket of one.
-fn share(alloc: Global, listener: TcpListener, count: u32) -> io::Result<Vec<TcpListener>>
-    requires { 1 ≤ count }
-    ensures { IfOk result (λ listeners. vec_len listeners ≡ count) }
-{
-    let mut listeners = Vec::with_capacity(alloc, count as usize)?;
-    for _ in 1..count {
-        listeners.push_reserved(listener.try_clone()?);
-    }
-    listeners.push_reserved(listener);
-    Ok(listeners)
-}
-
-// Binds an address once, for so many listeners.
-fn bind_shared<R: Net<Listener = TcpListener, Stream = TcpStream>>(
+fn bind_operators<R: Net<Listener = TcpListener, Stream = TcpStream> + Clock>(
     rt: &R,
     alloc: Global,
-    address: &Address,
-    count: u32,
-) -> Result<Shared, ServeFault>
-    requires { 1 ≤ count }
-    ensures bound { IfOk result (λ bound. IsBoundAs address.now.socket bound.address) }
-    ensures count { IfOk result (λ bound. vec_len bound.listeners ≡ count) }
-    ensures err { IfErr result (IsBindEnd (λ text. text ≡ address.now.text)) }
+    socket: SocketAddr,
+) -> io::Result<Bound<OperatorsPort>>
+    ensures { IfOk result (λ bound. IsBoundAs socket bound.address) }
 {
-    let bound = bind(rt, alloc, address)?;
-    match share(alloc, bound.listener, count) {
-        Ok(listeners) => Ok(Shared {
-            listeners,
-            address: bound.address,
-        }),
-        Err(error) if error.kind() == ErrorKind::OutOfMemory => Err(ServeFault::OutOfMemory),
-        Err(_) => Err(bind_fault(alloc, address)),
-    }
+    let Bound { port, address } = bind_socket(rt, socket)?;
+    Ok(Bound {
+        port: OperatorsPort::new(rt, alloc, port)?,
+        address,
+    })
 }
 
-/// Binds the addresses of agents, of operators and of pages, in this order, each once; the agents'
-/// listeners, one for each worker, share its socket.
+fn bind_pages<R: Net<Listener = TcpListener, Stream = TcpStream> + Clock>(
+    rt: &R,
+    alloc: Global,
+    socket: SocketAddr,
+) -> io::Result<Bound<PagesPort>>
+    ensures { IfOk result (λ bound. IsBoundAs socket bound.address) }
+{
+    let Bound { port, address } = bind_socket(rt, socket)?;
+    Ok(Bound {
+        port: PagesPort::new(rt, alloc, port)?,
+        address,
+    })
+}
+
+/// Binds the addresses of agents, of operators and of pages, in this order, each once.
 ///
-/// Bind names the first address that can't be bound, or that of the agents where a further listener
-/// can't be made. Own rule.
-pub(crate) fn listen<R: Net<Listener = TcpListener, Stream = TcpStream>>(
+/// Bind names the first address that can't be bound, or at which the system doesn't grant what its port
+/// waits with. It names that of the agents where the system doesn't grant a descriptor for each agents'
+/// worker and 16 more. Own rule.
+pub(crate) fn listen<R: Net<Listener = TcpListener, Stream = TcpStream> + Clock>(
     rt: &R,
     alloc: Global,
     config: &Config,
-) -> Result<Listeners, ServeFault>
-    ensures bound { IfOk result (λ listeners. AreBoundAs config.now
-        listeners.agents.address listeners.operators.address listeners.pages.address) }
-    ensures workers { IfOk result (λ listeners.
-        vec_len listeners.agents.listeners ≡ config.now.workers) }
+) -> Result<Listening, ServeFault>
+    ensures bound { IfOk result (λ listening. AreBoundAs config.now
+        listening.agents listening.operators listening.pages) }
 
     ensures err { IfErr result (IsBindEnd (IsAddressIn config.now)) }
 {
-    let agents = bind_shared(rt, alloc, &config.agents, config.workers)?;
-    let operators = bind(rt, alloc, &config.operators)?;
-    let pages = bind(rt, alloc, &config.pages)?;
-    Ok(Listeners {
-        agents,
-        operators,
-        pages,
+    let agents = match bind_agents(rt, alloc, config.agents.socket, config.workers) {
+        Ok(bound) => bound,
+        Err(error) => return Err(bind_fault(alloc, &config.agents, error)),
+    };
+    let operators = match bind_operators(rt, alloc, config.operators.socket) {
+        Ok(bound) => bound,
+        Err(error) => return Err(bind_fault(alloc, &config.operators, error)),
+    };
+    let pages = match bind_pages(rt, alloc, config.pages.socket) {
+        Ok(bound) => bound,
+        Err(error) => return Err(bind_fault(alloc, &config.pages, error)),
+    };
+    Ok(Listening {
+        ports: Ports {
+            agents: agents.port,
+            operators: operators.port,
+            pages: pages.port,
+        },
+        agents: agents.address,
+        operators: operators.address,
+        pages: pages.address,
     })
 }

@@ -10,13 +10,14 @@ ghost use Rattle.gate_serve.specs.inner.Serving.{RunsOn};
 use crate::announcing::announce;
 use crate::configuring::configuration;
 use crate::ending::end;
-use crate::listening::{Listeners, listen};
+use crate::listening::{Listening, listen};
 use crate::served::{Served, without_reports};
 use gate_config::{Config, Limits};
 use gate_daemon::{Endpoint, Endpoints, Finished, GatewayFault, GatewaySettings, run_gateway};
 use gate_model::ObjectTable;
+use gate_ports::{AgentConnections, AgentsPort, Ports, SystemWatch};
 use gate_reader::{SessionLimits, Sink, end_with};
-use gate_worker::{Accepted, Ending, NoHold, SystemWatch, WorkerLimits};
+use gate_worker::{NoHold, WorkerLimits};
 use std::alloc::{AllocError, Global};
 use std::fs::Files;
 use std::net::{Net, TcpListener, TcpStream};
@@ -58,30 +59,29 @@ fn endpoint<C>(connections: C) -> Endpoint<C, NoHold> {
     }
 }
 
-// An endpoint for each of these listeners, of agents' workers.
-fn endpoints_of<'a, R>(
+// An endpoint for each agents' worker.
+fn agents_endpoints<'a, R>(
     rt: &'a R,
     alloc: Global,
-    mut listeners: Vec<TcpListener>,
-    ending: &'a Ending,
-) -> Result<Vec<Endpoint<Accepted<'a, R>, NoHold>>, AllocError>
-    ensures { IfOk result (λ endpoints. vec_len endpoints ≡ vec_len listeners) }
+    port: &'a AgentsPort,
+    workers: u32,
+) -> Result<Vec<Endpoint<AgentConnections<'a, R>, NoHold>>, AllocError>
+    ensures { IfOk result (λ endpoints. vec_len endpoints ≡ workers) }
 {
-    let mut endpoints = Vec::with_capacity(alloc, listeners.len())?;
-    while let Some(listener) = listeners.pop() {
-        endpoints.push_reserved(endpoint(Accepted::of_agents(rt, listener, ending)));
+    let mut endpoints = Vec::with_capacity(alloc, workers as usize)?;
+    for _ in 0..workers {
+        endpoints.push_reserved(endpoint(port.connections(rt, alloc)));
     }
     Ok(endpoints)
 }
 
-// Runs a gateway on these listeners until it is closed.
+// Runs a gateway on these ports until it is closed.
 fn run<R: Net<Listener = TcpListener, Stream = TcpStream> + Threads + Wait + Clock + Sync>(
     rt: &R,
     alloc: Global,
     config: Config,
-    listeners: Listeners,
+    ports: Ports,
 ) -> Result<Finished, GatewayFault>
-    requires workers { vec_len listeners.agents.listeners ≡ config.workers }
     ensures holds { IfOk result (λ finished. HoldsAll config.workers
         (queued_by_each finished.reports.items)
         (items_of_records finished.closed.applier.records)) }
@@ -90,47 +90,39 @@ fn run<R: Net<Listener = TcpListener, Stream = TcpStream> + Threads + Wait + Clo
     ensures fault { IfErr result
         (IsGatewayFault config.workers config.limits.capacity config.limits.limit config.table) }
 {
-    let ending = Ending::new();
-    let Listeners {
-        agents,
-        operators,
-        pages,
-    } = listeners;
     let endpoints = Endpoints {
-        agents: endpoints_of(rt, alloc, agents.listeners, &ending)?,
-        operator: endpoint(Accepted::of_operators(rt, operators.listener, &ending)),
-        pages: Accepted::of_readers(rt, pages.listener, &ending),
+        agents: agents_endpoints(rt, alloc, &ports.agents, config.workers)?,
+        operator: endpoint(ports.operators.connections(rt)),
+        pages: ports.pages.connections(rt),
         applier: NoHold,
     };
     let settings = gateway_settings(config.workers, config.limits, config.table);
-    run_gateway(rt, alloc, settings, endpoints, &SystemWatch { rt }, &ending)
+    run_gateway(rt, alloc, settings, endpoints, &SystemWatch { rt }, &ports)
 }
 
-// Prints the addresses of these listeners, runs a gateway on them and prints its log page.
+// Prints the addresses of these ports, runs a gateway on them and prints its log page.
 fn serve_on<
     R: Net<Listener = TcpListener, Stream = TcpStream> + Threads + Wait + Clock + Sync,
     W: Sink,
->(rt: &R, alloc: Global, config: Config, listeners: Listeners, output: &mut W) -> Served
-    requires bound { AreBoundAs config
-        listeners.agents.address listeners.operators.address listeners.pages.address }
-    requires workers { vec_len listeners.agents.listeners ≡ config.workers }
+>(rt: &R, alloc: Global, config: Config, listening: Listening, output: &mut W) -> Served
+    requires bound { AreBoundAs config listening.agents listening.operators listening.pages }
     ensures { let state = sink_state W.contents W.pending W.failures in
         RunsOn config (state output.old) (state output.new)
         (queued_by_each result.reports.items) result.fault }
 {
-    match announce(
-        alloc,
-        listeners.agents.address,
-        listeners.operators.address,
-        listeners.pages.address,
-        output,
-    ) {
+    let Listening {
+        ports,
+        agents,
+        operators,
+        pages,
+    } = listening;
+    match announce(alloc, agents, operators, pages, output) {
         Ok(()) => {
-            let ran = run(rt, alloc, config, listeners);
+            let ran = run(rt, alloc, config, ports);
             end(alloc, ran, output)
         }
         Err(fault) => {
-            drop(listeners);
+            drop(ports);
             drop(config);
             without_reports(alloc, fault)
         }
@@ -164,7 +156,7 @@ pub fn serve<
         Err(fault) => return without_reports(alloc, fault),
     };
     match listen(rt, alloc, &config) {
-        Ok(listeners) => serve_on(rt, alloc, config, listeners, output),
+        Ok(listening) => serve_on(rt, alloc, config, listening, output),
         Err(fault) => {
             drop(config);
             without_reports(alloc, fault)

@@ -43,19 +43,20 @@ numbers_after-next n =
     let f : suc (0 + n) ≡ suc n = omega arith in
     sym (ap (numbers_after 0) (sym e) ∙ numbers_after-add 0 n 1 ∙ ap (λ k. numbers_after 0 n ++ k ∷ []) f)
 
-reported_numbers-snoc : (reports : List Report) (report : Report) → reported_numbers (reports ++ report ∷ []) ≡ reported_numbers reports ++ queued_numbers report.answers
+-- one more report adds the numbers that it answers with Queued
+pub reported_numbers-snoc : (reports : List Report) (report : Report) → reported_numbers (reports ++ report ∷ []) ≡ reported_numbers reports ++ queued_numbers report.answers
 reported_numbers-snoc [] report = append-nil (queued_numbers report.answers)
 reported_numbers-snoc (first ∷ reports) report = ap (λ l. queued_numbers first.answers ++ l) (reported_numbers-snoc reports report) ∙ sym (append_assoc (queued_numbers first.answers) (reported_numbers reports) (queued_numbers report.answers))
 
--- with one more report, the items are still those that the reports answer with Queued, numbered from 1
+-- with the numbers of one more report, the items are still those that the reports answer with Queued, numbered from 1
 pub reported_next : (old looked new : List Numbered) (reports reserved pushed : List Report) (report : Report)
     → item_numbers old ≡ reported_numbers reports → reported_numbers reports ≡ numbers_after 0 (length old)
-    → looked ≡ old → Extends looked new report.answers → reserved ≡ reports → pushed ≡ reserved ++ report ∷ []
+    → looked ≡ old → Extends looked new report.answers → reserved ≡ reports → reported_numbers pushed ≡ reported_numbers reserved ++ queued_numbers report.answers
     → (item_numbers new ≡ reported_numbers pushed) × (reported_numbers pushed ≡ numbers_after 0 (length new))
 reported_next old looked new reports reserved pushed report reported counted same extends kept added =
     let e = subst (λ l. Extends l new report.answers) same extends in
     let more = e.0 in
-    let all : pushed ≡ reports ++ report ∷ [] = added ∙ ap (λ l. l ++ report ∷ []) kept in
-    let first : item_numbers new ≡ reported_numbers pushed = ap item_numbers e.1 ∙ item_numbers-append old more ∙ ap (λ l. l ++ item_numbers more) reported ∙ ap (λ l. reported_numbers reports ++ l) e.2 ∙ sym (ap reported_numbers all ∙ reported_numbers-snoc reports report) in
+    let all : reported_numbers pushed ≡ reported_numbers reports ++ queued_numbers report.answers = added ∙ ap (λ l. reported_numbers l ++ queued_numbers report.answers) kept in
+    let first : item_numbers new ≡ reported_numbers pushed = ap item_numbers e.1 ∙ item_numbers-append old more ∙ ap (λ l. l ++ item_numbers more) reported ∙ ap (λ l. reported_numbers reports ++ l) e.2 ∙ sym all in
     let second : item_numbers new ≡ numbers_after 0 (length new) = ap item_numbers e.1 ∙ numbers_go_on old more (reported ∙ counted) e.3 ∙ ap (λ l. numbers_after 0 (length l)) (sym e.1) in
     (first, sym first ∙ second)

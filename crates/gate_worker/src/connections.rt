@@ -10,8 +10,11 @@ pub trait Connections {
     /// The next connection: what it sends, and where its answers go. None: there are no more.
     fn next(&mut self) -> Option<(Self::In, Self::Out)>;
 
-    /// Ends a connection that was served, so that its peer receives all that was written.
+    /// Takes back a connection that was served. Its peer receives all that was written.
     fn part(&mut self, _input: Self::In, _output: Self::Out) {}
+
+    /// Ends all connections, once no more are asked for.
+    fn end(&mut self) {}
 }
 
 /// A point of a thread's way at which a `Hold` is called.

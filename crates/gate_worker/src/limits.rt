@@ -3,8 +3,8 @@ use gate_reader::SessionLimits;
 /// How much a worker serves.
 #[derive(Clone, Copy, Debug, PartialEq, Eq)]
 pub struct WorkerLimits {
-    /// How many connections a worker serves at most: 1 to 1,000,000. A gateway's operator is served
-    /// without such a limit.
+    /// How many connections a worker serves at most, of each of which something is answered: 1 to
+    /// 1,000,000. A gateway's operator is served without such a limit.
     pub sessions: u32,
     /// How many packets or lines each of them may have answered, 1 to 1,000,000, and how many reads
     /// it may take, 1 to 4,294,967,295.

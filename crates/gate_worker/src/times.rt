@@ -1,11 +1,11 @@
 //! The times of the daemon, and how they fit together. Own rules.
 //!
-//! Each is the time that a peer may take for one thing that it owes, however many calls that needs;
-//! only waiting for the peer counts. Whoever waits for a connection or for bytes looks after each
-//! turn whether the daemon is to end; a write goes on until it is done or out of time.
+//! Those of a peer are the time that it may take for one thing that it owes, however many calls that
+//! needs; only waiting for the peer counts. Each port waits for all of its peers at once, but for the
+//! agents', of whom each worker serves one at a time.
 
-/// How long a wait for a connection, for bytes or for room to write goes on before the waiting
-/// thread looks at its time and, but for a write, whether the daemon is to end.
+/// How long an agents' worker waits for a connection or for bytes before it looks at the time, at the
+/// other agents and whether the daemon is to end.
 pub const TURN_MILLIS: u64 = 100;
 
 /// In what time an agent takes its greeting.
@@ -15,39 +15,63 @@ pub const GREETING_MILLIS: u64 = 10_000;
 /// is.
 pub const FIRST_BYTES_MILLIS: u64 = 8_000;
 
+/// In what time an agent brings each 720 bytes more.
+pub const NEXT_BYTES_MILLIS: u64 = 10_000;
+
+/// In what time an agent brings its first 720 bytes, and each 720 more, while another waits for a
+/// connection and no worker is free.
+pub const CROWDED_MILLIS: u64 = 1_000;
+
 /// How long a `send_nsca` waits for its greeting.
 const SEND_NSCA_MILLIS: u64 = 10_000;
 
-// The agent that comes after a silent one is greeted before it gives up.
+// The agent that comes after a silent one is greeted before it gives up; so is the one that comes after
+// 100 silent ones, with 16 workers.
 const _: () = prove!(FIRST_BYTES_MILLIS + TURN_MILLIS < SEND_NSCA_MILLIS);
 
-/// In what time an agent brings each 720 bytes more.
-pub const NEXT_BYTES_MILLIS: u64 = 10_000;
+const _: () = prove!((100 / 16 + 1) * (CROWDED_MILLIS + TURN_MILLIS) < SEND_NSCA_MILLIS);
 
 /// In what time an operator ends a line, from the end of the one before on.
 pub const LINE_MILLIS: u64 = 60_000;
 
-/// In what time an operator takes an answer.
+/// In what time an operator takes its answers.
 pub const ANSWER_MILLIS: u64 = 60_000;
 
 /// In what time the reader of a page takes it.
 pub const PAGE_MILLIS: u64 = 10_000;
 
-/// The same for a page that is begun after a close.
-pub const LAST_PAGE_MILLIS: u64 = 2_000;
+/// In what time peers take what was written to them, once the daemon is to end.
+pub const LAST_MILLIS: u64 = 2_000;
 
 /// In what time an operator, or the reader of a page, ends its side after the last answer. What it
 /// sends until then is read and dropped.
 pub const PARTING_MILLIS: u64 = 500;
 
+/// How long a reader may still come, once the page of the close can be shown and nobody waits for it.
+pub const LAST_READER_MILLIS: u64 = 500;
+
+/// How long a port that can't accept a connection rests before it tries again.
+pub const ACCEPT_MILLIS: u64 = 100;
+
 /// In what time the daemon ends after the answer `closing`, whatever its peers do.
 const END_MILLIS: u64 = 15_000;
 
-// The operator parts; the agents' workers look whether they are to end; and of two pages, one that is
-// being written and one that waits, each is written and its reader parts. A greeting has 132 bytes,
-// for which a new connection always has room, so that no worker waits to write it.
+/// How often a board, or a page, is tried for which there is no memory: a rest lies between two tries,
+/// so that it takes a second.
+pub const MEMORY_TRIES: u32 = 500;
+
+const _: () = prove!(MEMORY_TRIES as u64 * PAUSE_MILLIS == 1_000);
+
+// The operators part; the agents' workers look whether they are to end; a board and a page are tried, as
+// are those that show a close; a last reader comes; and the readers take their pages and part.
 const _: () = prove!(
-    PARTING_MILLIS + TURN_MILLIS + PAGE_MILLIS + PARTING_MILLIS + LAST_PAGE_MILLIS + PARTING_MILLIS
+    LAST_MILLIS
+        + PARTING_MILLIS
+        + TURN_MILLIS
+        + 4 * 1_000
+        + LAST_READER_MILLIS
+        + LAST_MILLIS
+        + PARTING_MILLIS
         < END_MILLIS
 );
 
@@ -60,8 +84,8 @@ pub const AGENT_ROOM_MILLIS: u64 = 60_000;
 /// operators wait with it, also the one who shuts the daemon down.
 pub const OPERATOR_ROOM_MILLIS: u64 = 10_000;
 
-/// How long the applier rests before it looks again at an empty queue. It is short enough that a
-/// result is applied within 5 milliseconds, and long enough that an idle daemon is idle.
+/// How long the applier rests at an empty queue while a board is due, and whoever tries again what
+/// can't be done yet.
 pub const PAUSE_MILLIS: u64 = 2;
 
 /// How long a submission rests before it looks again at a full queue: a tenth of the applier's, so

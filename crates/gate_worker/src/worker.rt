@@ -1,5 +1,5 @@
-ghost use Rattle.std.specs.Prelude.{◌≡◌, ◌<◌, ◌≤◌, [], length, IfSome, IfErr, OnOk, vec_len, vec_capacity};
-ghost use Rattle.gate_worker.specs.Numbers.{item_numbers, numbers_after, reported_numbers};
+ghost use Rattle.std.specs.Prelude.{◌≡◌, ◌+◌, ◌<◌, ◌≤◌, [], ◌++◌, length, IfSome, IfErr, OnOk, vec_len, vec_capacity};
+ghost use Rattle.gate_worker.specs.Numbers.{item_numbers, numbers_after, queued_numbers, reported_numbers};
 ghost use Rattle.gate_worker.specs.Stops.{StopsAt};
 ghost use Rattle.gate_worker.specs.inner.Serving.{Extends};
 
@@ -18,7 +18,7 @@ use std::time::Clock;
 pub enum Cause {
     /// The gate is closing.
     Closing,
-    /// As many connections as allowed were served.
+    /// As many connections as allowed were served, of each of which something was answered.
     TooManySessions,
     /// There is no room for the report of one more connection.
     OutOfMemory,
@@ -26,8 +26,8 @@ pub enum Cause {
     NoMoreConnections,
 }
 
-/// What a worker returns: its client, which has ended, the report of each connection, and why it
-/// ended. The items that were queued for the client are those that the reports answer with Queued,
+/// What a worker returns: its client, which has ended, the report of each connection of which
+/// something was answered, and why it ended. The items that were queued for the client are those that the reports answer with Queued,
 /// numbered 1, 2 and so on.
 #[derive(Drop)]
 pub struct WorkerEnd {
@@ -172,6 +172,20 @@ fn next_connection<C: Connections>(
     Ok(connection)
 }
 
+// Keeps the report of a connection of which something was answered, for which there is room.
+fn keep_report(reports: &mut Vec<Report>, report: Report)
+    requires room { vec_len reports.old < vec_capacity reports.old }
+    ensures reported { reported_numbers reports.new.items
+        ≡ reported_numbers reports.old.items ++ queued_numbers report.answers }
+    ensures few { vec_len reports.new ≤ vec_len reports.old + 1 }
+{
+    if report.answers.as_slice().is_empty() {
+        drop(report);
+    } else {
+        reports.push_reserved(report);
+    }
+}
+
 // A worker's end, with what its type keeps.
 fn end_of(client: Client, reports: Vec<Report>, cause: Cause) -> WorkerEnd
     requires reported { item_numbers client.queued ≡ reported_numbers reports.items }
@@ -191,7 +205,7 @@ fn end_of(client: Client, reports: Vec<Report>, cause: Cause) -> WorkerEnd
 /// It ends where the gate is closing, where `limits.sessions` connections were served, where memory
 /// for one more report is missing, and where there are no more connections. It looks at the gate
 /// before it asks for a connection and after it; a connection that comes after the close isn't
-/// served. A packet for which the queue is full is submitted again for a minute at most, a line for 10
+/// served. A connection of which nothing was answered isn't counted, and has no report. A packet for which the queue is full is submitted again for a minute at most, a line for 10
 /// seconds, while items are taken from the queue. It waits for the connections, for room in the queue
 /// and for other threads at it. Own rule.
 pub fn run_worker<R: Wait + Clock, C: Connections + Drop, K: Watch, H: Hold + Drop>(
@@ -234,10 +248,13 @@ pub fn run_worker<R: Wait + Clock, C: Connections + Drop, K: Watch, H: Hold + Dr
                 closer = kept;
                 let (input, output) = connection;
                 connections.part(input, output);
-                reports.push_reserved(report);
+                keep_report(&mut reports, report);
                 hold.pass(Point::Answered);
             }
-            Err(cause) => return end_of(client, reports, cause),
+            Err(cause) => {
+                connections.end();
+                return end_of(client, reports, cause);
+            }
         }
     }
     unreachable!()

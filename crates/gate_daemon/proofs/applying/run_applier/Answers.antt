@@ -26,7 +26,7 @@ loop-preserved g c =
       search rules,
       search rules,
       search rules,
-      c.show_turn-last.ensures.pauses,
+      c.rest_after-last.ensures.pauses,
       both before between (g.K.Clock.readings c.show_turn-last.new.clock) c.args.applier c.turn-next.result.0 c.show_turn-last.new.applier turned
           c.show_turn-last.ensures.clock,
     )

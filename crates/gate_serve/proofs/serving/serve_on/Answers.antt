@@ -13,8 +13,8 @@ end-requires g c =
 pub returns-in-Ok : goal.returns-in-Ok
 returns-in-Ok g c =
     let state = sink_state g.W.Write.contents g.W.Sink.pending g.W.Sink.failures in
-    let bound = c.args.listeners in
+    let bound = c.args.listening in
     subst (λ (queued : List (ℕ × List ℕ)). RunsOn c.args.config (state c.args.output.now) (state c.end.new.output) queued c.end.result.fault) (sym c.end.ensures.reports)
     (ends_on c.run-ran.result c.end.result.fault c.args.config (state c.args.output.now) (state c.announce.new.output) (state c.end.new.output)
-    (announced c.args.config bound.agents.address bound.operators.address bound.pages.address (state c.args.output.now) (state c.announce.new.output) c.requires.bound c.in-Ok.ensures.ok)
+    (announced c.args.config bound.agents bound.operators bound.pages (state c.args.output.now) (state c.announce.new.output) c.requires.bound c.in-Ok.ensures.ok)
     c.run-ran.ensures.holds c.run-ran.ensures.table c.run-ran.ensures.limit c.run-ran.ensures.fault c.end.ensures.finished c.end.ensures.printed c.end.ensures.err)
