@@ -9,12 +9,12 @@ const ASLEEP: u64 = 1;
 // The taker's thread sleeps on the word while nothing is queued, and whoever queues an item or closes
 // the gate wakes it. While the taker is awake, ringing is one read of the word.
 //
-// No wake is lost. The sleeper writes ASLEEP, then looks at the queue and the close, and sleeps only
-// where it found neither, and only while the word is ASLEEP. Whoever rings has queued or closed first,
-// and then reads the word. These four steps have one order for all threads. Where the read comes
-// before the write, the look comes after what was queued, and finds it. Where it comes after, it finds
-// ASLEEP, or another ringing was in between; then the word is AWAKE before the sleep, or the sleeper
-// is woken.
+// No wake is lost (`no_wake_is_lost`). The sleeper writes ASLEEP, then looks at the queue and the
+// close, and sleeps only where it found neither, and only while the word is ASLEEP. Whoever rings has
+// queued or closed first, and then reads the word. These steps have one order for all threads. Where
+// the read comes before the write, the look comes after what was queued, and finds it. Where it comes
+// after, it finds ASLEEP, or another ringing was in between; then the word is AWAKE before the sleep,
+// or the sleeper is woken.
 #[derive(Drop)]
 pub(crate) struct Bell {
     word: AtomicU64,

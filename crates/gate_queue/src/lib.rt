@@ -22,6 +22,6 @@ pub use gate::Gate;
 pub use gate_client::GateClient;
 pub use gate_core::{CloseFault, Refused};
 pub use gate_operator::GateOperator;
-pub use law::conservation;
+pub use law::{conservation, no_wake_is_lost};
 pub use opening::{open, open_with};
 pub use taker::Taker;
