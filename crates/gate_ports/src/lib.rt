@@ -12,7 +12,6 @@ mod peers;
 mod port;
 mod ports;
 mod system_watch;
-mod unsent;
 
 pub use agents::{AgentConnections, AgentInput, AgentOutput, AgentsPort};
 pub use connections::{OperatorConnections, PeerInput, PeerOutput, ReaderConnections};

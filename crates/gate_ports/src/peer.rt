@@ -2,7 +2,7 @@ ghost use Rattle.std.specs.Prelude.{◌≡◌, Ok, IfOk, IfSome};
 ghost use Rattle.gate_ports.specs.Waiting.{limit_of, since_after};
 
 use crate::lines::Lines;
-use crate::unsent::Unsent;
+use bytes::BytesMut;
 use gate_worker::times::{ANSWER_MILLIS, LAST_MILLIS, LINE_MILLIS, PAGE_MILLIS, PARTING_MILLIS};
 use mio::net::TcpStream;
 use std::alloc::Global;
@@ -41,7 +41,8 @@ pub(crate) struct Peer {
     stream: TcpStream,
     pub(crate) stage: Stage,
     pub(crate) lines: Lines,
-    pub(crate) unsent: Unsent,
+    // The bytes for it that the system hasn't taken yet.
+    pub(crate) unsent: BytesMut,
     // Whether a read or a write may find something to do.
     pub(crate) may_read: bool,
     pub(crate) may_write: bool,
@@ -98,7 +99,7 @@ impl Peer {
             stream,
             stage: Stage::Open,
             lines: Lines::new(alloc),
-            unsent: Unsent::new(alloc),
+            unsent: BytesMut::new(alloc),
             may_read: true,
             may_write: true,
             has_ended: false,
@@ -175,7 +176,7 @@ impl Peer {
             match unless_blocked(self.stream.write(self.unsent.as_slice()))? {
                 None => self.may_write = false,
                 Some(0) => return Err(io::Error::from(ErrorKind::WriteZero)),
-                Some(count) => self.unsent.advance(count),
+                Some(count) => self.unsent.advance(count.min(self.unsent.len())),
             }
             if self.unsent.is_empty() {
                 self.since = now;
@@ -187,7 +188,7 @@ impl Peer {
     /// Sends these bytes, of which it keeps those that the peer doesn't take at once.
     pub(crate) fn put(&mut self, bytes: &[u8], now: u64) -> io::Result<()> {
         if !self.unsent.is_empty() {
-            return Ok(self.unsent.add(bytes)?);
+            return Ok(self.unsent.extend_from_slice(bytes)?);
         }
         let mut rest = bytes;
         for _ in 0..u64::MAX {
@@ -202,7 +203,7 @@ impl Peer {
         }
         self.may_write = false;
         self.since = now;
-        Ok(self.unsent.add(rest)?)
+        Ok(self.unsent.extend_from_slice(rest)?)
     }
 
     // Ends this side once the peer took all.
