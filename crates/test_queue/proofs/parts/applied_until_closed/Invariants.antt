@@ -1,6 +1,6 @@
 use Rattle.std.proofs.Common.{◌≡◌}
 use Rattle.gate_close.specs.DrainedClose.{items_of_records}
-use Rattle.queue_tests.proofs.parts.applied_until_closed.Given as goal
+use Rattle.test_queue.proofs.parts.applied_until_closed.Given as goal
 
 abbrev pub invariant-loop : goal.invariant-loop
 invariant-loop g l =

@@ -1,6 +1,6 @@
 use Rattle.std.proofs.Common.{◌++◌}
 use Rattle.gate_core.specs.LocalClient.{submitted}
-use Rattle.replay_tests.proofs.solo.queued.Goals as goal
+use Rattle.test_replay.proofs.solo.queued.Goals as goal
 
 pub returns : goal.returns
 returns g c =

@@ -1,5 +1,5 @@
 use Rattle.std.proofs.Common.{◌≡◌}
-use Rattle.book_tests.proofs.downtime.chains.Given as goal
+use Rattle.test_books.proofs.downtime.chains.Given as goal
 
 abbrev pub invariant-chain : goal.invariant-chain
 invariant-chain l = l.book.objects ≡ 2

@@ -1,5 +1,5 @@
 use Rattle.std.proofs.Common.{◌≡◌}
-use Rattle.book_tests.proofs.downtime.plays_from.Given as goal
+use Rattle.test_books.proofs.downtime.plays_from.Given as goal
 
 abbrev pub invariant-steps : goal.invariant-steps
 invariant-steps l = l.book.objects ≡ 2

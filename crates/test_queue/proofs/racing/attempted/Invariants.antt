@@ -1,5 +1,5 @@
 use Rattle.std.proofs.Common.{◌≡◌}
-use Rattle.queue_tests.proofs.racing.attempted.Given as goal
+use Rattle.test_queue.proofs.racing.attempted.Given as goal
 
 abbrev pub invariant-loop-id : goal.invariant-loop-id
 invariant-loop-id g l = l.client.gate ≡ l.gate
