@@ -6,6 +6,8 @@ const AWAKE: u64 = 0;
 
 const ASLEEP: u64 = 1;
 
+const NAP_MICROS: u64 = 100;
+
 // The taker's thread sleeps on the word while nothing is queued, and whoever queues an item or closes
 // the gate wakes it. While the taker is awake, ringing is one read of the word.
 //
@@ -34,6 +36,12 @@ impl Bell {
         {
             self.word.wake_one();
         }
+    }
+
+    // Sleeps for a tenth of a millisecond, whoever rings: what is queued meanwhile wakes nobody.
+    pub(crate) fn nap<R: Wait>(&self, rt: &R) {
+        self.word
+            .park_timeout(rt, AWAKE as u32, Duration::from_micros(NAP_MICROS));
     }
 
     // The sleeper is about to look whether there is something to do.

@@ -68,15 +68,16 @@ impl Taker {
         self.knowledge.look(&gate.cell)
     }
 
-    /// Rests until an item is queued or the gate is closed, and for this time at most. It returns at
-    /// once where an item is queued or the gate is closing, and may return sooner than it has to. Own
-    /// rule.
+    /// Rests a tenth of a millisecond, so that items of a burst are taken together and don't wake the
+    /// taker one by one; and then until an item is queued or the gate is closed, for this time at most.
+    /// It may return sooner than it has to. Own rule.
     pub fn rest<R: Wait>(&mut self, rt: &R, gate: &Gate, most: Duration)
         requires { self.old.gate ≡ gate.now }
         ensures same { self.new ≡ taker_state
             self.old.gate self.old.taken self.old.ended self.new.known_close }
         ensures known { IfSome self.old.known_close (λ known. self.new.known_close ≡ Some known) }
     {
+        gate.bell.nap(rt);
         gate.bell.lie_down();
         if gate.ring.is_empty_as::<Pop>(&mut self.pass) && self.look(gate).is_none() {
             gate.bell.sleep(rt, most);
