@@ -79,7 +79,7 @@ impl<'a> BlockRef<'a> {
     }
 
     /// A copy of the block.
-    pub fn to_block(&self) -> Block
+    pub(crate) fn to_block(&self) -> Block
         ensures bytes { block_bytes result ≡ self.now }
         ensures size { IsPacketSize (length self.now) }
     {

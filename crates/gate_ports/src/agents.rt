@@ -220,8 +220,8 @@ impl<'a, R: Clock> AgentInput<'a, R> {
     }
 }
 
-impl<'a, R: Clock> Read for AgentInput<'a, R> {
-    fn read(&mut self, buf: &mut [u8]) -> io::Result<usize> {
+impl<'a, R: Clock> Source for AgentInput<'a, R> {
+    fn take_some(&mut self, buf: &mut [u8]) -> io::Result<usize> {
         for _ in 0..u64::MAX {
             if let Some(count) = self.read_turn(buf)? {
                 return Ok(count);
@@ -231,33 +231,17 @@ impl<'a, R: Clock> Read for AgentInput<'a, R> {
     }
 }
 
-impl<'a, R: Clock> Source for AgentInput<'a, R> {
-    fn take_some(&mut self, buf: &mut [u8]) -> io::Result<usize> {
-        self.read(buf)
-    }
-}
-
-impl Write for AgentOutput {
-    fn write(&mut self, buf: &[u8]) -> io::Result<usize> {
-        (&*self.stream).write(buf)
-    }
-
-    fn flush(&mut self) -> io::Result<()> {
-        Ok(())
-    }
-}
-
 // A stream holds nothing back.
 impl Sink for AgentOutput {
-    ghost use Rattle.std.specs.Prelude.{Some, []};
+    ghost use Rattle.std.specs.Prelude.{None, Some, []};
 
-    ghost pending = { λ _. Some [] };
+    ghost state = { λ _. record { written = None; pending = Some []; tally = None } };
 
     fn put(&mut self, bytes: &[u8]) -> io::Result<()> {
-        self.write_all(bytes)
+        (&*self.stream).write_all(bytes)
     }
 
     fn deliver(&mut self) -> io::Result<()> {
-        self.flush()
+        Ok(())
     }
 }

@@ -5,7 +5,6 @@ use gate_reader::{Sink, Source};
 use gate_worker::Connections;
 use gate_worker::times::LAST_READER_MILLIS;
 use std::io;
-use std::io::{Read, Write};
 use std::sync::Wait;
 use std::time::{Clock, Duration, Instant};
 
@@ -138,8 +137,8 @@ impl<'a, R: Wait + Clock + Sync> Connections for ReaderConnections<'a, R> {
     }
 }
 
-impl<'a, R: Wait + Clock> Read for PeerInput<'a, R> {
-    fn read(&mut self, buf: &mut [u8]) -> io::Result<usize> {
+impl<'a, R: Wait + Clock> Source for PeerInput<'a, R> {
+    fn take_some(&mut self, buf: &mut [u8]) -> io::Result<usize> {
         let mut most = Some(Duration::from_millis(0));
         for _ in self.rt.forever() {
             let is_ending = self.port.is_ending();
@@ -156,29 +155,12 @@ impl<'a, R: Wait + Clock> Read for PeerInput<'a, R> {
     }
 }
 
-impl<'a, R: Wait + Clock> Source for PeerInput<'a, R> {
-    fn take_some(&mut self, buf: &mut [u8]) -> io::Result<usize> {
-        self.read(buf)
-    }
-}
-
-impl<'a, R: Wait + Clock> Write for PeerOutput<'a, R> {
-    fn write(&mut self, buf: &[u8]) -> io::Result<usize> {
-        self.port.peers.lock(self.rt).put(self.rt, buf)?;
-        Ok(buf.len())
-    }
-
-    fn flush(&mut self) -> io::Result<()> {
-        Ok(())
-    }
-}
-
 impl<'a, R: Wait + Clock> Sink for PeerOutput<'a, R> {
     fn put(&mut self, bytes: &[u8]) -> io::Result<()> {
         self.port.peers.lock(self.rt).put(self.rt, bytes)
     }
 
     fn deliver(&mut self) -> io::Result<()> {
-        self.flush()
+        Ok(())
     }
 }

@@ -1,6 +1,6 @@
 ghost use Rattle.std.specs.Prelude.{◌≡◌, ℕ, List, OnOk, OnErr};
 ghost use Rattle.gate_reader.specs.Fault.{status_at_end, IsFaultReported};
-ghost use Rattle.gate_reader.specs.Sink.{sink_state, Delivers, FailsOnce};
+ghost use Rattle.gate_reader.specs.Sink.{Delivers, FailsOnce};
 
 use crate::sink::Sink;
 use std::io;
@@ -21,18 +21,17 @@ pub trait Fault {
     ///
     /// An error is that of the call of `errors` that failed; no other call is made after it.
     fn report<E: Sink>(&self, errors: &mut E) -> io::Result<()>
-        ensures ok { let state = sink_state E.contents E.pending E.failures in
-            OnOk result (Delivers (state errors.old) (state errors.new) (message_of self.now)) }
-        ensures err { let state = sink_state E.contents E.pending E.failures in
-            OnErr result (FailsOnce (state errors.old) (state errors.new)) };
+        ensures ok { OnOk result (Delivers (E.state errors.old) (E.state errors.new)
+            (message_of self.now)) }
+        ensures err { OnErr result (FailsOnce (E.state errors.old) (E.state errors.new)) };
 }
 
 /// Ends a command: reports its fault, where it has one, in one line on `errors`, and returns the exit
 /// status, which is 0 without a fault. That the line can't be written changes nothing.
 pub fn end_with<F: Fault, E: Sink>(fault: &Option<F>, errors: &mut E) -> u8
     ensures status { result ≡ status_at_end F.status_of fault.now }
-    ensures reported { let state = sink_state E.contents E.pending E.failures in
-        IsFaultReported F.message_of fault.now (state errors.old) (state errors.new) }
+    ensures reported { IsFaultReported F.message_of fault.now (E.state errors.old)
+        (E.state errors.new) }
 {
     let Some(fault) = fault else {
         return 0;

@@ -1,6 +1,5 @@
 ghost use Rattle.std.specs.Prelude.{◌≡◌, ◌<◌, ◌≤◌, [], length, IfOk, IfErr, OnOk, OnErr, IfSome, Some, None, ⊤};
-ghost use Rattle.gate_reader.specs.Source.{source_state};
-ghost use Rattle.gate_reader.specs.Sink.{sink_state, Delivers, FailsOnce};
+ghost use Rattle.gate_reader.specs.Sink.{Delivers, FailsOnce};
 ghost use Rattle.gate_reader.specs.Report.{AreOpen};
 ghost use Rattle.gate_reader.specs.Session.{client_view, parties, IsSession, AnswersFront};
 ghost use Rattle.gate_reader.specs.Packets.{greeting, packets, IsPacketSession};
@@ -26,7 +25,7 @@ fn serve_block<C: Clock, S: Submit>(
     client: &mut S,
     greatest_age: u32,
 ) -> Result<Answer, PacketFault>
-    ensures ok { let view = client_view S.stands S.knows S.answers (S.named client.old) in
+    ensures ok { let view = client_view S.Submit (S.named client.old) in
         IfOk result (λ answer. AnswersOneBlock view greatest_age
         (parties client.old (C.readings clock.old)) block.now answer
         (parties client.new (C.readings clock.new))) }
@@ -67,11 +66,11 @@ fn serve_front<C: Clock, S: Submit>(
 ) -> Result<usize, Stop>
     requires within { length answers.old.items ≤ items }
     requires open { AreOpen answers.old.items }
-    ensures ok { let view = client_view S.stands S.knows S.answers (S.named client.old) in
+    ensures ok { let view = client_view S.Submit (S.named client.old) in
         IfOk result (λ left. ServesFront view (packets view items greatest_age) items
         (parties client.old (C.readings clock.old)) (parties client.new (C.readings clock.new))
         answers.old.items answers.new.items bytes.now (AreLast bytes.now left) None) }
-    ensures err { let view = client_view S.stands S.knows S.answers (S.named client.old) in
+    ensures err { let view = client_view S.Submit (S.named client.old) in
         IfErr result (λ stop. ServesFront view (packets view items greatest_age) items
         (parties client.old (C.readings clock.old)) (parties client.new (C.readings clock.new))
         answers.old.items answers.new.items bytes.now (λ _. ⊤) (Some stop)) }
@@ -124,11 +123,10 @@ fn read_packets<R: Source, C: Clock, S: Submit>(
     answers: &mut Vec<Answer>,
 ) -> Stop
     requires none { answers.old.items ≡ [] }
-    ensures served { let view = client_view S.stands S.knows S.answers (S.named client.old) in
-        let source = source_state R.remaining R.tally in
+    ensures served { let view = client_view S.Submit (S.named client.old) in
         IsSession view (packets view limits.items greatest_age) limits
         (parties client.old (C.readings clock.old)) (parties client.new (C.readings clock.new))
-        (source reader.old) (source reader.new) answers.new.items result }
+        (R.state reader.old) (R.state reader.new) answers.new.items result }
     ensures named { S.named client.new ≡ S.named client.old }
     ensures keeps { S.keeps client.old client.new }
 {
@@ -166,10 +164,8 @@ fn greeting_of(now: Moment) -> [u8; 132]
 
 // Writes and delivers the greeting.
 fn greet<W: Sink>(writer: &mut W, now: Moment) -> io::Result<()>
-    ensures ok { let sink = sink_state W.contents W.pending W.failures in
-        OnOk result (Delivers (sink writer.old) (sink writer.new) (greeting now)) }
-    ensures err { let sink = sink_state W.contents W.pending W.failures in
-        OnErr result (FailsOnce (sink writer.old) (sink writer.new)) }
+    ensures ok { OnOk result (Delivers (W.state writer.old) (W.state writer.new) (greeting now)) }
+    ensures err { OnErr result (FailsOnce (W.state writer.old) (W.state writer.new)) }
 {
     put_last(writer, &greeting_of(now))
 }
@@ -202,16 +198,14 @@ pub fn serve_packets<R: Source, W: Sink, C: Clock, S: Submit>(
     limits: SessionLimits,
     greatest_age: u32,
 ) -> Report
-    ensures session { let view = client_view S.stands S.knows S.answers (S.named client.old) in
-        let source = source_state R.remaining R.tally in
-        let sink = sink_state W.contents W.pending W.failures in
+    ensures session { let view = client_view S.Submit (S.named client.old) in
         IsPacketSession view limits greatest_age
         (parties client.old (C.readings clock.old)) (parties client.new (C.readings clock.new))
-        (source reader.old) (source reader.new) (sink writer.old) (sink writer.new)
+        (R.state reader.old) (R.state reader.new) (W.state writer.old) (W.state writer.new)
         result.answers result.stop }
     // Where the reader's bytes are known, the answers are those of the packets at their front.
-    ensures stream { let view = client_view S.stands S.knows S.answers (S.named client.old) in
-        IfSome (R.remaining reader.old) (λ stream.
+    ensures stream { let view = client_view S.Submit (S.named client.old) in
+        IfSome (R.state reader.old).left (λ stream.
         AnswersFront (packets view limits.items greatest_age) stream result.answers result.stop) }
 
     ensures named { S.named client.new ≡ S.named client.old }

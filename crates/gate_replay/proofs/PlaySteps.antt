@@ -169,13 +169,13 @@ stops (stopped.Full kept) P Q M N F G f m n h = f kept h
 stops (stopped.OutOfMemory kept) P Q M N F G f m n h = m kept h
 stops (stopped.Unwritten fault) P Q M N F G f m n h = n fault h
 
-write_end_on : (a b c : SinkState) (fault : ReplayFault) → Fails a.failures b.failures 0 → IsWriteEnd b c fault → IsWriteEnd a c fault
+write_end_on : (a b c : SinkState) (fault : ReplayFault) → Fails a.tally b.tally 0 → IsWriteEnd b c fault → IsWriteEnd a c fault
 write_end_on a b c replay_fault.TooLong h k = k
 write_end_on a b c (replay_fault.Line number) h k = k
 write_end_on a b c replay_fault.LogFull h k = k
-write_end_on a b c replay_fault.OutOfMemory h k = fails_then a.failures b.failures c.failures 1 h k
+write_end_on a b c replay_fault.OutOfMemory h k = fails_then a.tally b.tally c.tally 1 h k
 write_end_on a b c replay_fault.ReadFault h k = k
-write_end_on a b c replay_fault.WriteFault h k = fails_then a.failures b.failures c.failures 1 h k
+write_end_on a b c replay_fault.WriteFault h k = fails_then a.tally b.tally c.tally 1 h k
 
 -- what stays where memory runs out before a step is printed
 pub stays_as : {D : Type 0} (view : SoloView D) (was : Player D) (kept : ApplierView) (before after : SinkState) → kept.table ≡ was.applier.table → kept.opening ≡ was.applier.opening → kept.limit ≡ was.applier.limit → kept.records ≡ was.applier.records → after ≡ before
@@ -373,7 +373,7 @@ part_after {D} view s steps i step was kept before after is h part =
 
 -- the replay stopped at a step, after steps of which none failed a call
 pub played_stops : {D E : Type 0} (view : SoloView D) (ended : SoloView E) (stop : Stopped) (player : Player D) (base : SinkState) (steps : List Step) (i : ℕ) (step : Step) (was : Player D) (before after : SinkState) → take (i + 1) steps ≡ take i steps ++ step ∷ []
-    → Fails base.failures before.failures 0 → ((setup : Setup) → IsNew view setup player → PlayedTo view (setting setup base) (take i steps) was before)
+    → Fails base.tally before.tally 0 → ((setup : Setup) → IsNew view setup player → PlayedTo view (setting setup base) (take i steps) was before)
     → StopsBy (FullAt view ended was step before after) (PartAt view was step before after) (IsWriteEnd before after) stop
     → StopsBy (λ kept. (setup : Setup) → IsNew view setup player → PlayedFull ended (setting setup base) steps kept after) (λ kept. (setup : Setup) → IsNew view setup player → PlayedPart view (setting setup base) steps kept after) (IsWriteEnd base after) stop
 played_stops {D} view ended stop player base steps i step was before after is none so_far h =

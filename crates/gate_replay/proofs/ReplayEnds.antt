@@ -108,13 +108,13 @@ part_so_far view ended script kept b m h = record {
 -- ---- failed calls
 
 -- a write ends the replay, after calls of which none failed
-pub unwritten : (rules so_far : Limits → Run → Type 0) (script : Script) (b m a : SinkState) (fault : ReplayFault) → Fails b.failures m.failures 0 → IsWriteEnd m a fault → EndsPlaying rules so_far script b a (Some fault)
+pub unwritten : (rules so_far : Limits → Run → Type 0) (script : Script) (b m a : SinkState) (fault : ReplayFault) → Fails b.tally m.tally 0 → IsWriteEnd m a fault → EndsPlaying rules so_far script b a (Some fault)
 unwritten rules so_far script b m a TooLong h k = k
 unwritten rules so_far script b m a (Line number) h k = k
 unwritten rules so_far script b m a LogFull h k = absurd k
-unwritten rules so_far script b m a OutOfMemory h k = inr (inl (fails_then b.failures m.failures a.failures 1 h k))
+unwritten rules so_far script b m a OutOfMemory h k = inr (inl (fails_then b.tally m.tally a.tally 1 h k))
 unwritten rules so_far script b m a ReadFault h k = k
-unwritten rules so_far script b m a WriteFault h k = fails_then b.failures m.failures a.failures 1 h k
+unwritten rules so_far script b m a WriteFault h k = fails_then b.tally m.tally a.tally 1 h k
 
 -- a write ends the replay, the first one to fail
 pub ends_unwritten : (rules so_far : Limits → Run → Type 0) (script : Script) (b a : SinkState) (fault : ReplayFault) → IsWriteEnd b a fault → EndsPlaying rules so_far script b a (Some fault)
@@ -132,11 +132,11 @@ unlogged rules so_far script g b m a (Line number) played w k = k
 unlogged rules so_far script g b m a LogFull played w k = absurd k
 unlogged rules so_far script g b m a OutOfMemory played w k =
     ⊎_elim
-    (λ (f : FailsOnce m a). inr (inl (fails_then b.failures m.failures a.failures 1 w.none_failed f)))
+    (λ (f : FailsOnce m a). inr (inl (fails_then b.tally m.tally a.tally 1 w.none_failed f)))
     (λ (d : Delivers m a []). inr (inr (record { replayed = g; played = played; printed = inl (subst (λ (t : List ℕ). Delivers b a t) (append-nil g.printed) (delivers_on b m a g.printed [] w d)) })))
     k
 unlogged rules so_far script g b m a ReadFault played w k = k
-unlogged rules so_far script g b m a WriteFault played w k = fails_then b.failures m.failures a.failures 1 w.none_failed k
+unlogged rules so_far script g b m a WriteFault played w k = fails_then b.tally m.tally a.tally 1 w.none_failed k
 
 -- ---- the log page
 

@@ -1,7 +1,7 @@
 ghost use Rattle.std.specs.Prelude.{◌≡◌, ◌≢◌, OnOk, OnErr};
 ghost use Rattle.std.specs.IoError.{error_kind};
 ghost use Rattle.gate_replay.specs.Fault.{message_of};
-ghost use Rattle.gate_reader.specs.Sink.{sink_state, Delivers, FailsOnce};
+ghost use Rattle.gate_reader.specs.Sink.{Delivers, FailsOnce};
 
 use crate::script::ScriptFault;
 use gate_reader::{Fault, Sink, put_last, put_numbered};
@@ -82,11 +82,9 @@ pub(crate) fn write_fault(error: &io::Error) -> ReplayFault
 }
 
 fn report_numbered<E: Sink>(errors: &mut E, number: usize) -> io::Result<()>
-    ensures ok { let state = sink_state E.contents E.pending E.failures in
-        OnOk result (Delivers (state errors.old) (state errors.new)
+    ensures ok { OnOk result (Delivers (E.state errors.old) (E.state errors.new)
         (message_of (ReplayFault.Line number))) }
-    ensures err { let state = sink_state E.contents E.pending E.failures in
-        OnErr result (FailsOnce (state errors.old) (state errors.new)) }
+    ensures err { OnErr result (FailsOnce (E.state errors.old) (E.state errors.new)) }
 {
     put_numbered(errors, b"nscagate: script line ", number as u64)?;
     errors.deliver()

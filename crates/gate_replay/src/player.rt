@@ -1,7 +1,7 @@
 ghost use Rattle.std.specs.Prelude.{◌≡◌, ◌+◌, ◌<◌, ◌^◌, [], IfOk, IfErr, OnOk};
 ghost use Rattle.gate_core.specs.Limits.{limits_of, default_quota};
 ghost use Rattle.gate_core.specs.Legal.{Run};
-ghost use Rattle.gate_reader.specs.Sink.{sink_state, Fails};
+ghost use Rattle.gate_reader.specs.Sink.{Fails};
 ghost use Rattle.gate_pages.specs.StatusPage.{status_text_at};
 ghost use Rattle.gate_replay.specs.declared.script.Step.TheVariants as step;
 ghost use Rattle.gate_replay.specs.declared.setup.Setup.{Setup};
@@ -136,16 +136,13 @@ where
         sent: &SentPacket,
         output: &mut W,
     ) -> Result<Player<D>, Stopped>
-        requires { let state = sink_state W.contents W.pending W.failures in
-            IsReady (solo_view D.after D.limits) self (state output.old) }
-        ensures served { let state = sink_state W.contents W.pending W.failures in
-            IfOk result (λ now. ServesFrom (solo_view D.after D.limits) self (state output.old)
-            (step.Packet sent.now) now (state output.new)) }
-        ensures none_failed { OnOk result
-            (Fails (W.failures output.old) (W.failures output.new) 0) }
-        ensures stopped { let state = sink_state W.contents W.pending W.failures in
-            IfErr result (StopsServing (solo_view D.after D.limits) self (state output.old)
-            (state output.new)) }
+        requires { IsReady (solo_view D.after D.limits) self (W.state output.old) }
+        ensures served { IfOk result (λ now. ServesFrom (solo_view D.after D.limits) self
+            (W.state output.old) (step.Packet sent.now) now (W.state output.new)) }
+        ensures none_failed { OnOk result (Fails (W.state output.old).tally
+            (W.state output.new).tally 0) }
+        ensures stopped { IfErr result (StopsServing (solo_view D.after D.limits) self
+            (W.state output.old) (W.state output.new)) }
     {
         let (queue, report) = serve_packet(alloc, self.queue, sent, self.age, self.clock);
         let Some(answer) = only_answer(&report) else {
@@ -164,16 +161,13 @@ where
 
     // The session of an operator's line.
     fn line<W: Sink>(self, alloc: Global, text: &Text, output: &mut W) -> Result<Player<D>, Stopped>
-        requires { let state = sink_state W.contents W.pending W.failures in
-            IsReady (solo_view D.after D.limits) self (state output.old) }
-        ensures served { let state = sink_state W.contents W.pending W.failures in
-            IfOk result (λ now. ServesFrom (solo_view D.after D.limits) self (state output.old)
-            (step.Line text.now) now (state output.new)) }
-        ensures none_failed { OnOk result
-            (Fails (W.failures output.old) (W.failures output.new) 0) }
-        ensures stopped { let state = sink_state W.contents W.pending W.failures in
-            IfErr result (StopsServing (solo_view D.after D.limits) self (state output.old)
-            (state output.new)) }
+        requires { IsReady (solo_view D.after D.limits) self (W.state output.old) }
+        ensures served { IfOk result (λ now. ServesFrom (solo_view D.after D.limits) self
+            (W.state output.old) (step.Line text.now) now (W.state output.new)) }
+        ensures none_failed { OnOk result (Fails (W.state output.old).tally
+            (W.state output.new).tally 0) }
+        ensures stopped { IfErr result (StopsServing (solo_view D.after D.limits) self
+            (W.state output.old) (W.state output.new)) }
     {
         let mut written = Vec::new(alloc);
         let (queue, report) = match serve_line(alloc, self.queue, text, self.clock, &mut written) {
@@ -196,14 +190,12 @@ where
 
     // The status page, at the clock's moment or the applier's, whichever is later.
     fn page<W: Sink>(self, alloc: Global, output: &mut W) -> Result<Player<D>, Stopped>
-        ensures served { let state = sink_state W.contents W.pending W.failures in
-            IfOk result (λ now. ServesFrom (solo_view D.after D.limits) self (state output.old)
-            step.Page now (state output.new)) }
-        ensures none_failed { OnOk result
-            (Fails (W.failures output.old) (W.failures output.new) 0) }
-        ensures stopped { let state = sink_state W.contents W.pending W.failures in
-            IfErr result (StopsServing (solo_view D.after D.limits) self (state output.old)
-            (state output.new)) }
+        ensures served { IfOk result (λ now. ServesFrom (solo_view D.after D.limits) self
+            (W.state output.old) step.Page now (W.state output.new)) }
+        ensures none_failed { OnOk result (Fails (W.state output.old).tally
+            (W.state output.new).tally 0) }
+        ensures stopped { IfErr result (StopsServing (solo_view D.after D.limits) self
+            (W.state output.old) (W.state output.new)) }
     {
         let mut player = self;
         player.applier.advance(player.clock);
@@ -223,16 +215,13 @@ where
         step: &Step,
         output: &mut W,
     ) -> Result<Player<D>, Stopped>
-        requires { let state = sink_state W.contents W.pending W.failures in
-            IsReady (solo_view D.after D.limits) self (state output.old) }
-        ensures served { let state = sink_state W.contents W.pending W.failures in
-            IfOk result (λ now. ServesFrom (solo_view D.after D.limits) self (state output.old)
-            step.now now (state output.new)) }
-        ensures none_failed { OnOk result
-            (Fails (W.failures output.old) (W.failures output.new) 0) }
-        ensures stopped { let state = sink_state W.contents W.pending W.failures in
-            IfErr result (StopsServing (solo_view D.after D.limits) self (state output.old)
-            (state output.new)) }
+        requires { IsReady (solo_view D.after D.limits) self (W.state output.old) }
+        ensures served { IfOk result (λ now. ServesFrom (solo_view D.after D.limits) self
+            (W.state output.old) step.now now (W.state output.new)) }
+        ensures none_failed { OnOk result (Fails (W.state output.old).tally
+            (W.state output.new).tally 0) }
+        ensures stopped { IfErr result (StopsServing (solo_view D.after D.limits) self
+            (W.state output.old) (W.state output.new)) }
     {
         match step {
             Step::Clock(moment) => {
@@ -247,15 +236,12 @@ where
     }
 
     fn step<W: Sink>(self, alloc: Global, step: &Step, output: &mut W) -> Result<Player<D>, Stopped>
-        requires { let state = sink_state W.contents W.pending W.failures in
-            IsReady (solo_view D.after D.limits) self (state output.old) }
-        ensures played { let state = sink_state W.contents W.pending W.failures in
-            IfOk result (λ now. PlaysFrom (solo_view D.after D.limits) self (state output.old)
-            step.now now (state output.new)) }
-        ensures stopped { let state = sink_state W.contents W.pending W.failures in
-            IfErr result (StopsPlaying (solo_view D.after D.limits)
-            (solo_view D.Ended.after D.Ended.limits) self (state output.old) step.now
-            (state output.new)) }
+        requires { IsReady (solo_view D.after D.limits) self (W.state output.old) }
+        ensures played { IfOk result (λ now. PlaysFrom (solo_view D.after D.limits) self
+            (W.state output.old) step.now now (W.state output.new)) }
+        ensures stopped { IfErr result (StopsPlaying (solo_view D.after D.limits)
+            (solo_view D.Ended.after D.Ended.limits) self (W.state output.old) step.now
+            (W.state output.new)) }
     {
         match self.serve(alloc, step, output) {
             Ok(player) => {
@@ -279,17 +265,15 @@ where
     ) -> Result<Player<D>, Stopped>
         requires { (setup : Setup) × IsNew (solo_view D.after D.limits) setup self }
         ensures played { let view = solo_view D.after D.limits in
-            let state = sink_state W.contents W.pending W.failures in
-            IfOk result (λ now. (setup : Setup) → IsNew view setup self
-            → PlayedTo view (setting setup (state output.old)) steps.now now (state output.new)) }
+            IfOk result (λ now. (setup : Setup) → IsNew view setup self → PlayedTo view
+            (setting setup (W.state output.old)) steps.now now (W.state output.new)) }
         ensures stopped { let view = solo_view D.after D.limits in
             let ended = solo_view D.Ended.after D.Ended.limits in
-            let state = sink_state W.contents W.pending W.failures in
-            IfErr result (StopsBy (λ kept. (setup : Setup) → IsNew view setup self
-            → PlayedFull ended (setting setup (state output.old)) steps.now kept (state output.new))
-            (λ kept. (setup : Setup) → IsNew view setup self
-            → PlayedPart view (setting setup (state output.old)) steps.now kept (state output.new))
-            (IsWriteEnd (state output.old) (state output.new))) }
+            IfErr result (StopsBy (λ kept. (setup : Setup) → IsNew view setup self → PlayedFull
+            ended (setting setup (W.state output.old)) steps.now kept (W.state output.new)) (λ kept.
+            (setup : Setup) → IsNew view setup self → PlayedPart view
+            (setting setup (W.state output.old)) steps.now kept (W.state output.new)) (IsWriteEnd
+            (W.state output.old) (W.state output.new))) }
     {
         let mut player = self;
         for step in steps {

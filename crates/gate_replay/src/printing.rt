@@ -1,6 +1,6 @@
 ghost use Rattle.std.specs.Prelude.{◌≡◌, IfErr, OnOk};
 ghost use Rattle.std.specs.Io.KnownBytes.{Keeps};
-ghost use Rattle.gate_reader.specs.Sink.{sink_state, IsDelivered, Fails, Writes};
+ghost use Rattle.gate_reader.specs.Sink.{IsDelivered, Fails, Writes};
 ghost use Rattle.gate_reader.specs.Report.{answer_line};
 ghost use Rattle.gate_replay.specs.inner.Playing.{IsWriteEnd};
 
@@ -9,10 +9,8 @@ use gate_reader::{Answer, Sink, answer_line};
 
 /// Writes all of a text.
 pub(crate) fn print<W: Sink>(output: &mut W, text: &[u8]) -> Result<(), ReplayFault>
-    ensures ok { let state = sink_state W.contents W.pending W.failures in
-        OnOk result (Writes (state output.old) (state output.new) text.now) }
-    ensures err { let state = sink_state W.contents W.pending W.failures in
-        IfErr result (IsWriteEnd (state output.old) (state output.new)) }
+    ensures ok { OnOk result (Writes (W.state output.old) (W.state output.new) text.now) }
+    ensures err { IfErr result (IsWriteEnd (W.state output.old) (W.state output.new)) }
 {
     match output.put(text) {
         Ok(()) => Ok(()),
@@ -22,11 +20,10 @@ pub(crate) fn print<W: Sink>(output: &mut W, text: &[u8]) -> Result<(), ReplayFa
 
 /// Flushes.
 pub(crate) fn deliver<W: Sink>(output: &mut W) -> Result<(), ReplayFault>
-    ensures kept { Keeps (W.contents output.old) (W.contents output.new) }
-    ensures ok { OnOk result (IsDelivered (W.pending output.new)
-        × Fails (W.failures output.old) (W.failures output.new) 0) }
-    ensures err { let state = sink_state W.contents W.pending W.failures in
-        IfErr result (IsWriteEnd (state output.old) (state output.new)) }
+    ensures kept { Keeps (W.state output.old).written (W.state output.new).written }
+    ensures ok { OnOk result (IsDelivered (W.state output.new).pending × Fails
+        (W.state output.old).tally (W.state output.new).tally 0) }
+    ensures err { IfErr result (IsWriteEnd (W.state output.old) (W.state output.new)) }
 {
     match output.deliver() {
         Ok(()) => Ok(()),
@@ -36,10 +33,9 @@ pub(crate) fn deliver<W: Sink>(output: &mut W) -> Result<(), ReplayFault>
 
 /// Writes the line of an answer.
 pub(crate) fn print_answer<W: Sink>(output: &mut W, answer: &Answer) -> Result<(), ReplayFault>
-    ensures ok { let state = sink_state W.contents W.pending W.failures in
-        OnOk result (Writes (state output.old) (state output.new) (answer_line answer.now)) }
-    ensures err { let state = sink_state W.contents W.pending W.failures in
-        IfErr result (IsWriteEnd (state output.old) (state output.new)) }
+    ensures ok { OnOk result (Writes (W.state output.old) (W.state output.new)
+        (answer_line answer.now)) }
+    ensures err { IfErr result (IsWriteEnd (W.state output.old) (W.state output.new)) }
 {
     let line = answer_line(answer);
     print(output, line.as_str().as_bytes())

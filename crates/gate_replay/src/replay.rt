@@ -4,7 +4,7 @@ ghost use Rattle.gate_core.specs.Limits.{limits_of, default_quota, IsOpenFault};
 ghost use Rattle.gate_core.specs.Legal.{IsLegal};
 ghost use Rattle.gate_solo.specs.Allowed.{IsAllowed};
 ghost use Rattle.gate_pages.specs.LogPage.{log_text};
-ghost use Rattle.gate_reader.specs.Sink.{sink_state, Delivers};
+ghost use Rattle.gate_reader.specs.Sink.{Delivers};
 ghost use Rattle.gate_reader.specs.Fault.{fault_in};
 ghost use Rattle.gate_replay.specs.Replay.{IsWholeInput, EndsWith, IsReplayRun};
 ghost use Rattle.gate_replay.specs.inner.Playing.{solo_view, IsShown, IsShownSoFar, IsLogEnd, EndsPlaying, IsInputFault};
@@ -44,12 +44,10 @@ fn read_input<I: Read>(alloc: Global, input: &mut I) -> Result<Vec<u8>, ReplayFa
 
 // Prints the log page, and flushes, also where there is no memory for the page.
 fn print_log<W: Sink>(alloc: Global, applier: &Applier, output: &mut W) -> Result<(), ReplayFault>
-    ensures ok { let state = sink_state W.contents W.pending W.failures in
-        OnOk result (Delivers (state output.old) (state output.new)
-        (log_text applier.now.records (outcomes_of applier.now.table applier.now.records))) }
+    ensures ok { OnOk result (Delivers (W.state output.old) (W.state output.new) (log_text
+        applier.now.records (outcomes_of applier.now.table applier.now.records))) }
     ensures few { length applier.now.records ≤ applier.now.limit }
-    ensures err { let state = sink_state W.contents W.pending W.failures in
-        IfErr result (IsLogEnd (state output.old) (state output.new)) }
+    ensures err { IfErr result (IsLogEnd (W.state output.old) (W.state output.new)) }
 {
     match log_page(alloc, applier.records(), applier.outcomes()) {
         Ok(page) => {
@@ -69,11 +67,9 @@ fn print_last_log<W: Sink>(
     applier: Applier,
     output: &mut W,
 ) -> Result<(), ReplayFault>
-    ensures ok { let state = sink_state W.contents W.pending W.failures in
-        OnOk result (Delivers (state output.old) (state output.new)
-        (log_text applier.records (outcomes_of applier.table applier.records))) }
-    ensures err { let state = sink_state W.contents W.pending W.failures in
-        IfErr result (IsLogEnd (state output.old) (state output.new)) }
+    ensures ok { OnOk result (Delivers (W.state output.old) (W.state output.new) (log_text
+        applier.records (outcomes_of applier.table applier.records))) }
+    ensures err { IfErr result (IsLogEnd (W.state output.old) (W.state output.new)) }
 {
     let printed = print_log(alloc, &applier, output);
     drop(applier);
@@ -101,10 +97,9 @@ where
     D::Ended: Drop,
     requires begun { D.after queue [] }
     requires limits { D.limits queue ≡ limits_of 2 default_quota script.setup.capacity }
-    ensures { let state = sink_state W.contents W.pending W.failures in
-        let ended = solo_view D.Ended.after D.Ended.limits in
+    ensures { let ended = solo_view D.Ended.after D.Ended.limits in
         EndsPlaying (IsShown ended) (IsShownSoFar (solo_view D.after D.limits) ended) script
-        (state output.old) (state output.new) (fault_in result) }
+        (W.state output.old) (W.state output.new) (fault_in result) }
 {
     let Script { setup, steps } = script;
     let Ok(player) = Player::open(alloc, queue, setup) else {
@@ -147,8 +142,8 @@ fn play_over_world<W: Sink>(
     script: Script,
     output: &mut W,
 ) -> Result<(), ReplayFault>
-    ensures { let state = sink_state W.contents W.pending W.failures in
-        EndsPlaying IsLegal IsLegal script (state output.old) (state output.new) (fault_in result) }
+    ensures { EndsPlaying IsLegal IsLegal script (W.state output.old) (W.state output.new)
+        (fault_in result) }
 {
     let world = match World::open(alloc, 2, script.setup.capacity as usize) {
         Ok(world) => world,
@@ -165,8 +160,7 @@ fn play_over_gate<R: Wait, W: Sink>(
     script: Script,
     output: &mut W,
 ) -> Result<(), ReplayFault>
-    ensures { let state = sink_state W.contents W.pending W.failures in
-        EndsPlaying IsAllowed IsAllowed script (state output.old) (state output.new)
+    ensures { EndsPlaying IsAllowed IsAllowed script (W.state output.old) (W.state output.new)
         (fault_in result) }
 {
     let opened = match open(alloc, 2, script.setup.capacity as usize) {
@@ -201,8 +195,7 @@ pub fn replay_script<R: Wait, I: Read, W: Sink>(
     input: &mut I,
     output: &mut W,
 ) -> Result<(), ReplayFault>
-    ensures { let state = sink_state W.contents W.pending W.failures in
-        EndsWith IsAllowed (I.remaining input.old) (state output.old) (state output.new)
+    ensures { EndsWith IsAllowed (I.remaining input.old) (W.state output.old) (W.state output.new)
         (fault_in result) }
 {
     let text = read_input(alloc, input)?;
@@ -217,8 +210,7 @@ pub fn replay_over_world<I: Read, W: Sink>(
     input: &mut I,
     output: &mut W,
 ) -> Result<(), ReplayFault>
-    ensures { let state = sink_state W.contents W.pending W.failures in
-        EndsWith IsLegal (I.remaining input.old) (state output.old) (state output.new)
+    ensures { EndsWith IsLegal (I.remaining input.old) (W.state output.old) (W.state output.new)
         (fault_in result) }
 {
     let text = read_input(alloc, input)?;
@@ -239,10 +231,8 @@ pub fn run_replay<R: Wait, I: Read, W: Sink, E: Sink>(
     output: &mut W,
     errors: &mut E,
 ) -> u8
-    ensures { let of_output = sink_state W.contents W.pending W.failures in
-        let of_errors = sink_state E.contents E.pending E.failures in
-        IsReplayRun IsAllowed (I.remaining input.old) (of_output output.old) (of_output output.new)
-        (of_errors errors.old) (of_errors errors.new) result }
+    ensures { IsReplayRun IsAllowed (I.remaining input.old) (W.state output.old)
+        (W.state output.new) (E.state errors.old) (E.state errors.new) result }
 {
     let fault = replay_script(rt, alloc, input, output).err();
     end_with(&fault, errors)

@@ -59,7 +59,7 @@ fn stream_session<S: Submit>(
     now: Moment,
     client: &mut S,
 ) -> Report
-    ensures answered { let view = client_view S.stands S.knows S.answers (S.named client.old) in
+    ensures answered { let view = client_view S.Submit (S.named client.old) in
         (packet : Content) (answer : Answer) → BeginsWith bytes.now packet → HasOnly result answer
         → AnswersPacket view greatest_age packet now client.old answer client.new }
     ensures named { S.named client.new ≡ S.named client.old }
@@ -88,7 +88,7 @@ fn packet_session<S: Submit>(
     now: Moment,
     client: &mut S,
 ) -> Report
-    ensures answered { let view = client_view S.stands S.knows S.answers (S.named client.old) in
+    ensures answered { let view = client_view S.Submit (S.named client.old) in
         (answer : Answer) → HasOnly result answer → AnswersPacket view greatest_age
         (received sent.now) now client.old answer client.new }
     ensures named { S.named client.new ≡ S.named client.old }
@@ -115,8 +115,7 @@ fn line_session<O: Operator>(
     operator: &mut O,
     written: &mut Vec<u8>,
 ) -> Result<Report, AllocError>
-    ensures answered { let view = operator_view O.stands O.knows O.answers O.closes
-        (O.named operator.old) in
+    ensures answered { let view = operator_view O.Submit O.Operator.own (O.named operator.old) in
         IfOk result (λ report. (answer : Answer) → HasOnly report answer
         → CarriesOut view now operator.old
         (body_of_line (text_before 10 (text.now ++ 10 ∷ []))) answer operator.new) }

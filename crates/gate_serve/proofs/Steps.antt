@@ -82,7 +82,7 @@ page_after config before middle after applier p of_table given = record {
 
 -- a call failed after the addresses
 fails_after : (config : Config) (before middle after : SinkState) → FollowsAddresses config before middle [] → FailsOnce middle after → FailsOnce before after
-fails_after config before middle after printed k = fails_then before.failures middle.failures after.failures 1 printed.printed.none_failed k
+fails_after config before middle after printed k = fails_then before.tally middle.tally after.tally 1 printed.printed.none_failed k
 
 -- the addresses can't be written
 pub write_ends : (config : Config) (before after : SinkState) (queued : List (ℕ × List ℕ)) (found : ServeFault) → IsWriteEnd before after found → RunsOn config before after queued (Some found)

@@ -1,5 +1,5 @@
 ghost use Rattle.std.specs.Prelude.{◌≡◌, ◌⊎◌, ◌++◌, IfOk, IfErr, OnOk};
-ghost use Rattle.gate_reader.specs.Sink.{sink_state, Delivers};
+ghost use Rattle.gate_reader.specs.Sink.{Delivers};
 ghost use Rattle.gate_serve.specs.BeforeServing.{address_line, address_lines, IsWriteEnd};
 
 use crate::fault::ServeFault;
@@ -21,10 +21,8 @@ fn write_fault(error: &io::Error) -> ServeFault
 
 /// Prints a text, and flushes.
 pub(crate) fn print<W: Sink>(output: &mut W, text: &[u8]) -> Result<(), ServeFault>
-    ensures ok { let state = sink_state W.contents W.pending W.failures in
-        OnOk result (Delivers (state output.old) (state output.new) text.now) }
-    ensures err { let state = sink_state W.contents W.pending W.failures in
-        IfErr result (IsWriteEnd (state output.old) (state output.new)) }
+    ensures ok { OnOk result (Delivers (W.state output.old) (W.state output.new) text.now) }
+    ensures err { IfErr result (IsWriteEnd (W.state output.old) (W.state output.new)) }
 {
     match put_last(output, text) {
         Ok(()) => Ok(()),
@@ -70,11 +68,9 @@ pub(crate) fn announce<W: Sink>(
     pages: SocketAddr,
     output: &mut W,
 ) -> Result<(), ServeFault>
-    ensures ok { let state = sink_state W.contents W.pending W.failures in
-        OnOk result (Delivers (state output.old) (state output.new)
+    ensures ok { OnOk result (Delivers (W.state output.old) (W.state output.new)
         (address_lines agents operators pages)) }
-    ensures err { let state = sink_state W.contents W.pending W.failures in
-        IfErr result (IsWriteEnd (state output.old) (state output.new)) }
+    ensures err { IfErr result (IsWriteEnd (W.state output.old) (W.state output.new)) }
 {
     let text = address_lines(alloc, agents, operators, pages)?;
     print(output, &text)

@@ -1,5 +1,5 @@
 ghost use Rattle.std.specs.Prelude.{◌≡◌, ◌≤◌, length, IfErr, IfOk, IfSome, IsOk, None, OnOk};
-ghost use Rattle.gate_reader.specs.Sink.{SinkState, sink_state, Delivers};
+ghost use Rattle.gate_reader.specs.Sink.{SinkState, Delivers};
 ghost use Rattle.gate_daemon.specs.Answered.{queued_by_each};
 ghost use Rattle.gate_serve.specs.BeforeServing.{IsWriteEnd};
 ghost use Rattle.gate_serve.specs.Serve.{page_of};
@@ -18,12 +18,10 @@ use std::alloc::Global;
 
 // Prints the log page, and flushes.
 fn print_log<W: Sink>(alloc: Global, applier: &Applier, output: &mut W) -> Result<(), ServeFault>
-    ensures ok { let state = sink_state W.contents W.pending W.failures in
-        OnOk result (Delivers (state output.old) (state output.new)
-        (page_of applier.now.table applier.now.records)) }
+    ensures ok { OnOk result (Delivers (W.state output.old) (W.state output.new) (page_of
+        applier.now.table applier.now.records)) }
     ensures few { length applier.now.records ≤ applier.now.limit }
-    ensures err { let state = sink_state W.contents W.pending W.failures in
-        IfErr result (IsWriteEnd (state output.old) (state output.new)) }
+    ensures err { IfErr result (IsWriteEnd (W.state output.old) (W.state output.new)) }
 {
     let page = log_page(alloc, applier.records(), applier.outcomes())?;
     print(output, &page)
@@ -44,8 +42,8 @@ fn fault_of(cause: CloseAllCause) -> ServeFault
 // Prints the log page of a gateway that did not apply all.
 fn end_early<W: Sink>(alloc: Global, fault: CloseAllFault, output: &mut W) -> ServeFault
     requires { IsStopCause fault.cause }
-    ensures { let state = sink_state W.contents W.pending W.failures in
-        IsCloseEnd fault.cause fault.applier (state output.old) (state output.new) result }
+    ensures { IsCloseEnd fault.cause fault.applier (W.state output.old) (W.state output.new)
+        result }
 {
     let printed = print_log(alloc, &fault.applier, output);
     let cause = fault.cause;
@@ -73,11 +71,10 @@ fn end_whole<W: Sink>(
     operator: Cause,
     output: &mut W,
 ) -> Option<ServeFault>
-    ensures printed { let state = sink_state W.contents W.pending W.failures in
-        result ≡ None → (fault_after operator ≡ None)
-        × IsPageGiven applier (state output.old) (state output.new) }
-    ensures err { let state = sink_state W.contents W.pending W.failures in
-        IfSome result (IsWholeEnd operator applier (state output.old) (state output.new)) }
+    ensures printed { result ≡ None → (fault_after operator ≡ None) × IsPageGiven applier
+        (W.state output.old) (W.state output.new) }
+    ensures err { IfSome result (IsWholeEnd operator applier (W.state output.old)
+        (W.state output.new)) }
 {
     let printed = print_log(alloc, &applier, output);
     drop(applier);
@@ -96,11 +93,10 @@ pub(crate) fn end<W: Sink>(
     requires { IfErr ran HasStopped }
     ensures finished { result.fault ≡ None → IsOk ran }
     ensures reports { queued_by_each result.reports.items ≡ queued_after ran }
-    ensures printed { let state = sink_state W.contents W.pending W.failures in
-        IfOk ran (λ finished. result.fault ≡ None → (fault_after finished.operator ≡ None)
-        × IsPageGiven finished.closed.applier (state output.old) (state output.new)) }
-    ensures err { let state = sink_state W.contents W.pending W.failures in
-        IfSome result.fault (IsRunEnd ran (state output.old) (state output.new)) }
+    ensures printed { IfOk ran (λ finished. result.fault ≡ None
+        → (fault_after finished.operator ≡ None) × IsPageGiven finished.closed.applier
+        (W.state output.old) (W.state output.new)) }
+    ensures err { IfSome result.fault (IsRunEnd ran (W.state output.old) (W.state output.new)) }
 {
     match ran {
         Ok(

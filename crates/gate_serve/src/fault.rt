@@ -1,5 +1,5 @@
 ghost use Rattle.std.specs.Prelude.{◌≡◌, ◌++◌, OnOk, OnErr, codes};
-ghost use Rattle.gate_reader.specs.Sink.{sink_state, Delivers, FailsOnce};
+ghost use Rattle.gate_reader.specs.Sink.{Delivers, FailsOnce};
 
 use gate_model::Text;
 use gate_reader::{Fault, Sink, put_last};
@@ -45,11 +45,9 @@ impl From<AllocError> for ServeFault {
 
 // Writes a line of two texts, and flushes.
 fn report_text<E: Sink>(errors: &mut E, before: &[u8], text: &[u8]) -> io::Result<()>
-    ensures ok { let state = sink_state E.contents E.pending E.failures in
-        OnOk result (Delivers (state errors.old) (state errors.new)
+    ensures ok { OnOk result (Delivers (E.state errors.old) (E.state errors.new)
         (before.now ++ text.now ++ codes "\n")) }
-    ensures err { let state = sink_state E.contents E.pending E.failures in
-        OnErr result (FailsOnce (state errors.old) (state errors.new)) }
+    ensures err { OnErr result (FailsOnce (E.state errors.old) (E.state errors.new)) }
 {
     errors.put(before)?;
     errors.put(text)?;

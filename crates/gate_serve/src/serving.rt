@@ -1,6 +1,5 @@
 ghost use Rattle.std.specs.Prelude.{◌≡◌, ℕ, List, IfErr, IfOk, vec_len};
 ghost use Rattle.gate_close.specs.DrainedClose.{items_of_records};
-ghost use Rattle.gate_reader.specs.Sink.{sink_state};
 ghost use Rattle.gate_daemon.specs.Answered.{queued_by_each, HoldsAll};
 ghost use Rattle.gate_daemon.specs.Faults.{IsGatewayFault};
 ghost use Rattle.gate_serve.specs.BeforeServing.{AreBoundAs, Configures};
@@ -106,8 +105,7 @@ fn serve_on<
     W: Sink,
 >(rt: &R, alloc: Global, config: Config, listening: Listening, output: &mut W) -> Served
     requires bound { AreBoundAs config listening.agents listening.operators listening.pages }
-    ensures { let state = sink_state W.contents W.pending W.failures in
-        RunsOn config (state output.old) (state output.new)
+    ensures { RunsOn config (W.state output.old) (W.state output.new)
         (queued_by_each result.reports.items) result.fault }
 {
     let Listening {
@@ -147,8 +145,7 @@ pub fn serve<
     R: Files + Net<Listener = TcpListener, Stream = TcpStream> + Threads + Wait + Clock + Sync,
     W: Sink,
 >(rt: &R, alloc: Global, path: &str, output: &mut W) -> Served
-    ensures { let state = sink_state W.contents W.pending W.failures in
-        ServeEnds (state output.old) (state output.new)
+    ensures { ServeEnds (W.state output.old) (W.state output.new)
         (queued_by_each result.reports.items) result.fault }
 {
     let config = match configuration(rt, alloc, path) {
@@ -178,10 +175,8 @@ pub fn run_serve<
     W: Sink,
     E: Sink,
 >(rt: &R, alloc: Global, path: &str, output: &mut W, errors: &mut E) -> u8
-    ensures { let of_output = sink_state W.contents W.pending W.failures in
-        let of_errors = sink_state E.contents E.pending E.failures in
-        IsServeRun (of_output output.old) (of_output output.new)
-        (of_errors errors.old) (of_errors errors.new) result }
+    ensures { IsServeRun (W.state output.old) (W.state output.new) (E.state errors.old)
+        (E.state errors.new) result }
 {
     let Served { reports, fault } = serve(rt, alloc, path, output);
     drop(reports);

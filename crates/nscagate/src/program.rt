@@ -1,6 +1,5 @@
 ghost use Rattle.std.specs.Prelude.{◌≡◌, ◌≢◌, ℕ, List, Some, None, map, string_bytes};
 ghost use Rattle.gate_solo.specs.Allowed.{IsAllowed};
-ghost use Rattle.gate_reader.specs.Sink.{sink_state};
 ghost use Rattle.gate_words.specs.Words.{asked_of, replay, serve};
 ghost use Rattle.gate_replay.specs.Replay.{IsReplayRun};
 ghost use Rattle.nscagate.specs.Program.{IsRefused};
@@ -32,19 +31,14 @@ pub fn run_program<
     W: Sink,
     E: Sink,
 >(rt: &T, alloc: Global, words: &[String], input: &mut R, output: &mut W, errors: &mut E) -> u8
-    ensures replay { asked_of (map string_bytes words.now) ≡ Some replay →
-        let of_output = sink_state W.contents W.pending W.failures in
-        let of_errors = sink_state E.contents E.pending E.failures in
-        IsReplayRun IsAllowed (R.remaining input.old) (of_output output.old) (of_output output.new)
-        (of_errors errors.old) (of_errors errors.new) result }
-    ensures serve { (path : List ℕ) → asked_of (map string_bytes words.now) ≡ Some (serve path) →
-        let of_output = sink_state W.contents W.pending W.failures in
-        let of_errors = sink_state E.contents E.pending E.failures in
-        IsServeRun (of_output output.old) (of_output output.new)
-        (of_errors errors.old) (of_errors errors.new) result }
-    ensures refused { asked_of (map string_bytes words.now) ≡ None →
-        let state = sink_state E.contents E.pending E.failures in
-        IsRefused (state errors.old) (state errors.new) result }
+    ensures replay { asked_of (map string_bytes words.now) ≡ Some replay → IsReplayRun IsAllowed
+        (R.remaining input.old) (W.state output.old) (W.state output.new) (E.state errors.old)
+        (E.state errors.new) result }
+    ensures serve { (path : List ℕ) → asked_of (map string_bytes words.now) ≡ Some (serve path)
+        → IsServeRun (W.state output.old) (W.state output.new) (E.state errors.old)
+        (E.state errors.new) result }
+    ensures refused { asked_of (map string_bytes words.now) ≡ None → IsRefused (E.state errors.old)
+        (E.state errors.new) result }
 
     ensures unread { asked_of (map string_bytes words.now) ≢ Some replay → input.new ≡ input.old }
     ensures unprinted { asked_of (map string_bytes words.now) ≡ None → output.new ≡ output.old }

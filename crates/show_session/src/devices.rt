@@ -4,7 +4,7 @@ use crate::settings::Settings;
 use gate_model::Moment;
 use gate_reader::{Clock, Sink, Source};
 use std::io;
-use std::io::{Error, ErrorKind, Read, Write};
+use std::io::{Error, ErrorKind, Write};
 
 /// A reader that gives a stream in pieces. One read may fail and one be interrupted; the next ones
 /// go on where the last one ended.
@@ -46,8 +46,8 @@ impl<'a> Pieces<'a> {
     }
 }
 
-impl Read for Pieces<'_> {
-    fn read(&mut self, buf: &mut [u8]) -> io::Result<usize> {
+impl Source for Pieces<'_> {
+    fn take_some(&mut self, buf: &mut [u8]) -> io::Result<usize> {
         self.calls = self.calls.saturating_add(1);
         if self.calls == self.failed {
             return Err(Error::from(ErrorKind::ConnectionReset));
@@ -56,12 +56,6 @@ impl Read for Pieces<'_> {
             return Err(Error::from(ErrorKind::Interrupted));
         }
         Ok(self.copy(buf))
-    }
-}
-
-impl Source for Pieces<'_> {
-    fn take_some(&mut self, buf: &mut [u8]) -> io::Result<usize> {
-        self.read(buf)
     }
 }
 

@@ -2,7 +2,7 @@ use crate::devices::{Kept, Pieces, Ticking};
 use crate::settings::Settings;
 use gate_core::{LocalClient, Operator, Submit, World};
 use gate_model::{Body, Kind, Moment};
-use gate_reader::{Counting, Report, SessionLimits, serve_lines, serve_packets};
+use gate_reader::{Report, SessionLimits, serve_lines, serve_packets};
 use std::alloc::Global;
 use std::io;
 use std::io::{Error, ErrorKind};
@@ -45,8 +45,8 @@ fn report_of(
     client: &mut LocalClient,
     written: &mut Vec<u8>,
 ) -> Report {
-    let mut reader = Counting::new(Pieces::new(stream, settings));
-    let mut writer = Counting::new(Kept::new(written, settings));
+    let mut reader = Pieces::new(stream, settings);
+    let mut writer = Kept::new(written, settings);
     let mut clock = Ticking::new(settings);
     let limits = SessionLimits {
         items: settings.items,

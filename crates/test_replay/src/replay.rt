@@ -2,7 +2,7 @@ use gate_reader::Sink;
 use gate_replay::{replay_over_world, replay_script, run_replay};
 use std::alloc::Global;
 use std::io;
-use std::io::{Error, ErrorKind, Read, Write};
+use std::io::{Error, ErrorKind, Read};
 use std::sync::Wait;
 
 const SCRIPT: &[u8] = b"open;1000;9;4;1\npacket;1000;0;web1;;a\npacket;1;0;web1;;b\n";
@@ -62,36 +62,19 @@ struct FailsOnce {
     taken: Vec<u8>,
 }
 
-impl Write for FailsOnce {
-    fn write(&mut self, buf: &[u8]) -> io::Result<usize> {
-        if self.left == 0 && !self.failed {
-            self.failed = true;
-            return Err(Error::from(self.kind));
-        }
-        let count = if self.failed {
-            buf.len()
-        } else {
-            buf.len().min(self.left)
-        };
-        self.taken.extend_from_slice(&buf[..count])?;
-        if !self.failed {
-            self.left -= count;
-        }
-        Ok(count)
-    }
-
-    fn flush(&mut self) -> io::Result<()> {
-        Ok(())
-    }
-}
-
 impl Sink for FailsOnce {
     fn put(&mut self, bytes: &[u8]) -> io::Result<()> {
-        self.write_all(bytes)
+        if self.failed || bytes.len() <= self.left {
+            self.left = self.left.saturating_sub(bytes.len());
+            return Ok(self.taken.extend_from_slice(bytes)?);
+        }
+        self.failed = true;
+        self.taken.extend_from_slice(&bytes[..self.left])?;
+        Err(Error::from(self.kind))
     }
 
     fn deliver(&mut self) -> io::Result<()> {
-        self.flush()
+        Ok(())
     }
 }
 
@@ -99,23 +82,13 @@ impl Sink for FailsOnce {
 #[derive(Drop)]
 struct FailsToFlush;
 
-impl Write for FailsToFlush {
-    fn write(&mut self, buf: &[u8]) -> io::Result<usize> {
-        Ok(buf.len())
-    }
-
-    fn flush(&mut self) -> io::Result<()> {
-        Err(Error::from(ErrorKind::StorageFull))
-    }
-}
-
 impl Sink for FailsToFlush {
-    fn put(&mut self, bytes: &[u8]) -> io::Result<()> {
-        self.write_all(bytes)
+    fn put(&mut self, _bytes: &[u8]) -> io::Result<()> {
+        Ok(())
     }
 
     fn deliver(&mut self) -> io::Result<()> {
-        self.flush()
+        Err(Error::from(ErrorKind::StorageFull))
     }
 }
 

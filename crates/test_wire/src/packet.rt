@@ -371,10 +371,22 @@ fn is_shown_as<D: Display>(alloc: Global, fault: &D, want: &str) -> bool {
 }
 
 #[test]
-fn the_fault_of_a_long_host_names_its_limit(rt: HostRuntime) {
-    let fault = ContentFault::TooLong(Field::Host);
-    let want = "the host's name is longer than 63 bytes";
-    assert!(rt; is_shown_as(rt.alloc(), &fault, want));
+fn the_fault_of_a_content_names_the_text_and_its_limit(rt: HostRuntime) {
+    use ContentFault::{EmptyHost, HasNul, TooLong};
+    use Field::{Host, Output, Service};
+    #[rattlefmt::skip]
+    let cases: [(ContentFault, &str); 7] = [
+        (EmptyHost,        "the host's name is empty"),
+        (TooLong(Host),    "the host's name is longer than 63 bytes"),
+        (TooLong(Service), "the service's name is longer than 127 bytes"),
+        (TooLong(Output),  "the output is longer than 4095 bytes"),
+        (HasNul(Host),     "the host's name has a NUL"),
+        (HasNul(Service),  "the service's name has a NUL"),
+        (HasNul(Output),   "the output has a NUL"),
+    ];
+    for (fault, want) in cases {
+        assert!(rt; is_shown_as(rt.alloc(), &fault, want));
+    }
 }
 
 #[test]

@@ -5,7 +5,6 @@ use Rattle.gate_solo.specs.Allowed.{IsAllowed}
 use Rattle.gate_solo.specs.Ending.{with_ends, IsGateAfter}
 use Rattle.gate_solo.specs.SoloGate.{SoloState, IsAfter}
 use Rattle.gate_queue.specs.Taker.{TakerState}
-use Rattle.gate_reader.specs.Sink.{sink_state}
 use Rattle.gate_reader.specs.Fault.{fault_in}
 use Rattle.gate_replay.specs.inner.Playing.{solo_view, IsShown, IsShownSoFar}
 use Rattle.gate_replay.proofs.ReplayEnds.{ends_too}
@@ -22,5 +21,5 @@ shown_so_far limits run h =
 
 pub returns : goal.returns
 returns g c =
-    let state = sink_state g.W.Write.contents g.W.Sink.pending g.W.Sink.failures in
+    let state = g.W.Sink.state in
     ends_too (IsShown (solo_view IsGateAfter (λ (taker : TakerState). taker.gate.limits))) (IsShownSoFar (solo_view IsAfter (λ (queue : SoloState). queue.client.gate.limits)) (solo_view IsGateAfter (λ (taker : TakerState). taker.gate.limits))) IsAllowed c.args.script (state c.args.output.now) (state c.play_over.new.output) (fault_in c.play_over.result) shown_allowed shown_so_far c.play_over.ensures

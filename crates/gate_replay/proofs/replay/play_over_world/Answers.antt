@@ -7,7 +7,6 @@ use Rattle.gate_core.specs.LocalClient.{LocalState}
 use Rattle.gate_solo.specs.Ending.{with_ends}
 use Rattle.gate_solo.specs.SoloWorld.{IsAfter}
 use Rattle.gate_solo.specs.laws.SoloWorlds.{open_at}
-use Rattle.gate_reader.specs.Sink.{sink_state}
 use Rattle.gate_reader.specs.Fault.{fault_in}
 use Rattle.gate_replay.specs.inner.Playing.{solo_view, IsShown, IsShownSoFar}
 use Rattle.gate_replay.proofs.ReplayEnds.{ends_too}
@@ -24,7 +23,7 @@ shown_so_far limits run h =
 
 pub returns : goal.returns
 returns g c =
-    let state = sink_state g.W.Write.contents g.W.Sink.pending g.W.Sink.failures in
+    let state = g.W.Sink.state in
     ends_too (IsShown (solo_view StandsAfter (λ (world : WorldState). world.limits))) (IsShownSoFar (solo_view IsAfter (λ (client : LocalState). client.world.limits)) (solo_view StandsAfter (λ (world : WorldState). world.limits))) IsLegal c.args.script (state c.args.output.now) (state c.play_over.new.output) (fault_in c.play_over.result) shown_legal shown_so_far c.play_over.ensures
 
 pub unwrap-queue-requires : goal.unwrap-queue-requires

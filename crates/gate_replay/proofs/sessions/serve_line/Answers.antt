@@ -10,7 +10,7 @@ pub returns-clause-answered : goal.returns-clause-answered
 returns-clause-answered g c = λ a only.
     let old = c.turn_to-client.result in
     let new = c.line_session.new.operator in
-    line_step (solo_view g.D.SoloQueue.after g.D.SoloQueue.limits) (operator_view g.D.Submit.stands g.D.Submit.knows g.D.Submit.answers g.D.Operator.closes (g.D.Submit.named old)) c.args.queue old new c.args.text.now c.args.now a
+    line_step (solo_view g.D.SoloQueue.after g.D.SoloQueue.limits) (operator_view g.D.Submit g.D.Operator (g.D.Submit.named old)) c.args.queue old new c.args.text.now c.args.now a
     c.turn_to-client.ensures.after c.turn_to-client.ensures.limits
     (λ body r run h shown. subst (λ n. g.D.SoloQueue.after new (submitted n body r ++ run)) c.turn_to-client.ensures.named (g.met.D.SoloQueue.after_submit old new body r run h shown))
     (λ moment r run h shown. g.met.D.SoloQueue.after_close old new moment r run h shown)

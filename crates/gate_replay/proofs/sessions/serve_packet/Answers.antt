@@ -11,7 +11,7 @@ returns g c = record {
   answered = λ a only.
       let old = c.turn_to-client.result in
       let new = c.packet_session-report.new.client in
-      packet_step (solo_view g.D.SoloQueue.after g.D.SoloQueue.limits) (client_view g.D.Submit.stands g.D.Submit.knows g.D.Submit.answers (g.D.Submit.named old)) c.args.queue old new c.args.greatest_age c.args.sent.now c.args.now a
+      packet_step (solo_view g.D.SoloQueue.after g.D.SoloQueue.limits) (client_view g.D.Submit (g.D.Submit.named old)) c.args.queue old new c.args.greatest_age c.args.sent.now c.args.now a
       c.turn_to-client.ensures.after c.turn_to-client.ensures.limits
       (λ body r run h shown. subst (λ n. g.D.SoloQueue.after new (submitted n body r ++ run)) c.turn_to-client.ensures.named (g.met.D.SoloQueue.after_submit old new body r run h shown))
       (g.met.D.SoloQueue.same_limits old new c.packet_session-report.ensures.keeps)

@@ -1,6 +1,5 @@
 use Rattle.std.proofs.Common.{ℕ, List, sym, subst}
 use Rattle.std.proofs.lemmas.Result.{IfErr-weaker}
-use Rattle.gate_reader.specs.Sink.{sink_state}
 use Rattle.gate_serve.specs.inner.Serving.{RunsOn}
 use Rattle.gate_serve.proofs.Steps.{announced, ends_on, has_stopped}
 use Rattle.gate_serve.proofs.serving.serve_on.Goals as goal
@@ -12,7 +11,7 @@ end-requires g c =
 
 pub returns-in-Ok : goal.returns-in-Ok
 returns-in-Ok g c =
-    let state = sink_state g.W.Write.contents g.W.Sink.pending g.W.Sink.failures in
+    let state = g.W.Sink.state in
     let bound = c.args.listening in
     subst (λ (queued : List (ℕ × List ℕ)). RunsOn c.args.config (state c.args.output.now) (state c.end.new.output) queued c.end.result.fault) (sym c.end.ensures.reports)
     (ends_on c.run-ran.result c.end.result.fault c.args.config (state c.args.output.now) (state c.announce.new.output) (state c.end.new.output)

@@ -1,5 +1,5 @@
 use Rattle.std.proofs.Common.{◌≡◌, refl, subst}
-use Rattle.gate_reader.specs.Sink.{sink_state, Writes}
+use Rattle.gate_reader.specs.Sink.{Writes}
 use Rattle.gate_reader.specs.Report.{answer_line}
 use Rattle.gate_replay.specs.declared.script.Step.TheVariants as step
 use Rattle.gate_replay.specs.inner.Playing.{solo_view}
@@ -8,7 +8,7 @@ use Rattle.gate_replay.proofs.player.Player.line.Goals as goal
 
 pub returns-clause-served : goal.returns-clause-served
 returns-clause-served g c =
-    let state = sink_state g.W.Write.contents g.W.Sink.pending g.W.Sink.failures in
+    let state = g.W.Sink.state in
     let text : c.deref.result.now ≡ answer_line c.in-Some.answer.now =
     written_line _ _ _ (answer_line c.in-Some.answer.now) c.deref.ensures.value (c.in-Ok.ensures.written c.in-Some.answer.now c.in-Some.ensures) c.new-written.ensures.items in
     serves_session (solo_view g.D.SoloQueue.after g.D.SoloQueue.limits) c.args.self _ (state c.args.output.now) (state c.print.new.output) (step.Line c.args.text.now) c.in-Some.answer.now
