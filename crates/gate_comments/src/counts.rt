@@ -3,7 +3,7 @@ ghost use Rattle.gate_model.specs.declared.comments.Comment.{Comment};
 ghost use Rattle.gate_model.specs.Comments.{removes};
 ghost use Rattle.gate_model.specs.Meaning.{outlives};
 ghost use Rattle.gate_comments.specs.Book.{without, with_live, AnswersBy};
-ghost use Rattle.gate_comments.specs.inner.Counts.{bucket_of, is_in_bucket, is_of_downtime, may_remove, IsCounted};
+ghost use Rattle.gate_comments.specs.inner.Counts.{bucket_of, is_in_bucket, is_of_downtime, may_remove, IsCounted, CountsAll, KeepsPlaces};
 
 use gate_model::{Comment, CommentEvent, Source};
 use std::alloc::{AllocError, Global};
@@ -48,7 +48,7 @@ impl Counts {
     /// Counts one comment more.
     pub fn add(&mut self, comment: Comment)
         requires { 16384 ≤ length self.old.places.items }
-        ensures len { length self.new.places.items ≡ length self.old.places.items }
+        ensures len { KeepsPlaces self.old self.new }
         ensures counted { (comments : List Comment) → length comments + 1 < 2 ^ 32
             → IsCounted self.old.places.items self.old.downtimes comments
             → IsCounted self.new.places.items self.new.downtimes (comments ++ comment ∷ []) }
@@ -63,7 +63,7 @@ impl Counts {
     /// Counts one comment less.
     pub fn remove(&mut self, comment: Comment)
         requires { 16384 ≤ length self.old.places.items }
-        ensures len { length self.new.places.items ≡ length self.old.places.items }
+        ensures len { KeepsPlaces self.old self.new }
         ensures counted { (before after : List Comment)
             → IsCounted self.old.places.items self.old.downtimes (before ++ comment ∷ after)
             → IsCounted self.new.places.items self.new.downtimes (before ++ after) }
@@ -77,9 +77,8 @@ impl Counts {
 
     /// Counts the comments of the list no more that the event removes.
     pub fn remove_all(&mut self, comments: &[Comment], event: CommentEvent)
-        requires sized { 0 < length comments.now → 16384 ≤ length self.old.places.items }
-        requires counted { IsCounted self.old.places.items self.old.downtimes comments.now }
-        ensures len { length self.new.places.items ≡ length self.old.places.items }
+        requires counts { CountsAll self.old comments.now }
+        ensures len { KeepsPlaces self.old self.new }
         ensures counted { IsCounted self.new.places.items self.new.downtimes (
             without event comments.now) }
     {
@@ -93,9 +92,8 @@ impl Counts {
     /// Counts the comments of the list no more that are of downtime entries which aren't live.
     pub fn remove_ended<L: Fn(u32) -> bool>(&mut self, comments: &[Comment], is_live: &L)
         requires callable { L.IsAlwaysCallable is_live.now }
-        requires sized { 0 < length comments.now → 16384 ≤ length self.old.places.items }
-        requires counted { IsCounted self.old.places.items self.old.downtimes comments.now }
-        ensures len { length self.new.places.items ≡ length self.old.places.items }
+        requires counts { CountsAll self.old comments.now }
+        ensures len { KeepsPlaces self.old self.new }
         ensures counted { (live : ℕ → Bool) → AnswersBy (L.post is_live.now) live
             → IsCounted self.new.places.items self.new.downtimes (with_live live comments.now) }
     {

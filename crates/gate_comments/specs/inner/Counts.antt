@@ -1,10 +1,11 @@
 -- For proofs and private functions alone: what the hidden counts of a book count.
-use Rattle.std.specs.Prelude.{◌≡◌, ℕ, ◌%◌, ◌==◌, Bool, true, false, List, slice_index, nat_lt, count_by}
+use Rattle.std.specs.Prelude.{◌≡◌, ℕ, ◌%◌, ◌==◌, ◌<◌, ◌≤◌, Bool, true, false, List, length, slice_index, nat_lt, count_by}
 use Rattle.gate_model.specs.declared.comments.Source.{Source}
 use Rattle.gate_model.specs.declared.comments.Source.TheVariants.{User, Ack, Downtime}
 use Rattle.gate_model.specs.declared.comments.Comment.{Comment}
 use Rattle.gate_model.specs.declared.comments.CommentEvent.{CommentEvent}
 use Rattle.gate_model.specs.declared.comments.CommentEvent.TheVariants.{Add, Delete, DeleteAll, Clear, Gone}
+use Rattle.gate_comments.specs.declared.counts.Counts.{Counts}
 
 -- in which count a comment on the object at this place is
 abbrev pub bucket_of : ℕ → ℕ
@@ -28,6 +29,15 @@ is_of_downtime comment = is_downtime comment.source
 pub record IsCounted (places : List ℕ) (downtimes : ℕ) (comments : List Comment) : Type 0 where
   pub places_are : (bucket : ℕ) → slice_index places bucket ≡ count_by (is_in_bucket bucket) comments
   pub downtimes_are : downtimes ≡ count_by is_of_downtime comments
+
+-- the counts are those of these comments, and have all their memory where there are any
+pub record CountsAll (counts : Counts) (comments : List Comment) : Type 0 where
+  pub sized : 0 < length comments → 16384 ≤ length counts.places.items
+  pub counted : IsCounted counts.places.items counts.downtimes comments
+
+-- there are as many counts by place as there were
+abbrev pub KeepsPlaces : Counts → Counts → Type 0
+KeepsPlaces old new = length new.places.items ≡ length old.places.items
 
 -- the event may remove a comment, by the counts: one is there on its object, or of a downtime entry
 abbrev pub may_remove : CommentEvent → List Comment → Bool
