@@ -38,6 +38,10 @@ abbrev pub is_stale : ℕ → ℕ → ℕ → Bool
 is_stale timestamp now greatest_age =
     not (greatest_age == 0) && nat_le timestamp now && nat_lt greatest_age (now - timestamp)
 
+-- the packet isn't stale at this moment
+abbrev pub IsFresh : ℕ → ℕ → Content → Type 0
+IsFresh now greatest_age p = is_stale p.timestamp now greatest_age ≡ false
+
 -- the first fault of the bytes at this moment
 unfoldable pub fault_of : List ℕ → ℕ → ℕ → Option PacketFault
 fault_of bytes now greatest_age =
@@ -60,8 +64,7 @@ IsPacketOrOutOfMemory (Err fault) p = fault ≡ OutOfMemory
 -- the result is the packet that the bytes are, if it isn't stale at this moment, or out of memory
 abbrev pub ReadsFreshPacket : List ℕ → ℕ → ℕ → Result Content PacketFault → Type 0
 ReadsFreshPacket bytes now greatest_age result =
-    (p : Content) → IsPacket bytes p → is_stale p.timestamp now greatest_age ≡ false
-    → IsPacketOrOutOfMemory result p
+    (p : Content) → IsPacket bytes p → IsFresh now greatest_age p → IsPacketOrOutOfMemory result p
 
 -- the result is the first fault of the bytes at this moment, if they have one
 abbrev pub ReportsFirstFault : List ℕ → ℕ → ℕ → Result Content PacketFault → Type 0

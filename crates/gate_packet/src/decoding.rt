@@ -1,8 +1,8 @@
-ghost use Rattle.std.specs.Prelude.{◌≡◌, ◌==◌, ◌<◌, ◌≤◌, ◌+◌, ℕ, List, position, length, IfOk, IfErr, false};
+ghost use Rattle.std.specs.Prelude.{◌≡◌, ◌==◌, ◌<◌, ◌≤◌, ◌+◌, ℕ, List, position, length, IfOk, IfErr};
 ghost use Rattle.std.specs.List.{before_first};
 ghost use Rattle.gate_packet.specs.Layout.{IsPacketSize, integer_at, text_at, host_name};
 ghost use Rattle.gate_packet.specs.Packet.{Content};
-ghost use Rattle.gate_packet.specs.Decoding.{IsPacket, content_of, is_stale, fault_of, IsReportedFault, ReadsFreshPacket, ReportsFirstFault, IsAtMostOnePacket, IsContentOfBytes, IsPacketIfFaultless, IsFaultlessOrStale, FitsShortIfRead};
+ghost use Rattle.gate_packet.specs.Decoding.{IsPacket, content_of, is_stale, IsFresh, fault_of, IsReportedFault, ReadsFreshPacket, ReportsFirstFault, IsAtMostOnePacket, IsContentOfBytes, IsPacketIfFaultless, IsFaultlessOrStale, FitsShortIfRead};
 ghost use Rattle.gate_packet.specs.Stream.{block_bytes};
 
 use crate::block::Block;
@@ -130,7 +130,7 @@ impl BlockRef<'_> {
         greatest_age: u32,
     ) -> Result<Packet, PacketFault>
         ensures packet { IfOk result (λ p. IsPacket self.now p) }
-        ensures fresh { IfOk result (λ p. is_stale p.timestamp now.0 greatest_age ≡ false) }
+        ensures fresh { IfOk result (IsFresh now.0 greatest_age) }
         ensures every_packet { ReadsFreshPacket self.now now.0 greatest_age result }
 
         ensures first_fault { IfErr result (IsReportedFault self.now now.0 greatest_age) }
@@ -164,7 +164,7 @@ pub fn decode(
     greatest_age: u32,
 ) -> Result<Packet, PacketFault>
     ensures packet { IfOk result (λ p. IsPacket bytes.now p) }
-    ensures fresh { IfOk result (λ p. is_stale p.timestamp now.0 greatest_age ≡ false) }
+    ensures fresh { IfOk result (IsFresh now.0 greatest_age) }
     // A packet that isn't stale is read, if there is memory for its texts.
     ensures every_packet { ReadsFreshPacket bytes.now now.0 greatest_age result }
 
@@ -182,7 +182,7 @@ pub fn decode_short(
     greatest_age: u32,
 ) -> Result<Packet, PacketFault>
     ensures packet { IfOk result (λ p. IsPacket bytes.now p) }
-    ensures fresh { IfOk result (λ p. is_stale p.timestamp now.0 greatest_age ≡ false) }
+    ensures fresh { IfOk result (IsFresh now.0 greatest_age) }
     ensures every_packet { ReadsFreshPacket bytes.now now.0 greatest_age result }
 
     ensures first_fault { IfErr result (IsReportedFault bytes.now now.0 greatest_age) }
@@ -199,7 +199,7 @@ pub fn decode_block(
     greatest_age: u32,
 ) -> Result<Packet, PacketFault>
     ensures packet { IfOk result (λ p. IsPacket (block_bytes block.now) p) }
-    ensures fresh { IfOk result (λ p. is_stale p.timestamp now.0 greatest_age ≡ false) }
+    ensures fresh { IfOk result (IsFresh now.0 greatest_age) }
     ensures every_packet { ReadsFreshPacket (block_bytes block.now) now.0 greatest_age result }
 
     ensures first_fault { IfErr result
