@@ -1,7 +1,7 @@
 ghost use Rattle.std.specs.Prelude.{◌≡◌, ◌+◌, ◌<◌, [], ◌∷◌, ◌++◌, length, IfOk, IfErr, IfSome, OnOk};
 ghost use Rattle.std.specs.Prelude.{Some, None, is_some};
 ghost use Rattle.gate_core.specs.Merge.{numbered};
-ghost use Rattle.gate_queue.specs.Knowledge.{close_knowledge, Learns};
+ghost use Rattle.gate_queue.specs.Knowledge.{close_knowledge, Learns, StaysKnown};
 ghost use Rattle.gate_queue.specs.Client.{client_state};
 
 use crate::closer::Notice;
@@ -94,7 +94,7 @@ impl Client {
         requires { self.old.gate ≡ gate.now }
         ensures known { self.new ≡
             client_state self.old.gate self.old.number self.old.queued result }
-        ensures same { IfSome self.old.known_close (λ known. result ≡ Some known) }
+        ensures same { StaysKnown self.old.known_close result }
     {
         self.knowledge.look(&gate.cell)
     }

@@ -1,5 +1,5 @@
 ghost use Rattle.std.specs.Prelude.{◌≡◌, IfOk, IfErr, IfNone, IfSome, Some, None};
-ghost use Rattle.gate_queue.specs.Knowledge.{close_knowledge, Learns};
+ghost use Rattle.gate_queue.specs.Knowledge.{close_knowledge, LearnsFrom};
 ghost use Rattle.gate_queue.specs.Closer.{notice_of};
 
 use crate::gate::Gate;
@@ -74,8 +74,7 @@ impl Closer {
     /// Learns what another part of the gate knows of the close.
     pub(crate) fn learn_from(&mut self, other: Knowledge)
         requires { other.cell ≡ self.old.cell }
-        ensures cell { self.new.cell ≡ self.old.cell }
-        ensures known { Learns other.known_close self.old.known_close self.new.known_close }
+        ensures { LearnsFrom other self.old self.new }
     {
         self.knowledge.learn(other);
     }

@@ -1,6 +1,6 @@
 ghost use Rattle.std.specs.Prelude.{◌≡◌, IfSome, OnOk, IfErr, Some, None};
 ghost use Rattle.once_cell.specs.Once.{cell_name};
-ghost use Rattle.gate_queue.specs.Knowledge.{close_knowledge, Learns};
+ghost use Rattle.gate_queue.specs.Knowledge.{close_knowledge, LearnsFrom, StaysKnown};
 
 use gate_model::Moment;
 use once_cell::race::{Note, OnceBox};
@@ -48,7 +48,7 @@ impl Knowledge {
     pub(crate) fn look(&mut self, cell: &OnceBox<Moment>) -> Option<Moment>
         requires { self.old.cell ≡ cell_name cell.now }
         ensures known { self.new ≡ close_knowledge self.old.cell result }
-        ensures same { IfSome self.old.known_close (λ known. result ≡ Some known) }
+        ensures same { StaysKnown self.old.known_close result }
     {
         self.moment = cell.get_as(&mut self.note).copied();
         self.moment
@@ -103,8 +103,7 @@ impl Knowledge {
     /// Learns what another part of the gate knows.
     pub(crate) fn learn(&mut self, other: Knowledge)
         requires { other.cell ≡ self.old.cell }
-        ensures cell { self.new.cell ≡ self.old.cell }
-        ensures known { Learns other.known_close self.old.known_close self.new.known_close }
+        ensures { LearnsFrom other self.old self.new }
     {
         let Knowledge {
             note,

@@ -1,5 +1,6 @@
 ghost use Rattle.std.specs.Prelude.{◌≡◌, ◌↔◌, IsTrue, IsSome, IfSome, IfNone, Some, ◌≤◌};
 ghost use Rattle.std.specs.Prelude.{length};
+ghost use Rattle.gate_queue.specs.Knowledge.{StaysKnown};
 ghost use Rattle.gate_queue.specs.Taker.{taker_state, queued_of, TakesOne, HasAll, BeginsEach};
 ghost use Rattle.gate_queue.specs.Taker.{TakesIn, total_queued};
 ghost use Rattle.gate_queue.specs.inner.Passes.{total_counted};
@@ -63,7 +64,7 @@ impl Taker {
         requires { self.old.gate ≡ gate.now }
         ensures known { self.new ≡
             taker_state self.old.gate self.old.taken self.old.ended result }
-        ensures same { IfSome self.old.known_close (λ known. result ≡ Some known) }
+        ensures same { StaysKnown self.old.known_close result }
     {
         self.knowledge.look(&gate.cell)
     }
@@ -75,7 +76,7 @@ impl Taker {
         requires { self.old.gate ≡ gate.now }
         ensures same { self.new ≡ taker_state
             self.old.gate self.old.taken self.old.ended self.new.known_close }
-        ensures known { IfSome self.old.known_close (λ known. self.new.known_close ≡ Some known) }
+        ensures known { StaysKnown self.old.known_close self.new.known_close }
     {
         gate.bell.nap(rt);
         gate.bell.lie_down();
