@@ -1,4 +1,5 @@
 -- Only proofs and private functions use what stands here.
+pub mod Sizes
 pub mod Rows
 pub mod Gone
 pub mod Ids

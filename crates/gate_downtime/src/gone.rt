@@ -3,7 +3,8 @@ ghost use Rattle.std.specs.BinaryHeap.{heap_items, heap_len, heap_capacity, IsHe
 ghost use Rattle.std.specs.List.Sorted.{IsPermutation};
 ghost use Rattle.gate_downtime.specs.declared.gone.Mark.{Mark};
 ghost use Rattle.gate_downtime.specs.inner.Rows.{live_at};
-ghost use Rattle.gate_downtime.specs.inner.Gone.{gone_cmp, is_free, IsKept, Lists, AllGone, SameGone, Pops, Returns, AllPassed, TakesGone};
+ghost use Rattle.gate_downtime.specs.inner.Gone.{gone_cmp, is_free, FitsMarks, Lists, AllGone, SameGone, Pops, Returns, AllPassed, TakesGone};
+ghost use Rattle.gate_downtime.specs.inner.Sizes.{HasSpace, OneMore, SameSize};
 
 use crate::row::{Row, is_live_at, push_within, row_at};
 use std::alloc::Global;
@@ -51,8 +52,7 @@ fn push_gone(heap: &mut BinaryHeap<Reverse<usize>>, at: usize)
 fn write_mark(marks: &mut Vec<Mark>, at: usize, mark: Mark)
     requires { at < length marks.old.items }
     ensures items { marks.new.items ≡ slice_set marks.old.items at mark }
-    ensures len { vec_len marks.new ≡ vec_len marks.old }
-    ensures capacity { vec_capacity marks.new ≡ vec_capacity marks.old }
+    ensures size { SameSize marks.old marks.new }
 {
     marks[at] = mark;
 }
@@ -69,8 +69,7 @@ pub fn list_gone(gone: &mut Gone, at: usize, live: bool)
     requires within { at < length gone.old.marks.items }
     requires room { heap_len gone.old.heap + count_by is_free gone.old.marks.items
         ≤ heap_capacity gone.old.heap }
-    requires kept { IsKept (length gone.old.marks.items) gone.old.marks.items
-        (heap_items gone.old.heap) }
+    requires kept { FitsMarks gone.old }
     ensures { Lists at live gone.old gone.new }
 {
     if live {
@@ -93,11 +92,10 @@ pub fn list_gone(gone: &mut Gone, at: usize, live: bool)
 
 /// The mark of a new row.
 pub fn push_mark(gone: &mut Gone)
-    requires { vec_len gone.old.marks < vec_capacity gone.old.marks }
+    requires { HasSpace gone.old.marks }
     ensures marks { gone.new.marks.items
         ≡ gone.old.marks.items ++ (record { listed = false; returned = false }) ∷ [] }
-    ensures len { vec_len gone.new.marks ≡ vec_len gone.old.marks + 1 }
-    ensures marks_capacity { vec_capacity gone.old.marks ≤ vec_capacity gone.new.marks }
+    ensures size { OneMore gone.old.marks gone.new.marks }
     ensures heap { gone.new.heap ≡ gone.old.heap }
 {
     push_within(
@@ -130,8 +128,7 @@ fn pop_heap(heap: &mut BinaryHeap<Reverse<usize>>) -> Option<usize>
 
 /// Takes the least listed row.
 fn pop_listed(gone: &mut Gone) -> Option<usize>
-    requires { IsKept (length gone.old.marks.items) gone.old.marks.items
-        (heap_items gone.old.heap) }
+    requires { FitsMarks gone.old }
     ensures none { IfNone result (heap_items gone.old.heap ≡ []) }
     ensures none_heap { IfNone result (heap_items gone.new.heap ≡ heap_items gone.old.heap) }
     ensures none_len { IfNone result (heap_len gone.new.heap ≡ heap_len gone.old.heap) }

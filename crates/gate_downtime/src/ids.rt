@@ -1,7 +1,8 @@
-ghost use Rattle.std.specs.Prelude.{◌≡◌, ◌<◌, ◌≤◌, ◌+◌, ◌++◌, ◌==◌, [], ◌∷◌, not, filter, length, drop, vec_len, vec_capacity, OnOk};
+ghost use Rattle.std.specs.Prelude.{◌≡◌, ◌<◌, ◌≤◌, ◌+◌, ◌++◌, ◌==◌, [], ◌∷◌, not, filter, length, drop, vec_len, OnOk};
 ghost use Rattle.std.specs.List.{remove};
 ghost use Rattle.gate_downtime.specs.inner.Rows.{is_live_row};
 ghost use Rattle.gate_downtime.specs.inner.Live.{AreAscending};
+ghost use Rattle.gate_downtime.specs.inner.Sizes.{NoLonger};
 
 use crate::row::{Row, push_within};
 use crate::scheduling::find_live;
@@ -106,8 +107,7 @@ impl Ids {
 fn remove_front(ids: &mut Vec<u32>, count: usize)
     requires { count ≤ vec_len ids.old }
     ensures items { ids.new.items ≡ drop count ids.old.items }
-    ensures len { vec_len ids.new ≤ vec_len ids.old }
-    ensures capacity { vec_capacity ids.new ≡ vec_capacity ids.old }
+    ensures size { NoLonger ids.old ids.new }
 {
     let len = ids.len();
     ids.copy_within(count..len, 0);
@@ -122,8 +122,7 @@ pub fn is_live_id(rows: &[Row], first: u32, id: u32, now: u32) -> bool
 
 fn retain_live(ids: &mut Vec<u32>, rows: &[Row], first: u32, now: u32)
     ensures items { ids.new.items ≡ filter (is_live_row first rows.now now) ids.old.items }
-    ensures len { vec_len ids.new ≤ vec_len ids.old }
-    ensures capacity { vec_capacity ids.new ≡ vec_capacity ids.old }
+    ensures size { NoLonger ids.old ids.new }
 {
     ids.retain(|id| is_live_id(rows, first, *id, now));
 }

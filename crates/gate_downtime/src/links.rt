@@ -1,6 +1,7 @@
 ghost use Rattle.std.specs.Prelude.{◌≡◌, ◌<◌, ◌≤◌, ◌+◌, ◌++◌, [], ◌∷◌, None, Some, length, vec_len, vec_capacity, option_to_list, slice_index_or, slice_set, IfSome, IfOk, replicate};
 ghost use Rattle.gate_downtime.specs.declared.links.Link.{Link};
 ghost use Rattle.gate_downtime.specs.inner.Links.{with_child, lone_link, child_link, waiting_link, IsLinkedMore};
+ghost use Rattle.gate_downtime.specs.inner.Sizes.{HasSpace, OneMore, SameSize};
 
 use crate::row::push_within;
 use std::alloc::{AllocError, Global};
@@ -25,7 +26,7 @@ pub fn no_heads(alloc: Global, count: usize) -> Result<Vec<Option<usize>>, Alloc
 }
 
 pub fn push_pending(pending: &mut Vec<usize>, next: Option<usize>)
-    requires { vec_len pending.old < vec_capacity pending.old }
+    requires { HasSpace pending.old }
     ensures items { pending.new.items ≡ pending.old.items ++ option_to_list next }
     ensures len { vec_len pending.new ≤ vec_len pending.old + 1 }
     ensures capacity { vec_capacity pending.old ≤ vec_capacity pending.new }
@@ -45,18 +46,16 @@ pub fn link_at(links: &[Link], at: usize) -> Link
 pub fn write_link(links: &mut Vec<Link>, at: usize, link: Link)
     requires { at < length links.old.items }
     ensures items { links.new.items ≡ slice_set links.old.items at link }
-    ensures len { vec_len links.new ≡ vec_len links.old }
-    ensures capacity { vec_capacity links.new ≡ vec_capacity links.old }
+    ensures size { SameSize links.old links.new }
 {
     links[at] = link;
 }
 
 /// The links of a new row that neither has a trigger nor waits for a transition.
 pub fn link_alone(links: &mut Vec<Link>)
-    requires { vec_len links.old < vec_capacity links.old }
+    requires { HasSpace links.old }
     ensures items { links.new.items ≡ links.old.items ++ lone_link ∷ [] }
-    ensures len { vec_len links.new ≡ vec_len links.old + 1 }
-    ensures capacity { vec_capacity links.old ≤ vec_capacity links.new }
+    ensures size { OneMore links.old links.new }
 {
     push_within(
         links,
@@ -70,14 +69,13 @@ pub fn link_alone(links: &mut Vec<Link>)
 
 /// The links of a new row whose trigger is the row at this index.
 pub fn link_triggered(links: &mut Vec<Link>, trigger: usize)
-    requires room { vec_len links.old < vec_capacity links.old }
+    requires room { HasSpace links.old }
     requires within { trigger < length links.old.items }
     ensures items { (d : Link)
         → links.new.items ≡ slice_set links.old.items trigger
         (with_child (length links.old.items) (slice_index_or links.old.items trigger d))
         ++ child_link (slice_index_or links.old.items trigger d).child ∷ [] }
-    ensures len { vec_len links.new ≡ vec_len links.old + 1 }
-    ensures capacity { vec_capacity links.old ≤ vec_capacity links.new }
+    ensures size { OneMore links.old links.new }
 {
     let new = links.len();
     let old = links[trigger];
@@ -98,15 +96,14 @@ pub fn link_triggered(links: &mut Vec<Link>, trigger: usize)
 
 /// The links of a new row of the object at this place that waits for a transition.
 pub fn link_waiting(links: &mut Vec<Link>, heads: &mut Vec<Option<usize>>, place: usize)
-    requires room { vec_len links.old < vec_capacity links.old }
+    requires room { HasSpace links.old }
     requires within { place < length heads.old.items }
     ensures items { links.new.items ≡ links.old.items
         ++ waiting_link (slice_index_or heads.old.items place None) ∷ [] }
     ensures heads { heads.new.items
         ≡ slice_set heads.old.items place (Some (length links.old.items)) }
     ensures heads_len { vec_len heads.new ≡ vec_len heads.old }
-    ensures len { vec_len links.new ≡ vec_len links.old + 1 }
-    ensures capacity { vec_capacity links.old ≤ vec_capacity links.new }
+    ensures size { OneMore links.old links.new }
 {
     let new = links.len();
     let waiting = heads[place];
@@ -129,14 +126,13 @@ pub fn link_row(
     fixed: bool,
     place: usize,
 )
-    requires room { vec_len links.old < vec_capacity links.old }
+    requires room { HasSpace links.old }
     requires trigger { IfSome trigger (λ at. at < length links.old.items) }
     requires place { place < length heads.old.items }
     ensures linked { IsLinkedMore links.old.items heads.old.items trigger fixed place
         links.new.items heads.new.items }
     ensures heads_len { vec_len heads.new ≡ vec_len heads.old }
-    ensures len { vec_len links.new ≡ vec_len links.old + 1 }
-    ensures capacity { vec_capacity links.old ≤ vec_capacity links.new }
+    ensures size { OneMore links.old links.new }
 {
     match trigger {
         Some(at) => link_triggered(links, at),

@@ -1,4 +1,4 @@
-ghost use Rattle.std.specs.Prelude.{◌≡◌, ◌<◌, ◌≤◌, ◌+◌, ◌++◌, [], ◌∷◌, false, IfOk, if◌then◌else◌};
+ghost use Rattle.std.specs.Prelude.{◌≡◌, ◌<◌, ◌≤◌, ◌+◌, ◌++◌, [], ◌∷◌, IfOk, if◌then◌else◌};
 ghost use Rattle.gate_downtime.specs.inner.Rows.{is_live_row};
 ghost use Rattle.gate_downtime.specs.inner.Live.{Notes, AreNoted, IsIdle, AreAscending, DropsEnded};
 
@@ -60,30 +60,21 @@ pub fn push_live(live: &mut LiveIds, id: u32, is_live: bool)
     }
 }
 
-fn remove_ended(live: &mut LiveIds, rows: &[Row], first: u32, now: u32)
-    requires ascending { AreAscending live.old.ids.items }
-    requires few { live.old.many ≡ false }
-    requires noted { AreNoted (is_live_row first rows.now now) live.old }
-    ensures { DropsEnded (is_live_row first rows.now now) live.old live.new }
-{
-    'ended: while let Some(id) = live.ended.pop() {
-        if !is_live_id(rows, first, id, now) {
-            live.ids.remove(id);
-        }
-    }
-}
-
 /// Removes the ids of the rows that a call has ended: a few one by one, more in one pass.
 pub fn drop_ended(live: &mut LiveIds, rows: &[Row], first: u32, now: u32)
     requires ascending { AreAscending live.old.ids.items }
     requires noted { AreNoted (is_live_row first rows.now now) live.old }
     ensures { DropsEnded (is_live_row first rows.now now) live.old live.new }
 {
-    if !live.many {
-        remove_ended(live, rows, first, now);
+    if live.many {
+        live.ids.retain_live(rows, first, now);
+        live.ended.clear();
+        live.many = false;
         return;
     }
-    live.ids.retain_live(rows, first, now);
-    live.ended.clear();
-    live.many = false;
+    'ended: while let Some(id) = live.ended.pop() {
+        if !is_live_id(rows, first, id, now) {
+            live.ids.remove(id);
+        }
+    }
 }

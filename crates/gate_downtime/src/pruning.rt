@@ -1,6 +1,7 @@
-ghost use Rattle.std.specs.Prelude.{◌≡◌, ◌<◌, length, vec_len, vec_capacity};
+ghost use Rattle.std.specs.Prelude.{◌≡◌, ◌<◌, length, vec_len};
 ghost use Rattle.gate_downtime.specs.inner.Walk.{AllFlexLinked, may_begin};
 ghost use Rattle.gate_downtime.specs.inner.Pruning.{SetsNext, IsLastWithin, SameKin};
+ghost use Rattle.gate_downtime.specs.inner.Sizes.{SameSize};
 
 use crate::links::{Link, link_at, write_link};
 use crate::row::{Row, row_at};
@@ -25,8 +26,7 @@ fn set_next(
     requires last { IsLastWithin last links.old.items }
     ensures sets { SetsNext last next place links.old.items heads.old.items
         links.new.items heads.new.items }
-    ensures links_len { vec_len links.new ≡ vec_len links.old }
-    ensures links_capacity { vec_capacity links.new ≡ vec_capacity links.old }
+    ensures size { SameSize links.old links.new }
     ensures heads_len { vec_len heads.new ≡ vec_len heads.old }
 {
     match last {
@@ -59,8 +59,7 @@ pub fn prune(
     requires waiting { AllFlexLinked now rows.now links.old.items heads.old.items }
     ensures waiting { AllFlexLinked now rows.now links.new.items heads.new.items }
     ensures kin { SameKin links.old.items links.new.items }
-    ensures links_len { vec_len links.new ≡ vec_len links.old }
-    ensures links_capacity { vec_capacity links.new ≡ vec_capacity links.old }
+    ensures size { SameSize links.old links.new }
     ensures heads_len { vec_len heads.new ≡ vec_len heads.old }
 {
     let mut last = None;

@@ -1,8 +1,9 @@
-ghost use Rattle.std.specs.Prelude.{◌≡◌, ◌&&◌, not, ◌<◌, ◌≤◌, ◌+◌, ◌++◌, [], ◌∷◌, length, true, vec_len, vec_capacity, Some, slice_index_or, slice_set};
+ghost use Rattle.std.specs.Prelude.{◌≡◌, ◌&&◌, not, ◌<◌, ◌++◌, [], ◌∷◌, length, true, Some, slice_index_or, slice_set};
 ghost use Rattle.gate_model.specs.Downtime.{begin_by, begin_alone, over_by};
 ghost use Rattle.gate_downtime.specs.declared.row.Row.{Row};
 ghost use Rattle.gate_downtime.specs.inner.Rows.{active_at, with_active, live_at, Follows};
 ghost use Rattle.gate_downtime.specs.inner.Cancel.{deleted_row};
+ghost use Rattle.gate_downtime.specs.inner.Sizes.{HasSpace, OneMore, SameSize};
 
 use gate_model::Entry;
 
@@ -151,18 +152,16 @@ pub fn row_at(rows: &[Row], at: usize) -> Row
 pub fn write_row(rows: &mut Vec<Row>, at: usize, row: Row)
     requires { at < length rows.old.items }
     ensures items { rows.new.items ≡ slice_set rows.old.items at row }
-    ensures len { vec_len rows.new ≡ vec_len rows.old }
-    ensures capacity { vec_capacity rows.new ≡ vec_capacity rows.old }
+    ensures size { SameSize rows.old rows.new }
 {
     rows[at] = row;
 }
 
 /// Adds an item to those that there is room for.
 pub fn push_within<T: Copy>(items: &mut Vec<T>, item: T)
-    requires { vec_len items.old < vec_capacity items.old }
+    requires { HasSpace items.old }
     ensures items { items.new.items ≡ items.old.items ++ item ∷ [] }
-    ensures len { vec_len items.new ≡ vec_len items.old + 1 }
-    ensures capacity { vec_capacity items.old ≤ vec_capacity items.new }
+    ensures size { OneMore items.old items.new }
 {
     match items.push(item) {
         Ok(()) => (),

@@ -1,4 +1,4 @@
-ghost use Rattle.std.specs.Prelude.{◌≡◌, ◌<◌, ◌≤◌, ◌+◌, ◌-◌, ◌^◌, ◌++◌, ◌||◌, ◌==◌, [], ◌∷◌, length, vec_len, vec_capacity, None, Some, false, IfSome, is_some, not};
+ghost use Rattle.std.specs.Prelude.{◌≡◌, ◌<◌, ◌≤◌, ◌+◌, ◌-◌, ◌^◌, ◌++◌, ◌||◌, ◌==◌, [], ◌∷◌, length, vec_len, None, Some, false, IfSome, is_some, not};
 ghost use Rattle.std.specs.BinaryHeap.{heap_len, heap_capacity};
 ghost use Rattle.gate_downtime.specs.declared.row.Row.{Row};
 ghost use Rattle.gate_downtime.specs.inner.Rows.{SameButMarks, Follows, is_live_row, begin_of_row};
@@ -6,6 +6,7 @@ ghost use Rattle.gate_downtime.specs.inner.Scheduling.{IsTrigger, IsLiveAt, sett
 ghost use Rattle.gate_downtime.specs.inner.Tally.{IsSound, HasRoom, AddsAtMost};
 ghost use Rattle.gate_downtime.specs.inner.Gone.{MoreGone};
 ghost use Rattle.gate_downtime.specs.inner.Live.{IsFresh};
+ghost use Rattle.gate_downtime.specs.inner.Sizes.{HasSpace, OneMore};
 
 use crate::chains::Chains;
 use crate::gone::{list_gone, push_mark};
@@ -126,21 +127,20 @@ pub fn fresh_row(scheduled: Scheduled, trigger: Trigger) -> Row
 /// Adds a row, makes its later moments deadlines and marks it.
 pub fn add_row(rows: &mut Vec<Row>, tally: &mut Tally, row: Row, now: u32)
     requires sound { IsSound now rows.old.items tally.old }
-    requires room { vec_len rows.old < vec_capacity rows.old }
+    requires room { HasSpace rows.old }
     requires deadlines { HasRoom 2 tally.old }
     requires object { row.entry.scheduled.object.place < length tally.old.depths.items }
     requires few { length rows.old.items + 1 < 2 ^ 32 }
     requires mark { row.active ≡ false }
     requires fresh { IsFresh row tally.old.live }
     requires gone { length rows.old.items + 1 ≤ heap_capacity tally.old.gone.heap }
-    requires marks { vec_len tally.old.gone.marks < vec_capacity tally.old.gone.marks }
+    requires marks { HasSpace tally.old.gone.marks }
     ensures sound { IsSound now rows.new.items tally.new }
     ensures rows { SameButMarks (rows.old.items ++ row ∷ []) rows.new.items }
     ensures objects { vec_len tally.new.depths ≡ vec_len tally.old.depths }
     ensures gone_more { MoreGone tally.old.gone tally.new.gone }
     ensures live_same { tally.new.live ≡ tally.old.live }
-    ensures len { vec_len rows.new ≡ vec_len rows.old + 1 }
-    ensures capacity { vec_capacity rows.old ≤ vec_capacity rows.new }
+    ensures size { OneMore rows.old rows.new }
     ensures deadlines { AddsAtMost 2 tally.old tally.new }
 {
     let at = rows.len();

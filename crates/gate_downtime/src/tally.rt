@@ -2,7 +2,8 @@ ghost use Rattle.std.specs.Prelude.{◌≡◌, ◌<◌, ◌≤◌, ◌^◌, ◌+
 ghost use Rattle.std.specs.BinaryHeap.{heap_items, heap_len, heap_capacity, IsHeap};
 ghost use Rattle.std.specs.List.Sorted.{IsPermutation};
 ghost use Rattle.gate_downtime.specs.declared.row.Row.{Row};
-ghost use Rattle.gate_downtime.specs.inner.Rows.{active_at, with_active, Counted, CanCount, deadline_cmp, Sound, SameButMarks, Adds, Wakes, CanReplace, unsettled_one};
+ghost use Rattle.gate_downtime.specs.inner.Rows.{active_at, with_active, Counted, CanCount, deadline_cmp, Sound, SameButMarks, AddsAt, Wakes, CanReplace, unsettled_one};
+ghost use Rattle.gate_downtime.specs.inner.Sizes.{SameSize};
 ghost use Rattle.gate_downtime.specs.inner.Tally.{IsSound, KeepsSize};
 ghost use Rattle.gate_downtime.specs.inner.Live.{IsIdle};
 
@@ -110,8 +111,7 @@ pub fn mark_row(rows: &mut Vec<Row>, depths: &mut Vec<u32>, at: usize, active: b
     ensures counted { Counted rows.new.items depths.new.items }
     ensures objects { length depths.new.items ≡ length depths.old.items }
     ensures depths { vec_len depths.new ≡ vec_len depths.old }
-    ensures len { vec_len rows.new ≡ vec_len rows.old }
-    ensures capacity { vec_capacity rows.new ≡ vec_capacity rows.old }
+    ensures size { SameSize rows.old rows.new }
 {
     mark_active(rows, depths, at, active);
 }
@@ -137,40 +137,28 @@ pub fn settle(rows: &mut Vec<Row>, tally: &mut Tally, before: u32, now: u32)
     }
 }
 
-/// Adds a deadline, for which there is room.
-fn push_deadline(deadlines: &mut BinaryHeap<Reverse<(u64, usize)>>, moment: u64, at: usize)
-    requires { heap_len deadlines.old < heap_capacity deadlines.old }
-    ensures adds { Adds at (heap_items deadlines.old) (heap_items deadlines.new) }
-    ensures there { Contains (heap_items deadlines.new) (record { 0 = (moment, at) }) }
-    ensures len { heap_len deadlines.new ≡ heap_len deadlines.old + 1 }
-    ensures capacity { heap_capacity deadlines.old ≤ heap_capacity deadlines.new }
-{
-    match deadlines.push(Reverse((moment, at))) {
-        Ok(()) => (),
-        Err(_) => unreachable!(),
-    }
-}
-
+/// A later moment becomes a deadline, for which there is room.
 fn wake_at(deadlines: &mut BinaryHeap<Reverse<(u64, usize)>>, moment: u64, at: usize, now: u32)
     requires { heap_len deadlines.old < heap_capacity deadlines.old }
-    ensures adds { Adds at (heap_items deadlines.old) (heap_items deadlines.new) }
+    ensures adds { AddsAt at deadlines.old deadlines.new }
     ensures there { now < moment
         → Contains (heap_items deadlines.new) (record { 0 = (moment, at) }) }
     ensures len { heap_len deadlines.new ≤ heap_len deadlines.old + 1 }
-    ensures capacity { heap_capacity deadlines.old ≤ heap_capacity deadlines.new }
 {
     if (now as u64) < moment {
-        push_deadline(deadlines, moment, at);
+        match deadlines.push(Reverse((moment, at))) {
+            Ok(()) => (),
+            Err(_) => unreachable!(),
+        }
     }
 }
 
 /// The later beginning and end of a row become deadlines.
 pub fn wake_row(deadlines: &mut BinaryHeap<Reverse<(u64, usize)>>, at: usize, row: Row, now: u32)
     requires { heap_len deadlines.old + 2 ≤ heap_capacity deadlines.old }
-    ensures adds { Adds at (heap_items deadlines.old) (heap_items deadlines.new) }
+    ensures adds { AddsAt at deadlines.old deadlines.new }
     ensures wakes { Wakes now (heap_items deadlines.new) at row }
     ensures len { heap_len deadlines.new ≤ heap_len deadlines.old + 2 }
-    ensures capacity { heap_capacity deadlines.old ≤ heap_capacity deadlines.new }
 {
     wake_at(deadlines, row.over, at, now);
     if let Some(moment) = row.begun {
@@ -190,11 +178,10 @@ pub fn wake_settled(
     requires row { CanReplace old row }
     requires awake { Wakes now (heap_items deadlines.old) at old }
     requires room { heap_len deadlines.old + 2 * unsettled_one old ≤ heap_capacity deadlines.old }
-    ensures adds { Adds at (heap_items deadlines.old) (heap_items deadlines.new) }
+    ensures adds { AddsAt at deadlines.old deadlines.new }
     ensures wakes { Wakes now (heap_items deadlines.new) at row }
     ensures len { heap_len deadlines.new + 2 * unsettled_one row
         ≤ heap_len deadlines.old + 2 * unsettled_one old }
-    ensures capacity { heap_capacity deadlines.old ≤ heap_capacity deadlines.new }
 {
     if row.settled == old.settled {
         return;

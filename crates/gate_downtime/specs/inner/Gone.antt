@@ -30,6 +30,10 @@ pub record IsKept (n : ℕ) (marks : List Mark) (listed : Listed) : Type 0 where
   pub indexed : All (λ (x : Reverse ℕ). x.0 < n) listed
   pub there : (k : ℕ) (m : Mark) → k < n → (slice_index_or marks k m).listed ≡ true → Contains listed (record { 0 = k })
 
+-- the list and the marks fit one another
+abbrev pub FitsMarks : Gone → Type 0
+FitsMarks gone = IsKept (length gone.marks.items) gone.marks.items (heap_items gone.heap)
+
 -- a row that isn't live, and wasn't returned, is listed
 abbrev pub Awaits : ℕ → List Mark → Listed → ℕ → Row → Type 0
 Awaits t marks listed k r =

@@ -3,7 +3,9 @@ use Rattle.std.specs.Prelude.{◌≡◌, ℕ, ◌+◌, ◌-◌, ◌<◌, ◌≤�
 use Rattle.std.specs.Ordering.{nat_cmp, ordering_then}
 use Rattle.std.specs.declared.cmp.Ordering.{Ordering}
 use Rattle.std.specs.declared.cmp.Reverse.{Reverse}
-use Rattle.std.specs.BinaryHeap.{IsHeap}
+use Rattle.std.specs.declared.collections.BinaryHeap.{BinaryHeap}
+use Rattle.std.specs.Global.{Global}
+use Rattle.std.specs.BinaryHeap.{heap_items, heap_capacity, IsHeap}
 use Rattle.gate_model.specs.declared.downtime.Entry.{Entry}
 use Rattle.gate_model.specs.Downtime.{begin_in, over_in, is_deleted_in, is_begun_by, begin_by, over_by}
 use Rattle.gate_model.specs.declared.object.Kind.TheVariants.{Host}
@@ -142,6 +144,11 @@ pub record Adds (k : ℕ) (old new : Deadlines) : Type 0 where
   pub only :
       (n : ℕ) → k < n → All (λ (d : Reverse (ℕ × ℕ)). d.0.1 < n) old
       → All (λ (d : Reverse (ℕ × ℕ)). d.0.1 < n) new
+
+-- deadlines of the row at k are added, and no room is lost
+pub record AddsAt (k : ℕ) (old new : BinaryHeap (Reverse (ℕ × ℕ)) Global) : Type 0 where
+  pub items : Adds k (heap_items old) (heap_items new)
+  pub capacity : heap_capacity old ≤ heap_capacity new
 
 -- live at t, by what the row keeps
 abbrev pub live_at : ℕ → Row → Bool

@@ -18,4 +18,4 @@ returns c =
     let m : Mark = c.mark_at-mark.result in
     let is : m ≡ get_or c.args.gone.now.marks.items c.args.at m = c.mark_at-mark.ensures m ∙ ap (λ marks. get_or marks c.args.at m) c.deref.ensures.value in
     lists-one c.args.at c.args.live _ _ m c.requires.within c.write_mark.ensures.items (ap (λ (x : Mark). x.listed) (sym is) ∙ c.if-mark.false) (ap (λ (x : Mark). x.returned) (sym is) ∙ c.if-mark-2.false)
-    c.push_gone.ensures.items c.push_gone.ensures.order c.push_gone.ensures.len c.push_gone.ensures.capacity c.write_mark.ensures.len c.write_mark.ensures.capacity
+    c.push_gone.ensures.items c.push_gone.ensures.order c.push_gone.ensures.len c.push_gone.ensures.capacity c.write_mark.ensures.size.len c.write_mark.ensures.size.capacity

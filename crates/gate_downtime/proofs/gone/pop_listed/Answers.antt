@@ -20,6 +20,6 @@ returns-clause-same c =
     record {
       same = same-mark _ _ c.in-Some.at m _ (popped-within _ _ _ _ _ c.requires c.in-Some.ensures.some) c.write_mark.ensures.items (ap (λ (x : Mark). x.returned) is);
       capacity = omega (arith, c.in-Some.ensures.capacity);
-      marks_len = c.write_mark.ensures.len;
-      marks_capacity = omega (arith, c.write_mark.ensures.capacity);
+      marks_len = c.write_mark.ensures.size.len;
+      marks_capacity = omega (arith, c.write_mark.ensures.size.capacity);
     }

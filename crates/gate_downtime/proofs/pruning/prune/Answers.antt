@@ -54,8 +54,8 @@ walk-preserved c =
           kin-trans _ _ _ c.walk.invariant.kin
           (kin-sets c.args.place c.walk.links.items c.set_next.new.links.items c.walk.heads.items c.set_next.new.heads.items c.walk.last c.link_at-link.result.waiting
           (last-within c.args.place _ c.walk.links.items c.walk.last (c.walk.invariant.kin.len ∙ c.requires.linked) c.walk.invariant.last_in) c.set_next.ensures.sets);
-      links_len = c.set_next.ensures.links_len ∙ c.walk.invariant.links_len;
-      links_capacity = c.set_next.ensures.links_capacity ∙ c.walk.invariant.links_capacity;
+      links_len = c.set_next.ensures.size.len ∙ c.walk.invariant.links_len;
+      links_capacity = c.set_next.ensures.size.capacity ∙ c.walk.invariant.links_capacity;
       heads_len = c.set_next.ensures.heads_len ∙ c.walk.invariant.heads_len;
     }
 

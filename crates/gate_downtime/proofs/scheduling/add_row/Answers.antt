@@ -7,7 +7,7 @@ use Rattle.gate_downtime.proofs.scheduling.add_row.Goals as goal
 
 pub returns-clause-sound : goal.returns-clause-sound
 returns-clause-sound c = record {
-  sound = (add-sound _ _ _ _ _ _ _ _ _ _ _ (c.len-at.ensures ∙ c.args.rows.now.ok.0) c.push_within.ensures.items c.requires.sound.sound c.wake_row.ensures.adds c.wake_row.ensures.wakes c.requires.mark c.requires.object c.requires.few
+  sound = (add-sound _ _ _ _ _ _ _ _ _ _ _ (c.len-at.ensures ∙ c.args.rows.now.ok.0) c.push_within.ensures.items c.requires.sound.sound c.wake_row.ensures.adds.items c.wake_row.ensures.wakes c.requires.mark c.requires.object c.requires.few
       c.is_active_at-active.ensures c.mark_row.ensures.rows c.mark_row.ensures.counted c.mark_row.ensures.objects).0;
   gone =
       let at : c.len-at.result ≡ length c.args.rows.now.items = c.len-at.ensures ∙ c.args.rows.now.ok.0 in
@@ -21,5 +21,5 @@ returns-clause-sound c = record {
 
 pub returns-clause-rows : goal.returns-clause-rows
 returns-clause-rows c =
-    (add-sound _ _ _ _ _ _ _ _ _ _ _ (c.len-at.ensures ∙ c.args.rows.now.ok.0) c.push_within.ensures.items c.requires.sound.sound c.wake_row.ensures.adds c.wake_row.ensures.wakes c.requires.mark c.requires.object c.requires.few
+    (add-sound _ _ _ _ _ _ _ _ _ _ _ (c.len-at.ensures ∙ c.args.rows.now.ok.0) c.push_within.ensures.items c.requires.sound.sound c.wake_row.ensures.adds.items c.wake_row.ensures.wakes c.requires.mark c.requires.object c.requires.few
     c.is_active_at-active.ensures c.mark_row.ensures.rows c.mark_row.ensures.counted c.mark_row.ensures.objects).1

@@ -34,8 +34,8 @@ due-preserved c =
       objects = c.mark_row.ensures.depths ∙ c.due.invariant.objects;
       gone_same = gone-trans _ _ _ c.due.invariant.gone_same (gone-lists _ _ _ _ c.list_gone.ensures);
       ids_same = c.note_ended.ensures.ids ∙ c.due.invariant.ids_same;
-      rows = c.mark_row.ensures.len ∙ c.due.invariant.rows;
-      rows_capacity = c.mark_row.ensures.capacity ∙ c.due.invariant.rows_capacity;
+      rows = c.mark_row.ensures.size.len ∙ c.due.invariant.rows;
+      rows_capacity = c.mark_row.ensures.size.capacity ∙ c.due.invariant.rows_capacity;
       capacity = omega (arith, c.in-Some.ensures.capacity, c.due.invariant.capacity);
       fewer = omega (arith, c.in-Some.ensures.fewer, c.due.invariant.fewer);
     }

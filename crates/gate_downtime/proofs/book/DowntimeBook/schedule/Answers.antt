@@ -83,8 +83,8 @@ invariant_of-self c =
       objects = omega (arith, c.link_row.ensures.heads_len, c.add_row.ensures.objects, c.self.invariant.objects);
       ids = omega (arith, long, c.in-Ok.ensures.0, count);
       small = omega (arith, c.self.invariant.small);
-      room_rows = omega (arith, c.add_row.ensures.len, c.add_row.ensures.capacity, c.self.invariant.room_rows, c.requires.room, ap (λ v. v.room) c.self.view_is);
-      room_links = omega (arith, c.link_row.ensures.len, c.link_row.ensures.capacity, c.self.invariant.room_links, c.requires.room, ap (λ v. v.room) c.self.view_is);
+      room_rows = omega (arith, c.add_row.ensures.size.len, c.add_row.ensures.size.capacity, c.self.invariant.room_rows, c.requires.room, ap (λ v. v.room) c.self.view_is);
+      room_links = omega (arith, c.link_row.ensures.size.len, c.link_row.ensures.size.capacity, c.self.invariant.room_links, c.requires.room, ap (λ v. v.room) c.self.view_is);
       room_deadlines =
           omega (
             arith,
@@ -96,7 +96,7 @@ invariant_of-self c =
             unsettled-same _ _ c.add_row.ensures.rows,
             unsettled-push-le c.self.inside.chains.rows.items c.fresh_row-row.result,
           );
-      room_pending = omega (arith, c.add_row.ensures.len, c.self.invariant.room_pending, c.requires.room, ap (λ v. v.room) c.self.view_is);
+      room_pending = omega (arith, c.add_row.ensures.size.len, c.self.invariant.room_pending, c.requires.room, ap (λ v. v.room) c.self.view_is);
       room_marks = omega (arith, c.add_row.ensures.gone_more.marks_len, c.add_row.ensures.gone_more.marks_capacity, c.self.invariant.room_marks, c.requires.room, ap (λ v. v.room) c.self.view_is);
       live_is = is;
       live_idle = record {
@@ -112,7 +112,7 @@ invariant_of-self c =
             c.requires.room,
             ap (λ v. v.room) c.self.view_is,
           );
-      room_gone = omega (arith, c.add_row.ensures.len, c.add_row.ensures.gone_more.capacity, c.self.invariant.room_gone, c.requires.room, ap (λ v. v.room) c.self.view_is);
+      room_gone = omega (arith, c.add_row.ensures.size.len, c.add_row.ensures.gone_more.capacity, c.self.invariant.room_gone, c.requires.room, ap (λ v. v.room) c.self.view_is);
     }
 
 pub returns-clause-entries : goal.returns-clause-entries

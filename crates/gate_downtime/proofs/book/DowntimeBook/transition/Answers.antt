@@ -34,7 +34,7 @@ invariant_of-self c =
     let Q : List Row → Type 0 = λ rows. AllFlexLinked w.moment.0 rows c.prune.new.links.items c.prune.new.heads.items in
     walked-book c.self.inside w c.prune.new.links c.drop_ended.new.live c.prune.new.heads c.self.invariant c.turn_waiting.ensures.kept c.turn_waiting.ensures.ready (length-turned _ _ _ _ c.turn_waiting.ensures.entries)
     (turned-after c.self.inside w c.args.object.place c.self.invariant c.turn_waiting.ensures.kept c.turn_waiting.ensures.ready c.turn_waiting.ensures.entries) (subst P c.deref-2.ensures.value c.drop_ended.ensures)
-    c.prune.ensures.kin c.prune.ensures.links_len c.prune.ensures.links_capacity (subst Q c.deref.ensures.value c.prune.ensures.waiting) c.prune.ensures.heads_len
+    c.prune.ensures.kin c.prune.ensures.size.len c.prune.ensures.size.capacity (subst Q c.deref.ensures.value c.prune.ensures.waiting) c.prune.ensures.heads_len
 
 pub returns-clause-stands : goal.returns-clause-stands
 returns-clause-stands c =

@@ -30,7 +30,7 @@ wake_settled-requires-clause-room c =
 pub mark_row-requires-clause-counters : goal.mark_row-requires-clause-counters
 mark_row-requires-clause-counters c =
     let P : List Row → Type 0 = λ rows. CanCount rows c.args.self.now.tally.depths.items in
-    let nearly = nearly-set _ _ _ _ _ _ c.args.row c.requires.within c.requires.current.sound.sound c.wake_settled.ensures.adds c.wake_settled.ensures.wakes (λ d. (c.requires.row d).mark) (λ d. ap (λ s. s.object.place) (c.requires.row d).scheduled) in
+    let nearly = nearly-set _ _ _ _ _ _ c.args.row c.requires.within c.requires.current.sound.sound c.wake_settled.ensures.adds.items c.wake_settled.ensures.wakes (λ d. (c.requires.row d).mark) (λ d. ap (λ s. s.object.place) (c.requires.row d).scheduled) in
     subst P (sym c.write_row.ensures.items) (record { counted = nearly.fits.counted; placed = nearly.fits.placed; few = nearly.fits.few })
 
 pub returns : goal.returns
@@ -38,7 +38,7 @@ returns c =
     let old : Row = c.row_at-old.result in
     let one : unsettled_one old ≡ unsettled_one (get_or c.args.self.now.rows.items c.args.at old) = ap unsettled_one (c.row_at-old.ensures old) in
     let le : heap_len c.wake_settled.new.deadlines + 2 * unsettled_one c.args.row ≤ heap_len c.args.self.now.tally.deadlines + 2 * unsettled_one (get_or c.args.self.now.rows.items c.args.at old) = omega (arith, one, c.wake_settled.ensures.len) in
-    let both = replace-sound _ _ _ _ _ _ _ _ _ _ _ c.requires.within c.write_row.ensures.items c.requires.current.sound.sound c.wake_settled.ensures.adds c.wake_settled.ensures.wakes (λ d. (c.requires.row d).mark) (λ d. ap (λ s. s.object.place) (c.requires.row d).scheduled)
+    let both = replace-sound _ _ _ _ _ _ _ _ _ _ _ c.requires.within c.write_row.ensures.items c.requires.current.sound.sound c.wake_settled.ensures.adds.items c.wake_settled.ensures.wakes (λ d. (c.requires.row d).mark) (λ d. ap (λ s. s.object.place) (c.requires.row d).scheduled)
     c.is_active_at-active.ensures c.mark_row.ensures.rows c.mark_row.ensures.counted c.mark_row.ensures.objects in
     let left = settled-count _ _ c.args.at old _ _ _ c.requires.within both.1 le in
     record {
@@ -50,7 +50,7 @@ returns c =
               noted-write _ c.args.at old (with_active c.is_active_at-active.result c.args.row) _ _ _ _ _ c.requires.within both.1 (ap (λ s. s.id) (c.requires.row old).scheduled)
               (c.has_ended-ended.ensures ∙ ap (λ r. live_at c.args.self.now.moment.0 r && not (live_at c.args.self.now.moment.0 c.args.row)) (c.row_at-old.ensures old)) c.note_ended.ensures c.requires.current.sound.noted;
         };
-        room = omega (arith, c.requires.current.room, c.wake_settled.ensures.capacity, left);
+        room = omega (arith, c.requires.current.room, c.wake_settled.ensures.adds.capacity, left);
       };
       rows = both.1 ∙ ap (λ a. set c.args.self.now.rows.items c.args.at (with_active a c.args.row)) c.is_active_at-active.ensures;
       pending = refl;
@@ -62,10 +62,10 @@ returns c =
           objects = c.mark_row.ensures.depths;
           gone_same = gone-lists _ _ _ _ c.list_gone.ensures;
           ids_same = c.note_ended.ensures.ids;
-          len = c.mark_row.ensures.len ∙ c.write_row.ensures.len;
-          capacity = c.mark_row.ensures.capacity ∙ c.write_row.ensures.capacity;
+          len = c.mark_row.ensures.size.len ∙ c.write_row.ensures.size.len;
+          capacity = c.mark_row.ensures.size.capacity ∙ c.write_row.ensures.size.capacity;
         };
-        deadlines = record { left = left; capacity = c.wake_settled.ensures.capacity };
+        deadlines = record { left = left; capacity = c.wake_settled.ensures.adds.capacity };
         pending = omega arith;
       };
     }

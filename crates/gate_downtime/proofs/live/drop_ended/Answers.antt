@@ -4,7 +4,7 @@ use Rattle.std.proofs.lemmas.Bool.{true≢false}
 use Rattle.gate_downtime.specs.inner.Rows.{is_live_row}
 use Rattle.gate_downtime.proofs.IdSteps.{filter-ascending, filter-others, others-in}
 use Rattle.gate_downtime.proofs.NotedSteps.{noted-pop, noted-none}
-use Rattle.gate_downtime.proofs.live.remove_ended.Goals as goal
+use Rattle.gate_downtime.proofs.live.drop_ended.Goals as goal
 
 pub ended-preserved-then-not-is_live_id : goal.ended-preserved-then-not-is_live_id
 ended-preserved-then-not-is_live_id c = record {

@@ -2,7 +2,7 @@ use Rattle.std.proofs.Common.{◌≡◌, ◌≤◌, false, vec_len}
 use Rattle.std.specs.Prelude.{filter}
 use Rattle.gate_downtime.specs.inner.Rows.{is_live_row}
 use Rattle.gate_downtime.specs.inner.Live.{AreAscending, AreNoted}
-use Rattle.gate_downtime.proofs.live.remove_ended.Given as goal
+use Rattle.gate_downtime.proofs.live.drop_ended.Given as goal
 
 abbrev pub invariant-ended : goal.invariant-ended
 invariant-ended l = record {
