@@ -1,5 +1,5 @@
 -- Only proofs and private functions use this: what happened in judged records, and when the books follow it.
-use Rattle.std.specs.Prelude.{◌≡◌, ℕ, ℤ, min, max, ◌+◌, ◌/◌, ◌≤◌, ◌==◌, Bool, true, false, not, List, ◌∷◌, ◌++◌, length, map, reverse, filter, slice_get, Option, Some, None, Result, Ok, Err, if◌then◌else◌}
+use Rattle.std.specs.Prelude.{◌≡◌, ℕ, ℤ, min, max, ◌+◌, ◌/◌, ◌<◌, ◌≤◌, ◌==◌, Bool, true, false, not, List, ◌∷◌, ◌++◌, length, map, reverse, filter, slice_get, Option, Some, None, Result, Ok, Err, All, if◌then◌else◌}
 use Rattle.std.specs.List.{cons_option, list_any, list_all, enumerate_from}
 use Rattle.std.specs.Option.{option_to_list}
 use Rattle.gate_model.specs.declared.record.Moment.{Moment}
@@ -27,6 +27,10 @@ use Rattle.gate_objects.specs.Standing.{IsStanding as ObjectsStand, result_event
 use Rattle.gate_downtime.specs.Standing.{IsStanding as DowntimeStands}
 use Rattle.gate_downtime.specs.Book.{DowntimeView, next_id, is_live_now, was_returned, next_gone_of}
 use Rattle.gate_applier.specs.declared.books.Books.{Books}
+
+-- these objects are among those that the books were opened with
+abbrev pub AreInBooks : List ObjectId → Books → Type 0
+AreInBooks objects books = All (λ (one : ObjectId). one.place < books.downtime.objects) objects
 
 -- what happened to the objects, to the downtime entries and to the comments, the newest first
 pub record Events : Type 0 where
