@@ -1,2 +1,4 @@
 pub mod Numbering
 pub mod Sessions
+pub mod Closes
+pub mod Working

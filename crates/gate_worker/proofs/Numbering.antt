@@ -1,11 +1,8 @@
 -- Numbers of items that go on from those before.
-use Rattle.std.proofs.Common.{◌≡◌, ℕ, zero, suc, ◌+◌, List, [], ◌∷◌, ◌++◌, length, refl, sym, ap, ◌∙◌, subst, arith, length-append}
-use Rattle.std.proofs.lemmas.List.{append-nil, append_assoc}
+use Rattle.std.proofs.Common.{◌≡◌, ℕ, zero, suc, ◌+◌, List, [], ◌∷◌, ◌++◌, length, refl, sym, ap, ◌∙◌, arith, length-append}
 use Rattle.gate_model.specs.declared.submission.Numbered.{Numbered}
-use Rattle.gate_reader.specs.declared.report.Report.{Report}
 use Rattle.gate_reader.specs.Session.{AreNumberedAfter}
-use Rattle.gate_worker.specs.Numbers.{queued_numbers, reported_numbers, item_numbers, numbers_after}
-use Rattle.gate_worker.specs.inner.Serving.{Extends}
+use Rattle.gate_worker.specs.Numbers.{item_numbers, numbers_after}
 
 pub item_numbers-append : (xs ys : List Numbered) → item_numbers (xs ++ ys) ≡ item_numbers xs ++ item_numbers ys
 item_numbers-append [] ys = refl
@@ -42,21 +39,3 @@ numbers_after-next n =
     let e : n + 1 ≡ suc n = omega arith in
     let f : suc (0 + n) ≡ suc n = omega arith in
     sym (ap (numbers_after 0) (sym e) ∙ numbers_after-add 0 n 1 ∙ ap (λ k. numbers_after 0 n ++ k ∷ []) f)
-
--- one more report adds the numbers that it answers with Queued
-pub reported_numbers-snoc : (reports : List Report) (report : Report) → reported_numbers (reports ++ report ∷ []) ≡ reported_numbers reports ++ queued_numbers report.answers
-reported_numbers-snoc [] report = append-nil (queued_numbers report.answers)
-reported_numbers-snoc (first ∷ reports) report = ap (λ l. queued_numbers first.answers ++ l) (reported_numbers-snoc reports report) ∙ sym (append_assoc (queued_numbers first.answers) (reported_numbers reports) (queued_numbers report.answers))
-
--- with the numbers of one more report, the items are still those that the reports answer with Queued, numbered from 1
-pub reported_next : (old looked new : List Numbered) (reports reserved pushed : List Report) (report : Report)
-    → item_numbers old ≡ reported_numbers reports → reported_numbers reports ≡ numbers_after 0 (length old)
-    → looked ≡ old → Extends looked new report.answers → reserved ≡ reports → reported_numbers pushed ≡ reported_numbers reserved ++ queued_numbers report.answers
-    → (item_numbers new ≡ reported_numbers pushed) × (reported_numbers pushed ≡ numbers_after 0 (length new))
-reported_next old looked new reports reserved pushed report reported counted same extends kept added =
-    let e = subst (λ l. Extends l new report.answers) same extends in
-    let more = e.0 in
-    let all : reported_numbers pushed ≡ reported_numbers reports ++ queued_numbers report.answers = added ∙ ap (λ l. reported_numbers l ++ queued_numbers report.answers) kept in
-    let first : item_numbers new ≡ reported_numbers pushed = ap item_numbers e.1 ∙ item_numbers-append old more ∙ ap (λ l. l ++ item_numbers more) reported ∙ ap (λ l. reported_numbers reports ++ l) e.2 ∙ sym all in
-    let second : item_numbers new ≡ numbers_after 0 (length new) = ap item_numbers e.1 ∙ numbers_go_on old more (reported ∙ counted) e.3 ∙ ap (λ l. numbers_after 0 (length l)) (sym e.1) in
-    (first, sym first ∙ second)

@@ -1,19 +1,30 @@
 -- What a session answered with Queued is what it queued.
-use Rattle.std.proofs.Common.{◌≡◌, ℕ, inl, inr, List, [], ◌∷◌, ◌++◌, length, Option, Some, None, refl, sym, ap, ◌∙◌, subst}
+use Rattle.std.proofs.Common.{◌≡◌, ℕ, inl, inr, Bool, true, false, List, [], ◌∷◌, ◌++◌, length, Option, Some, None, refl, sym, ap, ◌∙◌, subst}
+use Rattle.std.specs.Prelude.{IfSome}
+use Rattle.std.specs.Io.KnownBytes.{Consumes}
 use Rattle.std.proofs.lemmas.List.{append-nil}
 use Rattle.gate_model.specs.declared.record.Moment.{Moment}
 use Rattle.gate_model.specs.declared.submission.Body.{Body}
 use Rattle.gate_model.specs.declared.submission.Numbered.{Numbered}
 use Rattle.gate_reader.specs.declared.report.Answer.{Answer}
-use Rattle.gate_reader.specs.declared.report.Answer.TheVariants.{Queued, Full, Spent, Closing, Stale, EmptyHost, Bad, Down}
+use Rattle.gate_reader.specs.declared.report.Answer.TheVariants.{Queued}
 use Rattle.gate_reader.specs.declared.report.SessionLimits.{SessionLimits}
 use Rattle.gate_reader.specs.declared.report.Stop.{Stop}
 use Rattle.gate_reader.specs.Source.{SourceState}
 use Rattle.gate_reader.specs.Sink.{SinkState}
-use Rattle.gate_reader.specs.Session.{ClientView, Parties, Handled, SessionKind, LeadsTo, IsSession, queued_as, queued_among, answers_of}
+use Rattle.gate_reader.specs.Session.{ClientView, Parties, parties, Handled, SessionKind, LeadsTo, IsSession, queued_as, queued_among, bytes_of, answers_of}
+use Rattle.gate_reader.proofs.Serving.{KindLaws}
+use Rattle.gate_reader.proofs.Blocks.{packet_laws}
+use Rattle.gate_reader.proofs.LineCuts.{line_laws}
 use Rattle.gate_reader.specs.Packets.{AnswersBlock, packets, IsPacketSession}
 use Rattle.gate_reader.specs.Lines.{OperatorView, AnswersLine, lines, IsLineSession}
 use Rattle.gate_worker.specs.Numbers.{number_in, queued_numbers, item_numbers, numbers_after}
+use Rattle.gate_reader.specs.declared.report.Report.{Report}
+use Rattle.gate_queue.specs.GateClient.{IsSameClient}
+use Rattle.gate_worker.specs.Work.{Connection, connection_of, client_of, operator_of, kind_of, Means, IsSessionBy, IsServed}
+use Rattle.gate_worker.specs.inner.Serving.{Extends}
+use Rattle.gate_worker.specs.declared.limits.WorkerLimits.{WorkerLimits}
+use Rattle.gate_queue.specs.Client.{ClientState}
 use Rattle.gate_worker.proofs.Numbering.{item_numbers-append, numbers_of_items}
 
 -- an item that reports a body, or was not answered with Queued
@@ -22,39 +33,15 @@ QueuedHasBody body answer = (client : ℕ) → item_numbers (queued_as client bo
 
 block_has_body : {S : Type 0} (view : ClientView S) (age : ℕ) (old : S) (block : List ℕ) (now : Moment) (body : Option Body) (answer : Answer) (new : S) → AnswersBlock view age old block now body answer new → QueuedHasBody body answer
 block_has_body view age old block now (Some b) (Queued k) new h client = refl
-block_has_body view age old block now (Some b) Full new h client = refl
-block_has_body view age old block now (Some b) Spent new h client = refl
-block_has_body view age old block now (Some b) (Closing m) new h client = refl
-block_has_body view age old block now (Some b) Stale new h client = refl
-block_has_body view age old block now (Some b) EmptyHost new h client = refl
-block_has_body view age old block now (Some b) (Bad f) new h client = refl
-block_has_body view age old block now (Some b) (Down m) new h client = refl
 block_has_body view age old block now None (Queued k) new h client = absurd h
-block_has_body view age old block now None Full new h client = refl
-block_has_body view age old block now None Spent new h client = refl
-block_has_body view age old block now None (Closing m) new h client = refl
-block_has_body view age old block now None Stale new h client = refl
-block_has_body view age old block now None EmptyHost new h client = refl
-block_has_body view age old block now None (Bad f) new h client = refl
-block_has_body view age old block now None (Down m) new h client = refl
+block_has_body view age old block now (Some b) answer new h client = refl
+block_has_body view age old block now None answer new h client = refl
 
 line_has_body : {S : Type 0} (view : OperatorView S) (old : S) (line : List ℕ) (readings : List Moment) (body : Option Body) (answer : Answer) (new : S) → AnswersLine view old line readings body answer new → QueuedHasBody body answer
 line_has_body view old line readings (Some b) (Queued k) new h client = refl
-line_has_body view old line readings (Some b) Full new h client = refl
-line_has_body view old line readings (Some b) Spent new h client = refl
-line_has_body view old line readings (Some b) (Closing m) new h client = refl
-line_has_body view old line readings (Some b) Stale new h client = refl
-line_has_body view old line readings (Some b) EmptyHost new h client = refl
-line_has_body view old line readings (Some b) (Bad f) new h client = refl
-line_has_body view old line readings (Some b) (Down m) new h client = refl
 line_has_body view old line readings None (Queued k) new h client = absurd h
-line_has_body view old line readings None Full new h client = refl
-line_has_body view old line readings None Spent new h client = refl
-line_has_body view old line readings None (Closing m) new h client = refl
-line_has_body view old line readings None Stale new h client = refl
-line_has_body view old line readings None EmptyHost new h client = refl
-line_has_body view old line readings None (Bad f) new h client = refl
-line_has_body view old line readings None (Down m) new h client = refl
+line_has_body view old line readings (Some b) answer new h client = refl
+line_has_body view old line readings None answer new h client = refl
 
 -- what was queued among the items has the numbers that were answered
 queued_is_answered : {S : Type 0} (handles : S → Handled → S → Type 0) → ((x : S) (item : Handled) (y : S) → handles x item y → QueuedHasBody item.body item.answer)
@@ -80,14 +67,128 @@ grows_by view kind has limits before after source_before source_after answers st
     let q = s.queued list stands in
     (more, q.0, queued_is_answered kind.handles has view.number before.client s.items s.answered.client s.serves.leads ∙ ap queued_numbers (sym s.listed), numbers_of_items (length list) more q.1)
 
-pub packets_grow : {S : Type 0} (view : ClientView S) (limits : SessionLimits) (age : ℕ) (before after : Parties S) (source_before source_after : SourceState) (sink_before sink_after : SinkState) (answers : List Answer) (stop : Stop)
+packets_grow : {S : Type 0} (view : ClientView S) (limits : SessionLimits) (age : ℕ) (before after : Parties S) (source_before source_after : SourceState) (sink_before sink_after : SinkState) (answers : List Answer) (stop : Stop)
     → IsPacketSession view limits age before after source_before source_after sink_before sink_after answers stop → Grows view.stands before.client answers after.client
 packets_grow {S} view limits age before after source_before source_after sink_before sink_after answers stop s list stands = elim s.outcome [
   | inl greeted ↦ grows_by view (packets view limits.items age) (λ x item y h. block_has_body view age x item.bytes h.0 item.body item.answer y h.2) limits _ after source_before source_after answers stop greeted.served list stands
   | inr ungreeted ↦ ([], subst (λ (p : Parties S). view.stands p.client (list ++ [])) (sym ungreeted.parties_stay) (subst (view.stands before.client) (sym (append-nil list)) stands), ap queued_numbers (sym ungreeted.none_answered), refl)
 ]
 
-pub lines_grow : {S : Type 0} (view : OperatorView S) (limits : SessionLimits) (before after : Parties S) (source_before source_after : SourceState) (sink_before sink_after : SinkState) (answers : List Answer) (stop : Stop)
+lines_grow : {S : Type 0} (view : OperatorView S) (limits : SessionLimits) (before after : Parties S) (source_before source_after : SourceState) (sink_before sink_after : SinkState) (answers : List Answer) (stop : Stop)
     → IsLineSession view limits before after source_before source_after sink_before sink_after answers stop → Grows view.client.stands before.client answers after.client
 lines_grow view limits before after source_before source_after sink_before sink_after answers stop s =
     grows_by view.client (lines view limits.items) (λ x item y h. line_has_body view x item.bytes item.readings item.body item.answer y h) limits before after source_before source_after answers stop s.served
+
+-- what a session adds to what is queued for a client
+pub served_extends : (is_operator : Bool) (limits : WorkerLimits) (old : ClientState) (connection : Connection) (new : ClientState)
+    → IsServed is_operator limits old connection new → Extends old.queued new.queued connection.report.answers
+served_extends true limits old connection new s = lines_grow (operator_of old.number) limits.session _ _ _ _ _ _ _ _ s.session old.queued refl
+served_extends false limits old connection new s = packets_grow (client_of old.number) limits.session limits.greatest_age _ _ _ _ _ _ _ _ s.session old.queued refl
+
+-- ---- what a session means
+
+front_of : (cuts : List ℕ → List (List ℕ) → List ℕ → Type 0) → ((bytes later : List ℕ) (items : List (List ℕ)) (left : List ℕ) → cuts bytes items left → cuts (bytes ++ later) items (left ++ later))
+    → (sent after : Option (List ℕ)) (input rest : List ℕ) (items : List (List ℕ)) → Consumes sent after input → cuts input items rest
+    → IfSome sent (λ stream. (left : List ℕ) × cuts stream items left)
+front_of cuts later None after input rest items read cut = tt
+front_of cuts later (Some stream) None input rest items read cut = absurd read
+front_of cuts later (Some stream) (Some more) input rest items read cut =
+    (rest ++ more, subst (λ (bytes : List ℕ). cuts bytes items (rest ++ more)) (sym read) (later input more items rest cut))
+
+pub means_by : (view : ClientView ClientState) (kind : SessionKind ClientState) → KindLaws view kind → (limits : SessionLimits) (before after : Parties ClientState) (source_before source_after : SourceState) (answers : List Answer) (stop : Stop)
+    → ((client : ClientState) (items : List Numbered) → view.stands client items → client.queued ≡ items) → view.stands before.client before.client.queued → view.number ≡ before.client.number
+    → (s : IsSession view kind limits before after source_before source_after answers stop) → Means kind before.client source_before.left s.items answers after.client
+means_by view kind laws limits before after source_before source_after answers stop stands_for stands named s = record {
+  answered = s.answered.client;
+  front = front_of kind.cuts laws.later source_before.left source_after.left s.input s.rest (bytes_of s.items) s.read s.serves.cut;
+  handled = s.serves.leads;
+  listed = s.listed;
+  queued = stands_for after.client _ (s.queued before.client.queued stands).0 ∙ ap (λ (n : ℕ). before.client.queued ++ queued_among n s.items) named;
+}
+
+none_in_front : (kind : SessionKind ClientState) {view : ClientView ClientState} → KindLaws view kind → (sent : Option (List ℕ)) → IfSome sent (λ stream. (left : List ℕ) × kind.cuts stream [] left)
+none_in_front kind laws None = tt
+none_in_front kind laws (Some stream) = (stream, laws.none stream)
+
+-- a session of lines means its items
+pub lines_mean : (limits : WorkerLimits) (old new : ClientState) (source_before source_after : SourceState) (sink_before sink_after : SinkState) (report : Report)
+    → IsSessionBy true limits old new source_before source_after sink_before sink_after report
+    → (items : List Handled) × Means (kind_of true limits old.number) old source_before.left items report.answers new
+lines_mean limits old new source_before source_after sink_before sink_after report s =
+    let view = operator_of old.number in (
+      s.served.items,
+      means_by view.client (lines view limits.session.items) (line_laws view limits.session.items) limits.session (parties old None) (parties new None)
+          source_before source_after report.answers report.stop (λ client items h. h) refl refl s.served,
+    )
+
+-- so does one of packets
+pub packets_mean : (limits : WorkerLimits) (old new : ClientState) (source_before source_after : SourceState) (sink_before sink_after : SinkState) (report : Report)
+    → IsSessionBy false limits old new source_before source_after sink_before sink_after report
+    → (items : List Handled) × Means (kind_of false limits old.number) old source_before.left items report.answers new
+packets_mean limits old new source_before source_after sink_before sink_after report s =
+    let view = client_of old.number in
+    let kind = packets view limits.session.items limits.greatest_age in
+    let laws = packet_laws view limits.session.items limits.greatest_age in
+    elim s.outcome [
+      | inl greeted ↦ (
+        greeted.served.items,
+        means_by view kind laws limits.session (parties old s.greeted) (parties new None) source_before source_after report.answers report.stop
+            (λ client items h. h) refl refl greeted.served,
+      )
+      | inr ungreeted ↦ (
+        [],
+        record {
+          answered = old;
+          front = none_in_front kind laws source_before.left;
+          handled = refl;
+          listed = ungreeted.none_answered;
+          queued = ap (λ (p : Parties ClientState). p.client.queued) ungreeted.parties_stay ∙ sym (append-nil old.queued);
+        },
+      )
+    ]
+
+-- an agent's connection was served
+pub agent_served : (limits : WorkerLimits) (old begun after new : ClientState) (source_before source_after : SourceState) (sink_before sink_after : SinkState) (report : Report)
+    → begun ≡ old → new ≡ after → old.known_close ≡ None → IsSameClient begun after
+    → IsPacketSession (client_of begun.number) limits.session limits.greatest_age (parties begun None) (parties after None) source_before source_after sink_before sink_after report.answers report.stop
+    → (items : List Handled) × IsServed false limits old (connection_of source_before.left items report) new
+agent_served limits old begun after new source_before source_after sink_before sink_after report from into knew_none same session =
+    let s : IsSessionBy false limits old new source_before source_after sink_before sink_after report =
+    subst (λ (c : ClientState). IsSessionBy false limits old c source_before source_after sink_before sink_after report) (sym into)
+    (subst (λ (c : ClientState). IsSessionBy false limits c after source_before source_after sink_before sink_after report) from session) in
+    let m = packets_mean limits old new source_before source_after sink_before sink_after report s in (
+      m.0,
+      record {
+        tally = source_before.tally;
+        source_after = source_after;
+        sink_before = sink_before;
+        sink_after = sink_after;
+        knew_none = knew_none;
+        same = subst (λ (c : ClientState). IsSameClient old c) (sym into) (subst (λ (c : ClientState). IsSameClient c after) from same);
+        session = s;
+        means = m.1;
+      },
+    )
+
+-- an operator's connection was served
+pub operator_served : (limits : WorkerLimits) (old begun after new : ClientState) (source_before source_after : SourceState) (sink_before sink_after : SinkState) (report : Report)
+    → begun ≡ old → new ≡ after → old.known_close ≡ None → IsSameClient begun after
+    → IsLineSession (operator_of begun.number) limits.session (parties begun None) (parties after None) source_before source_after sink_before sink_after report.answers report.stop
+    → (items : List Handled) × IsServed true limits old (connection_of source_before.left items report) new
+operator_served limits old begun after new source_before source_after sink_before sink_after report from into knew_none same session =
+    let s : IsSessionBy true limits old new source_before source_after sink_before sink_after report =
+    subst (λ (c : ClientState). IsSessionBy true limits old c source_before source_after sink_before sink_after report) (sym into)
+    (subst (λ (c : ClientState). IsSessionBy true limits c after source_before source_after sink_before sink_after report) from session) in
+    let m = lines_mean limits old new source_before source_after sink_before sink_after report s in (
+      m.0,
+      record {
+        tally = source_before.tally;
+        source_after = source_after;
+        sink_before = sink_before;
+        sink_after = sink_after;
+        knew_none = knew_none;
+        same = subst (λ (c : ClientState). IsSameClient old c) (sym into) (subst (λ (c : ClientState). IsSameClient c after) from same);
+        session = s;
+        means = m.1;
+      },
+    )

@@ -1,3 +1,5 @@
 pub mod Numbers
 pub mod Stops
+pub mod Streams
+pub mod Work
 pub mod inner

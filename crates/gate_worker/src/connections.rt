@@ -1,17 +1,31 @@
+ghost use Rattle.std.specs.Prelude.{◌≡◌, ℕ, List, Option, None, option_map};
+ghost use Rattle.gate_model.specs.declared.record.Moment.{Moment};
+ghost use Rattle.gate_worker.specs.Streams.{ComesNext};
+
 use gate_model::Moment;
 use gate_reader::{Clock, Sink, Source};
 
 /// Where a worker's connections come from.
+///
+/// A type that leaves the member out claims nothing by it.
 pub trait Connections {
     type In: Source + Drop + Send;
 
     type Out: Sink + Drop + Send;
 
+    // What the connections from here on send, one after the other, where it is known.
+    ghost streams: { Self → Option (List (List ℕ)) } = { λ _. None };
+
     /// The next connection: what it sends, and where its answers go. None: there are no more.
-    fn next(&mut self) -> Option<(Self::In, Self::Out)>;
+    fn next(&mut self) -> Option<(Self::In, Self::Out)>
+        ensures { ComesNext (streams self.old)
+            (option_map (λ connection. (Self.In.state connection.0).left) result)
+            (streams self.new) };
 
     /// Takes back a connection that was served. Its peer receives all that was written.
-    fn part(&mut self, _input: Self::In, _output: Self::Out) {}
+    fn part(&mut self, _input: Self::In, _output: Self::Out)
+        ensures { streams self.new ≡ streams self.old }
+    {}
 
     /// Ends all connections, once no more are asked for.
     fn end(&mut self) {}
@@ -42,9 +56,15 @@ impl Hold for NoHold {
 }
 
 /// A clock that threads share.
+///
+/// A type that leaves the member out claims nothing by it.
 pub trait Watch {
+    // The clock may show this moment.
+    ghost shows: { Self → Moment → Type 0 } = { λ _ _. Unit {0} };
+
     /// Reads the clock.
-    fn read(&self) -> Moment;
+    fn read(&self) -> Moment
+        ensures { shows self.now result };
 }
 
 /// A session's view of a shared clock. Nothing is known of its readings.

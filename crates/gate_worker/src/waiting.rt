@@ -7,24 +7,32 @@ use crate::times::ROOM_PAUSE_MICROS;
 use gate_core::{CloseFault, Operator, Refused, Submit};
 use gate_model::{Body, Moment};
 use gate_queue::Gate;
+use std::marker::Model;
 use std::thread;
 use std::time::{Clock, Duration, Instant};
 
 /// A client that waits while the queue is full, for a number of milliseconds at most, so that the
 /// applier needn't keep up with a burst. Once a body has waited in vain, none waits until the next
-/// one is queued; and none waits where nothing is taken from the queue any more.
+/// one is queued; and none waits where nothing is taken from the queue any more. Contracts see the
+/// client.
 #[derive(Drop)]
 pub(crate) struct Waiting<'a, R, S> {
     rt: &'a R,
     gate: &'a Gate,
-    pub(crate) client: S,
+    client: S,
     millis: u64,
     has_waited: bool,
 }
 
+impl<'a, R, S> Model for Waiting<'a, R, S> {
+    ghost Value = { S };
+
+    ghost view = { λ waiting. waiting.client };
+}
+
 impl<'a, R, S> Waiting<'a, R, S> {
     pub(crate) fn new(rt: &'a R, gate: &'a Gate, client: S, millis: u64) -> Waiting<'a, R, S>
-        ensures { result.client ≡ client }
+        ensures { result ≡ client }
     {
         Waiting {
             rt,
@@ -36,7 +44,7 @@ impl<'a, R, S> Waiting<'a, R, S> {
     }
 
     pub(crate) fn into_client(self) -> S
-        ensures { result ≡ self.entry.client }
+        ensures { result ≡ self.entry }
     {
         self.client
     }
@@ -93,15 +101,15 @@ fn submit_again<R: Clock, S: Submit>(
 }
 
 impl<'a, R: Clock, S: Submit> Submit for Waiting<'a, R, S> {
-    ghost stands = { λ waiting items. S.stands waiting.client items };
+    ghost stands = { S.stands };
 
-    ghost named = { λ waiting. S.named waiting.client };
+    ghost named = { S.named };
 
-    ghost knows = { λ waiting. S.knows waiting.client };
+    ghost knows = { S.knows };
 
-    ghost looks = { λ old answer new. S.looks old.client answer new.client };
+    ghost looks = { S.looks };
 
-    ghost keeps = { λ old new. S.keeps old.client new.client };
+    ghost keeps = { S.keeps };
 
     fn submit(&mut self, body: Body) -> Result<u64, Refused> {
         let answer = if self.has_waited {
@@ -125,13 +133,13 @@ impl<'a, R: Clock, S: Submit> Submit for Waiting<'a, R, S> {
         self.client.number()
     }
 
-    ghost keeps_itself = { λ x. S.keeps_itself x.client };
+    ghost keeps_itself = { S.keeps_itself };
 
-    ghost keeps_on = { λ x y z p q. S.keeps_on x.client y.client z.client p q };
+    ghost keeps_on = { S.keeps_on };
 }
 
 impl<'a, R: Clock, O: Operator> Operator for Waiting<'a, R, O> {
-    ghost closes = { λ old moment answer new. O.closes old.client moment answer new.client };
+    ghost closes = { O.closes };
 
     fn close(&mut self, moment: Moment) -> Result<Moment, CloseFault> {
         self.client.close(moment)
