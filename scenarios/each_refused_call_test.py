@@ -281,7 +281,8 @@ GROWING = b"web1\nweb1;HTTP\nweb1;SSH\n\n" + lines_of(
 # Three items of one client, for a log of two records and then for one of three, each drained twice.
 QUEUED = b"queued 1\nqueued 2\nqueued 3\nclose: 1500, found 1500\n"
 FULL = QUEUED + b"close_all: LogFull, 0 clients left\n1:1\n1:2\n" * 2 + QUEUED + b"closed\n1:1\n1:2\n1:3\n"
-SHUTDOWN = lines_of(b"ADD_HOST_COMMENT;web1;0;ann;hi", b"RESTART_PROGRAM", b"DEL_HOST_COMMENT;1", b"SHUTDOWN_PROGRAM")
+SHUTDOWN = lines_of(b"ADD_HOST_COMMENT;web1;0;ann;hi", b"RESTART_PROGRAM", b"ADD_HOST_COMMENT;web1;0;ann;ho",
+                    b"SHUTDOWN_PROGRAM")
 
 
 def main():
