@@ -6,16 +6,6 @@ use Rattle.gate_model.specs.Record.{later, AreInOrder}
 use Rattle.std.specs.Prelude.{min, max, Result, Ok, Err, OnErr}
 use Rattle.gate_applier.specs.inner.Applier.{IsModest}
 
--- memory is taken for as many again, or 16, and for none past the limit
-pub modest-grown : (limit count capacity additional grown : ℕ) → IsModest limit count capacity → count ≤ limit
-    → additional ≡ min (max count 16) (limit - count)
-    → grown ≤ max capacity (count + additional)
-    → IsModest limit count grown
-modest-grown limit count capacity additional grown is few more taken = record {
-  within_limit = omega (arith, is.within_limit, is.modest);
-  modest = omega (arith, is.within_limit, is.modest);
-}
-
 -- one more element
 pub modest-pushed : (limit count capacity : ℕ) → IsModest limit count capacity → IsModest limit (count + 1) capacity
 modest-pushed limit count capacity is = record {

@@ -23,55 +23,11 @@ KnowsKeys keys table = least_unknown keys table ≡ None
 abbrev pub IsNamed : Members → Type 0
 IsNamed table = name_fault Name (value_at table Name) ≡ None
 
-pub unknown_fails : (keys : List Key) (table : Members) (fault : ConfigFault)
-    → option_map UnknownKey (least_unknown keys table) ≡ Some fault → FirstFails (table_checks keys table) fault
-unknown_fails keys table fault unknown = inl unknown
-
-pub name_fails : (more : List Key) (table : Members) (fault : ConfigFault) → KnowsKeys (Name ∷ more) table
-    → name_fault Name (value_at table Name) ≡ Some fault → FirstFails (table_checks (Name ∷ more) table) fault
-name_fails more table fault known bad = inr (ap (option_map UnknownKey) known, inl bad)
-
-pub freshness_fails : (more : List Key) (table : Members) (fault : ConfigFault) → KnowsKeys (Name ∷ Freshness ∷ more) table
-    → IsNamed table → fault ≡ BadValue Freshness → number_at table Freshness ≡ None
-    → FirstFails (table_checks (Name ∷ Freshness ∷ more) table) fault
-freshness_fails more table fault known named is bad =
-    inr (ap (option_map UnknownKey) known, inr (named, inl (ap (bad_unless Freshness) bad ∙ ap Some (sym is))))
-
-pub services_fail : (table : Members) (fault : ConfigFault) (threshold : ℕ) → KnowsKeys host_keys table → IsNamed table
-    → number_at table Freshness ≡ Some threshold → fault ≡ BadValue Service → tables_or_none (value_at table Service) ≡ None
-    → FirstFails (table_checks host_keys table) fault
-services_fail table fault threshold known named fresh is bad =
-    inr (
-      ap (option_map UnknownKey) known,
-      inr (
-        named,
-        inr (
-          ap (bad_unless Freshness) fresh,
-          inl (ap (bad_unless Service) bad ∙ ap Some (sym is)),
-        ),
-      ),
-    )
-
-pub service_passes : (table : Members) (threshold : ℕ) → KnowsKeys service_keys table → IsNamed table
-    → number_at table Freshness ≡ Some threshold → AllPass (table_checks service_keys table)
-service_passes table threshold known named fresh =
-    (ap (option_map UnknownKey) known, (named, (ap (bad_unless Freshness) fresh, tt)))
-
 pub host_passes : (table : Members) (threshold : ℕ) (rows : List Data) → KnowsKeys host_keys table → IsNamed table
     → number_at table Freshness ≡ Some threshold → tables_or_none (value_at table Service) ≡ Some rows
     → AllPass (table_checks host_keys table)
 host_passes table threshold rows known named fresh tables =
     (ap (option_map UnknownKey) known, (named, (ap (bad_unless Freshness) fresh, (ap (bad_unless Service) tables, tt))))
-
-line_of_parts : (host : List ℕ) (name : List ℕ) (threshold : ℕ) (named : Option (List ℕ)) (fresh : Option ℕ) → named ≡ Some name → fresh ≡ Some threshold
-    → line_of host (Some (unwrap_or named [])) (unwrap_or fresh 0) ≡ line_of host (Some name) threshold
-line_of_parts host name threshold named fresh is_named is_fresh = rw (is_named, is_fresh)
-
-pub service_lines_are : (host : List ℕ) (table : Members) (name : List ℕ) (threshold : ℕ)
-    → option_and_then as_str (value_at table Name) ≡ Some name → number_at table Freshness ≡ Some threshold
-    → service_lines host (Some table) ≡ line_of host (Some name) threshold ∷ []
-service_lines_are host table name threshold named fresh =
-    ap (λ line. line ∷ []) (line_of_parts host name threshold _ _ named fresh)
 
 lines_of_parts : (name : List ℕ) (threshold : ℕ) (services : List Value) (named : Option (List ℕ)) (fresh : Option ℕ) (rows : Option (List Data))
     → named ≡ Some name → fresh ≡ Some threshold → rows ≡ Some (map view services)

@@ -23,6 +23,3 @@ pub not_all_tables : (found : Option Data) (value : Data) (values : List Value) 
     → list_all (λ value. is_table (view value)) values ≡ false → tables_or_none found ≡ None
 not_all_tables found value values is_found is_array some =
     rw (← is_found, ← is_array, list_of-items values, list_all-map values, some)
-
-pub not_array : (found : Option Data) (other : Data) → Some other ≡ found → None ≡ as_array other → tables_or_none found ≡ None
-not_array found other is_found is_other = rw (← is_found, ← is_other)

@@ -24,9 +24,6 @@ adds-push k m old new heap perm = record {
 pub there-push : (k m : ℕ) (old new : Deadlines) → IsPermutation (record { 0 = (m, k) } ∷ old) new → Contains new (record { 0 = (m, k) })
 there-push k m old new perm = Contains-permutation _ _ _ perm (Contains-append_left (record { 0 = (m, k) } ∷ []) old (record { 0 = (m, k) }) (0, lit< tt, refl))
 
-pub adds-none : (k : ℕ) (dl : Deadlines) → Adds k dl dl
-adds-none k dl = record { order = λ h. h; keeps = λ x has. has; only = λ n lt all. all }
-
 pub adds-trans : (k : ℕ) (a b c : Deadlines) → Adds k a b → Adds k b c → Adds k a c
 adds-trans k a b c x y = record { order = λ h. y.order (x.order h); keeps = λ z has. y.keeps z (x.keeps z has); only = λ n lt all. y.only n lt (x.only n lt all) }
 

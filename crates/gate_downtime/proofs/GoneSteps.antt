@@ -27,9 +27,6 @@ use Rattle.gate_downtime.specs.inner.Tally.{KeepsSize, AddsForSettled}
 abbrev pub some-mark : Mark
 some-mark = record { listed = false; returned = false }
 
-pub lists-nothing : (at : ℕ) (live : Bool) (gone : Gone) → (live ≡ false → ((m : Mark) → (get_or gone.marks.items at m).returned ≡ false) → Contains (heap_items gone.heap) (record { 0 = at })) → Lists at live gone gone
-lists-nothing at live gone there = record { kept = λ n k. k; few = λ n f. f; keeps = λ k has. has; same = refl; there = there; capacity = omega arith; marks_len = refl; marks_capacity = omega arith }
-
 -- one more row is listed, which was free
 pub kept-push : (n : ℕ) (marks marks' : List Mark) (listed listed' : Listed) (at : ℕ) (v : Mark) → at < n → marks' ≡ set marks at v → IsPermutation (record { 0 = at } ∷ listed) listed' → KeepsHeap gone_cmp listed listed'
     → IsKept n marks listed → IsKept n marks' listed'
@@ -133,18 +130,6 @@ gone-write t at v live rows rows' old new in' is dead lists kept few room awaits
 pub gone-set : (t at : ℕ) (v : Row) (live : Bool) (rows rows' : List Row) (old new : Gone) → at < length rows → rows' ≡ set rows at v → live ≡ live_at t v → Lists at live old new → AllGone t rows old → AllGone t rows' new
 gone-set t at v live rows rows' old new in' is dead lists s = gone-write t at v live rows rows' old new in' is dead lists s.kept s.few s.room (λ j d lt ne. s.awaits j d lt)
 
--- on the way to a later moment
-pub gone-start : (t now : ℕ) (rows : List Row) (deadlines : Deadlines) (gone : Gone) → t ≤ now → Awake t rows deadlines → AllGone t rows gone → GoneOrDue now rows deadlines gone
-gone-start t now rows deadlines gone le awake s = record {
-  kept = s.kept;
-  few = s.few;
-  room = s.room;
-  awaits = λ k d lt. elim (between t now (get_or rows k d).over) [
-    | inl h ↦ inr (record { moment = (get_or rows k d).over; past = h.1; there = (awake k d lt).end h.0 })
-    | inr h ↦ inl (λ off fresh. s.awaits k d lt (ap (λ b. not (get_or rows k d).entry.deleted && b) (ltb-same t now (get_or rows k d).over le h) ∙ off) fresh)
-  ];
-}
-
 pub gone-step : (now m k : ℕ) (d : Row) (a live : Bool) (rows rows' : List Row) (deadlines deadlines' : Deadlines) (old new : Gone) → k < length rows → IsPermutation deadlines (record { 0 = (m, k) } ∷ deadlines')
     → ((e : Row) → rows' ≡ set rows k (with_active a (get_or rows k e))) → live ≡ live_at now (get_or rows k d) → Lists k live old new → GoneOrDue now rows deadlines old → GoneOrDue now rows' deadlines' new
 gone-step now m k d a live rows rows' deadlines deadlines' old new in' perm is dead lists s =
@@ -167,20 +152,6 @@ gone-step now m k d a live rows rows' deadlines deadlines' old new in' perm is d
           ])
           (inl (awaits-listed now k live v old new (omega (arith, in', s.kept.len)) lists dead));
     })
-
-pub gone-end : (now : ℕ) (rows : List Row) (deadlines : Deadlines) (gone : Gone) → GoneOrDue now rows deadlines gone → All (λ (x : Reverse (ℕ × ℕ)). now < x.0.0) deadlines → AllGone now rows gone
-gone-end now rows deadlines gone s none = record {
-  kept = s.kept;
-  few = s.few;
-  room = s.room;
-  awaits = λ k d lt. elim (s.awaits k d lt) [ inl w ↦ w | inr due ↦ absurd (never due) ];
-}
-  where
-    never : {k : ℕ} → IsDue now deadlines k → ⊥
-    never {k} due =
-        let at : now < (get_or deadlines due.there.0 (record { 0 = (due.moment, k) })).0.0 = none due.there.0 (record { 0 = (due.moment, k) }) due.there.1 in
-        let is : (get_or deadlines due.there.0 (record { 0 = (due.moment, k) })).0.0 ≡ due.moment = ap (λ (y : Reverse (ℕ × ℕ)). y.0.0) due.there.2 in
-        omega (arith, at, is, due.past)
 
 -- one more row
 pub kept-more : (n : ℕ) (marks : List Mark) (listed : Listed) → IsKept n marks listed → IsKept (n + 1) (marks ++ some-mark ∷ []) listed
@@ -393,20 +364,6 @@ gone-return now at m rows old new in' r kept few room awaits =
         none true = refl
         none false = refl
 
-pub gone-none : (now : ℕ) (rows : List Row) (old new : Gone) → heap_items new.heap ≡ heap_items old.heap → heap_len new.heap ≡ heap_len old.heap → new.marks ≡ old.marks → heap_capacity old.heap ≤ heap_capacity new.heap → AllGone now rows old → AllGone now rows new
-gone-none now rows old new items len marks cap s =
-    let P : Listed → Type 0 = λ xs. IsKept (length rows) new.marks.items xs in
-    let Q : List Mark → Type 0 = λ ms. IsKept (length rows) ms (heap_items old.heap) in
-    let all : new.marks.items ≡ old.marks.items = ap (λ v. v.items) marks in
-    record {
-      kept = subst P (sym items) (subst Q (sym all) s.kept);
-      few = omega (arith, s.few, len, ap (count_by is_free) all);
-      room = omega (arith, s.room, cap);
-      awaits = λ k d lt off fresh.
-          let S : Listed → Type 0 = λ xs. Contains xs (record { 0 = k }) in
-          subst S (sym items) (s.awaits k d lt off (λ m. ap (λ ms. (get_or ms k m).returned) (sym all) ∙ fresh m));
-    }
-
 pub returned-flags : (at : ℕ) (m : Mark) (old new : Gone) → at < length old.marks.items → Returns at old new → map is_returned new.marks.items ≡ set (map is_returned old.marks.items) at true
 returned-flags at m old new lt r = ap (map is_returned) (r.marks m) ∙ map-set is_returned old.marks.items at (record { listed = (get_or old.marks.items at m).listed; returned = true })
 
@@ -444,7 +401,3 @@ pub both-false : (a b : Bool) → (a || b) ≡ false → (a ≡ false) × (b ≡
 both-false false false e = (refl, refl)
 both-false true b e = cc
 both-false false true e = cc
-
--- the rows, written as they are read
-pub gone-rows : (now : ℕ) (xs ys : List Row) (gone : Gone) → xs ≡ ys → AllGone now xs gone → AllGone now ys gone
-gone-rows now xs ys gone is s = let P : List Row → Type 0 = λ rows. AllGone now rows gone in subst P is s

@@ -73,12 +73,6 @@ noted-write t at d v ended rows rows' old new in' is same end notes noted =
 
 -- ---- on the way to a later moment
 
-pub noted-start : (t now : ℕ) (rows : List Row) (deadlines : Deadlines) (live : LiveIds) → t ≤ now → Awake t rows deadlines → AllNoted t rows live → NotedOrDue now rows deadlines live
-noted-start t now rows deadlines live le awake noted k d lt = elim (between t now (get_or rows k d).over) [
-  | inl h ↦ inr (record { moment = (get_or rows k d).over; past = h.1; there = (awake k d lt).end h.0 })
-  | inr h ↦ inl (λ off has. noted k d lt (ap (λ b. not (get_or rows k d).entry.deleted && b) (ltb-same t now (get_or rows k d).over le h) ∙ off) has)
-]
-
 pub noted-step : (now before m k : ℕ) (d : Row) (a ended : Bool) (rows rows' : List Row) (deadlines deadlines' : Deadlines) (old new : LiveIds) → k < length rows → IsPermutation deadlines (record { 0 = (m, k) } ∷ deadlines')
     → ((e : Row) → rows' ≡ set rows k (with_active a (get_or rows k e))) → ended ≡ (live_at before (get_or rows k d) && not (live_at now (get_or rows k d))) → Notes (get_or rows k d).entry.scheduled.id ended old new
     → AllNoted before rows old → NotedOrDue now rows deadlines old → NotedOrDue now rows' deadlines' new
@@ -111,15 +105,6 @@ noted-mark t k d a ended id rows rows' old new in' is notes noted =
     (set-cases rows k v in' (λ j x. IsRowNoted t new x)
     (λ j e lt ne. noted-keep t (get_or rows j e) id ended old new notes (noted j e lt))
     (noted-keep t (get_or rows k d) id ended old new notes (noted k d in')))
-
-pub noted-end : (now : ℕ) (rows : List Row) (deadlines : Deadlines) (live : LiveIds) → NotedOrDue now rows deadlines live → All (λ (x : Reverse (ℕ × ℕ)). now < x.0.0) deadlines → AllNoted now rows live
-noted-end now rows deadlines live noted none k d lt = elim (noted k d lt) [ inl w ↦ w | inr due ↦ absurd (never due) ]
-  where
-    never : {k : ℕ} → IsDue now deadlines k → ⊥
-    never {k} due =
-        let at : now < (get_or deadlines due.there.0 (record { 0 = (due.moment, k) })).0.0 = none due.there.0 (record { 0 = (due.moment, k) }) due.there.1 in
-        let is : (get_or deadlines due.there.0 (record { 0 = (due.moment, k) })).0.0 ≡ due.moment = ap (λ (y : Reverse (ℕ × ℕ)). y.0.0) due.there.2 in
-        omega (arith, at, is, due.past)
 
 -- ---- between calls
 

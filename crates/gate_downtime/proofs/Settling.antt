@@ -12,23 +12,6 @@ use Rattle.gate_downtime.specs.declared.row.Row.{Row}
 use Rattle.gate_downtime.specs.inner.Rows.{active_at, with_active, Counted, Wakes, Deadlines, Sound, IsDue, Settling, deadline_cmp}
 use Rattle.gate_downtime.proofs.Marks.{active-same}
 
-pub settling-start : (t now : ℕ) (rows : List Row) (depths : List ℕ) (deadlines : Deadlines) → t ≤ now → Sound t rows depths deadlines → Settling now rows rows depths deadlines
-settling-start t now rows depths deadlines le sound = record {
-  fits = sound.fits;
-  awake = λ k d lt. record {
-    end = λ before. (sound.awake k d lt).end (omega arith);
-    beginning = λ b is before. (sound.awake k d lt).beginning b is (omega arith);
-  };
-  pending = λ k d lt. elim (active-same t now (get_or rows k d) le) [
-    | inl turns ↦ inr (elim turns [
-      | inl end ↦ record { moment = (get_or rows k d).over; past = end.1; there = (sound.awake k d lt).end end.0 }
-      | inr begins ↦ record { moment = begins.0; past = begins.3; there = (sound.awake k d lt).beginning begins.0 begins.1 begins.2 }
-    ])
-    | inr same ↦ inl (sound.marked k d lt ∙ same)
-  ];
-  same = refl;
-}
-
 -- an element of a list that isn't its first is among the others
 pub not-first : (x : Reverse (ℕ × ℕ)) (xs : Deadlines) (y : Reverse (ℕ × ℕ)) → (x ≡ y → ⊥) → Contains (x ∷ xs) y → Contains xs y
 not-first x xs y ne has = elim (Contains-append_cases (x ∷ []) xs y has) [
@@ -99,23 +82,6 @@ settling-step now first rows rows' depths depths' deadlines deadlines' m k d s p
           ];
       same = map-set_same (with_active true) rows k v d refl ∙ s.same;
     }) counted
-
-pub settling-end : (now : ℕ) (first rows : List Row) (depths : List ℕ) (deadlines : Deadlines) → Settling now first rows depths deadlines
-    → All (λ (x : Reverse (ℕ × ℕ)). now < x.0.0) deadlines → Sound now rows depths deadlines
-settling-end now first rows depths deadlines s none = record {
-  fits = s.fits;
-  awake = s.awake;
-  marked = λ k d lt. elim (s.pending k d lt) [
-    | inl is ↦ is
-    | inr due ↦ absurd (never due)
-  ];
-}
-  where
-    never : {k : ℕ} → IsDue now deadlines k → ⊥
-    never {k} due =
-        let at : now < (get_or deadlines due.there.0 (record { 0 = (due.moment, k) })).0.0 = none due.there.0 (record { 0 = (due.moment, k) }) due.there.1 in
-        let is : (get_or deadlines due.there.0 (record { 0 = (due.moment, k) })).0.0 ≡ due.moment = ap (λ (y : Reverse (ℕ × ℕ)). y.0.0) due.there.2 in
-        omega (arith, at, is, due.past)
 
 -- a deadline's row is there
 pub due-within : (now : ℕ) (first rows : List Row) (depths : List ℕ) (deadlines left : Deadlines) (m k : ℕ) → Settling now first rows depths deadlines

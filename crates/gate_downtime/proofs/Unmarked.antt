@@ -60,12 +60,6 @@ consistent-same first xs ys same con k d lt =
           subst Q ij (follows-same (get_or xs k d) (get_or ys k d) (get_or xs i e) (get_or ys i e) is (row-same xs ys same i e low) (old.follows e));
     }
 
-pub past-same : (t : ℕ) (xs ys : List Row) → SameButMarks xs ys → All (λ (r : Row). r.entry.scheduled.moment.0 ≤ t) xs → All (λ (r : Row). r.entry.scheduled.moment.0 ≤ t) ys
-past-same t xs ys same past k d lt =
-    let there : k < length xs = omega (arith, lt, length-same xs ys same) in
-    let is : (get_or ys k d).entry.scheduled.moment.0 ≡ (get_or xs k d).entry.scheduled.moment.0 = ap (λ (r : Row). r.entry.scheduled.moment.0) (row-same xs ys same k d there) in
-    omega (arith, is, past k d there)
-
 pub unsettled-same : (xs ys : List Row) → SameButMarks xs ys → count_by is_unsettled ys ≡ count_by is_unsettled xs
 unsettled-same xs ys same =
     sym (sum_by-map (λ (r : Row). cond (is_unsettled r) 1 0) (with_active true) ys) ∙ ap (sum_by (λ (r : Row). cond (is_unsettled r) 1 0)) same ∙ sum_by-map (λ (r : Row). cond (is_unsettled r) 1 0) (with_active true) xs

@@ -79,22 +79,6 @@ turn-idle m p e off = ap (λ (x : Option Moment). let r : Entry = record { sched
     kept None true false h = refl
     kept None true true h = cc
 
-pub walk-start : (m : Moment) (p : ℕ) (rows : List Row) (links : List Link) (head : Option ℕ) → FlexLinked m.0 rows links p head → Walked m p rows rows head
-walk-start m p rows links head f = record {
-  len = refl;
-  cursor_in = cursor head f.head_is;
-  ahead = λ j d lt a. refl;
-  done = λ j d lt no'. sym (turn-other m p _ (λ waits. no' (met head f.head_is j d lt waits)));
-}
-  where
-    cursor : (o : Option ℕ) → NewestFlex m.0 rows p (length rows) o → IsCursor rows p o
-    cursor None n = tt
-    cursor (Some c) n = (n.0, n.1)
-
-    met : (o : Option ℕ) → NewestFlex m.0 rows p (length rows) o → (j : ℕ) (d : Row) → j < length rows → Waits m.0 p (get_or rows j d).entry → Ahead o j
-    met None n j d lt waits = absurd (n j d lt waits)
-    met (Some c) n j d lt waits = elim (cases_lt c j) [ inl after ↦ absurd (n.2 j d after lt waits) | inr upto ↦ upto ]
-
 pub walk-step : (m : Moment) (p : ℕ) (before rows rows' : List Row) (c : ℕ) (o : Option ℕ) → Walked m p before rows (Some c) → NewestFlex m.0 before p c o → length rows' ≡ length rows
     → ((j : ℕ) (d : Row) → j < length rows → (j ≡ c → ⊥) → (get_or rows' j d).entry ≡ (get_or rows j d).entry) → ((d : Row) → (get_or rows' c d).entry ≡ after_transition m p (get_or rows c d).entry)
     → Walked m p before rows' o
@@ -174,12 +158,6 @@ pub write-same : (m : Moment) (p : ℕ) (rows : List Row) (c : ℕ) (d : Row) �
 write-same m p rows c d lt same =
     sym (ap (set (entry_list rows) c) (same ∙ sym (get_or-map (λ (r : Row). r.entry) rows c d d.entry lt)) ∙ set-get_or (entry_list rows) c d.entry)
 
--- the row at the cursor has no trigger and is flexible
-pub cursor-flex : (m : Moment) (p : ℕ) (before rows : List Row) (c : ℕ) (d : Row) → Walked m p before rows (Some c) → IsFlex p (get_or rows c d).entry
-cursor-flex m p before rows c d w =
-    let P : Entry → Type 0 = IsFlex p in
-    subst P (sym (w.ahead c d w.cursor_in.0 (omega arith))) (w.cursor_in.1 d)
-
 pub next-smaller : (m : Moment) (before : List Row) (p c : ℕ) (o : Option ℕ) → NewestFlex m.0 before p c o → cursor_size o < cursor_size (Some c)
 next-smaller m before p c None n = omega arith
 next-smaller m before p c (Some f) n = omega (arith, n.0)
@@ -198,12 +176,6 @@ walk-smaller-next m p before rows links head o c l d f w is =
     let Q : Option ℕ → Type 0 = λ x. cursor_size (get_or links c l).waiting < cursor_size x in
     let at : Walked m p before rows (Some c) = subst P is w in
     subst Q (sym is) (next-smaller m before p c _ (f.next_is c l d at.cursor_in.0 (at.cursor_in.1 d)))
-
-pub walk-within : (m : Moment) (p : ℕ) (before rows : List Row) (o : Option ℕ) (c : ℕ) → Walked m p before rows o → o ≡ Some c → c < length rows
-walk-within m p before rows o c w is =
-    let P : Option ℕ → Type 0 = Walked m p before rows in
-    let at : Walked m p before rows (Some c) = subst P is w in
-    omega (arith, at.cursor_in.0, w.len)
 
 pub walk-end-at : (m : Moment) (p : ℕ) (before rows : List Row) (o : Option ℕ) → o ≡ None → Walked m p before rows o → entry_list rows ≡ map (after_transition m p) (entry_list before)
 walk-end-at m p before rows o is w =

@@ -2,12 +2,6 @@
 use Rattle.std.proofs.Common.{◌≡◌, ℕ, List, [], ◌++◌, sym, ap, ◌∙◌, append_assoc, append-nil, Result, Ok, Err, OnErr}
 use Rattle.gate_grammar.specs.Canonical.{StartsWith}
 
-pub starts_same : (text : List ℕ) → StartsWith text text
-starts_same text = record { rest = []; whole = sym (append-nil text) }
-
-pub starts_more : (text front added : List ℕ) → text ≡ front ++ added → StartsWith text front
-starts_more text front added is = record { rest = added; whole = is }
-
 pub starts_after : (text middle front : List ℕ) → StartsWith text middle → StartsWith middle front → StartsWith text front
 starts_after text middle front one other = record {
   rest = other.rest ++ one.rest;

@@ -4,7 +4,7 @@ ghost use Rattle.gate_grammar.specs.Canonical.{shown, body_text, canonical_line,
 ghost use Rattle.gate_grammar.specs.Writability.{IsWritable, AreInRange};
 ghost use Rattle.gate_grammar.specs.RoundTrip.{BodiesAreMade, MadeByOneCommand, WrittenIsRead, SpellsOneAtMost, SpellsUnlessFaulty, FaultlessIfSpelled, FaultIsFirst};
 ghost use Rattle.gate_grammar.specs.inner.Values.{value_of};
-ghost use Rattle.gate_grammar.specs.inner.Written.{written};
+ghost use Rattle.gate_grammar.specs.inner.Written.{written, Appends};
 
 use crate::arguments::Argument;
 use crate::commands::{Command, command_of};
@@ -53,8 +53,7 @@ pub fn push_body(out: &mut Vec<u8>, body: &Body) -> Result<(), AllocError>
 }
 
 fn push_ranged_body(out: &mut Vec<u8>, body: &Body) -> Result<(), AllocError>
-    ensures ok { OnOk result (out.new.items ≡ out.old.items ++ body_text body.now) }
-    ensures err { OnErr result (StartsWith out.new.items out.old.items) }
+    ensures appends { Appends (body_text body.now) result out.old.items out.new.items }
     ensures in_range { AreInRange body.now }
 {
     let command = command_of(body);
@@ -63,8 +62,7 @@ fn push_ranged_body(out: &mut Vec<u8>, body: &Body) -> Result<(), AllocError>
 }
 
 fn push_arguments(out: &mut Vec<u8>, arguments: &[Argument<'_>]) -> Result<(), AllocError>
-    ensures ok { OnOk result (out.new.items ≡ out.old.items ++ written arguments.now) }
-    ensures err { OnErr result (StartsWith out.new.items out.old.items) }
+    ensures { Appends (written arguments.now) result out.old.items out.new.items }
 {
     for argument in arguments {
         push_argument(out, *argument)?;
@@ -73,9 +71,7 @@ fn push_arguments(out: &mut Vec<u8>, arguments: &[Argument<'_>]) -> Result<(), A
 }
 
 fn push_argument(out: &mut Vec<u8>, argument: Argument<'_>) -> Result<(), AllocError>
-    ensures ok { OnOk result
-        (out.new.items ≡ out.old.items ++ 59 ∷ shown (value_of argument.entry)) }
-    ensures err { OnErr result (StartsWith out.new.items out.old.items) }
+    ensures { Appends (59 ∷ shown (value_of argument.entry)) result out.old.items out.new.items }
 {
     out.extend_from_slice(b";")?;
     match argument {

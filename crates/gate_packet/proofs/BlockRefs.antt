@@ -46,17 +46,9 @@ faultless_sound true true e = refl
 faultless_sound true false e = absurd cc
 faultless_sound false word e = absurd cc
 
-faulty_unsound : (version word : Bool) (fault : PacketFault) → cond (not version) (Some BadVersion) (cond (not word) (Some BadCheckWord) None) ≡ Some fault → (version && word) ≡ false
-faulty_unsound true true fault e = absurd cc
-faulty_unsound true false fault e = refl
-faulty_unsound false word fault e = refl
-
 -- bytes whose version and check word have no fault are sound, and no others
 pub faultless_sound_bytes : (bytes : List ℕ) → integrity_fault bytes ≡ None → is_sound bytes ≡ true
 faultless_sound_bytes bytes e = faultless_sound _ _ e
-
-pub faulty_unsound_bytes : (bytes : List ℕ) (fault : PacketFault) → integrity_fault bytes ≡ Some fault → is_sound bytes ≡ false
-faulty_unsound_bytes bytes fault e = faulty_unsound _ _ fault e
 
 -- the word of 4304 bytes, from that of the first 720
 pub word_of_long : (bytes long : List ℕ) (word result : ℕ) → long ≡ take 4304 bytes → length long ≡ 4304 → word ≡ after_bytes 0xFFFFFFFF (without_check_word (take 720 bytes)) → result ≡ after_bytes word (take (length long - 720) (drop 720 long)) → result ≡ after_bytes 0xFFFFFFFF (without_check_word long)
@@ -97,18 +89,7 @@ unread_begins bytes long more other = long_begins bytes long more (unread_long b
 pub short_found : (bytes short : List ℕ) → short ≡ take 720 bytes → 720 ≤ length bytes → integrity_fault short ≡ None → begins_short bytes ≡ true
 short_found bytes short same enough none = enough_decide bytes enough ∙ ap is_sound (sym same) ∙ faultless_sound_bytes short none
 
--- 720 bytes with a fault are none
-pub long_found : (bytes short : List ℕ) (fault : PacketFault) → short ≡ take 720 bytes → 720 ≤ length bytes → integrity_fault short ≡ Some fault → begins_short bytes ≡ false
-long_found bytes short fault same enough some = enough_decide bytes enough ∙ ap is_sound (sym same) ∙ faulty_unsound_bytes short fault some
-
 -- ---- copies
 
 pub whole_long : (bytes long : List ℕ) → IsPacketSize (length bytes) → 4304 ≤ length bytes → long ≡ take 4304 bytes → long ≡ bytes
 whole_long bytes long size enough same = same ∙ take_all 4304 bytes (size_at_most (length bytes) size)
-
-pub copied_block : (bytes block split more : List ℕ) → block ≡ split → Begins bytes split more → Begins bytes block (drop (length block) bytes) × (length block ≤ length bytes)
-copied_block bytes block split more same begins =
-    let here : Begins bytes block more = subst (λ xs. Begins bytes xs more) (sym same) begins in
-    let rest : more ≡ drop (length block) bytes = begins_drop bytes block more here in
-    let long : length bytes ≡ length block + length more = ap length here.whole ∙ length-append block more in
-    (subst (λ xs. Begins bytes block xs) rest here, omega (arith, long))

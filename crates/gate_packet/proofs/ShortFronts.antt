@@ -39,10 +39,6 @@ front_slice bytes offset rest count e fits =
     ∙ ap (λ xs. take count xs) (drop-take offset rest bytes)
     ∙ take-take count rest (drop offset bytes) fits
 
-size_above : (size : ℕ) → IsPacketSize size → 720 ≤ size
-size_above size (inl e) = omega (arith, e)
-size_above size (inr e) = omega (arith, e)
-
 pub read_as_short : (bytes : List ℕ) (p : Content) → IsReadAsShort bytes p
 read_as_short bytes p h short =
     let enough : 720 ≤ length bytes = short_enough bytes short in

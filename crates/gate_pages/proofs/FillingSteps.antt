@@ -26,13 +26,3 @@ row-added show rows before list place line row whole found is pushed so_far =
 pub none-missing : {A : Type 0} (list : List A) (place : ℕ) → slice_get list place ≡ None → place < length list → ⊥
 none-missing list place missing within =
     elim (slice_get_cases list place).1 [ inl found ↦ cc | inr past ↦ omega arith ]
-
--- after the last line no row is left
-pub rows-filled : {A B : Type 0} (show : ℕ × A → B) (rows : List B) (list : List A) (place : ℕ) (whole : List B)
-    → length list ≡ place
-    → rows ++ map show (enumerate_from place (drop place list)) ≡ whole
-    → rows ≡ whole
-rows-filled show rows list place whole end is =
-    sym (append-nil rows)
-    ∙ ap (λ rest. rows ++ map show (enumerate_from place rest)) (sym (drop_all place list (omega (arith, end))))
-    ∙ is

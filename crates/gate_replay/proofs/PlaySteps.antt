@@ -177,24 +177,6 @@ write_end_on a b c replay_fault.OutOfMemory h k = fails_then a.tally b.tally c.t
 write_end_on a b c replay_fault.ReadFault h k = k
 write_end_on a b c replay_fault.WriteFault h k = fails_then a.tally b.tally c.tally 1 h k
 
--- what stays where memory runs out before a step is printed
-pub stays_as : {D : Type 0} (view : SoloView D) (was : Player D) (kept : ApplierView) (before after : SinkState) → kept.table ≡ was.applier.table → kept.opening ≡ was.applier.opening → kept.limit ≡ was.applier.limit → kept.records ≡ was.applier.records → after ≡ before
-    → (s : Setting) (g : ReplayState) → Shows view s was before g → Stays view s kept after g
-stays_as {D} view was kept before after table opening limit records same s g h = record {
-  stood = record { queue = was.queue; after = h.holds.after; limits_are = h.holds.limits };
-  shown = record {
-    table = table ∙ h.applier.table;
-    opening = opening ∙ h.applier.opening;
-    limit = limit ∙ h.applier.limit;
-    records = records ∙ h.applier.records;
-  };
-  printed = subst (λ (v : SinkState). Writes s.base v g.printed) (sym same) h.printed;
-  room = λ full. absurd (true≢false (sym full ∙ h.running));
-}
-
-pub stays_same : {D : Type 0} (view : SoloView D) (was : Player D) (before : SinkState) (s : Setting) (g : ReplayState) → Shows view s was before g → Stays view s was.applier before g
-stays_same {D} view was before s g h = stays_as view was was.applier before before refl refl refl refl refl s g h
-
 -- a full log met at a step
 abbrev pub FullAt : {D E : Type 0} (view : SoloView D) (ended : SoloView E) (was : Player D) (step : Step) (before after : SinkState) (kept : ApplierView) → Type 0
 FullAt view ended was step before after kept = (s : Setting) (g : ReplayState) → Shows view s was before g → PlaysFull ended s kept after step g

@@ -116,15 +116,6 @@ unwritten rules so_far script b m a OutOfMemory h k = inr (inl (fails_then b.tal
 unwritten rules so_far script b m a ReadFault h k = k
 unwritten rules so_far script b m a WriteFault h k = fails_then b.tally m.tally a.tally 1 h k
 
--- a write ends the replay, the first one to fail
-pub ends_unwritten : (rules so_far : Limits → Run → Type 0) (script : Script) (b a : SinkState) (fault : ReplayFault) → IsWriteEnd b a fault → EndsPlaying rules so_far script b a (Some fault)
-ends_unwritten rules so_far script b a TooLong k = k
-ends_unwritten rules so_far script b a (Line number) k = k
-ends_unwritten rules so_far script b a LogFull k = absurd k
-ends_unwritten rules so_far script b a OutOfMemory k = inr (inl k)
-ends_unwritten rules so_far script b a ReadFault k = k
-ends_unwritten rules so_far script b a WriteFault k = k
-
 -- the log page wasn't delivered
 unlogged : (rules so_far : Limits → Run → Type 0) (script : Script) (g : ReplayState) (b m a : SinkState) (fault : ReplayFault) → IsPlayedSoFar so_far script g → Writes b m g.printed → IsLogEnd m a fault → EndsPlaying rules so_far script b a (Some fault)
 unlogged rules so_far script g b m a TooLong played w k = k

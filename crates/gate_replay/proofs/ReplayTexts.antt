@@ -38,17 +38,3 @@ played_input rules input text played (Some OutOfMemory) b a whole short parsed h
     h
 played_input rules input text played (Some ReadFault) b a whole short parsed h = absurd h
 played_input rules input text played (Some WriteFault) b a whole short parsed h = h
-
--- an input that was read and is no script
-pub faulty_input : (rules : Limits → Run → Type 0) (input : Option (List ℕ)) (text : List ℕ) (fault : ScriptFault) (a : SinkState) → IsWholeInput input text → length text ≤ 1048576 → IsFaultOf (parsed_script_lines text) fault → EndsWith rules input a a (Some (replay_fault fault))
-faulty_input rules input text (script.Line number) a whole short h = (record { text = text; whole = whole; short = short; faulty = h }, refl)
-faulty_input rules input text script.OutOfMemory a whole short h = inl refl
-
--- an input that wasn't read
-pub unread_input : (rules : Limits → Run → Type 0) (input : Option (List ℕ)) (fault : ReplayFault) (a : SinkState) → IsInputFault input fault → EndsWith rules input a a (Some fault)
-unread_input rules input TooLong a h = (h, refl)
-unread_input rules input (Line number) a h = absurd h
-unread_input rules input LogFull a h = absurd h
-unread_input rules input OutOfMemory a h = inl refl
-unread_input rules input ReadFault a h = refl
-unread_input rules input WriteFault a h = absurd h

@@ -14,11 +14,6 @@ use Rattle.gate_serve.specs.declared.fault.ServeFault.TheVariants as fault
 use Rattle.gate_serve.specs.BeforeServing.{Configures, IsNoDocument, IsWriteEnd}
 use Rattle.gate_serve.specs.inner.Reading.{IsReadFault}
 
--- a failed write, or no memory for it
-pub write_end : (before after : SinkState) (found : ServeFault) → (found ≡ fault.OutOfMemory) ⊎ (found ≡ fault.WriteFault) → FailsOnce before after → IsWriteEnd before after found
-write_end before after found (inl same) failed = subst (λ (f : ServeFault). IsWriteEnd before after f) (sym same) (inr failed)
-write_end before after found (inr same) failed = subst (λ (f : ServeFault). IsWriteEnd before after f) (sym same) failed
-
 -- no memory for what was to be written
 pub unwritten : (state : SinkState) (found : ServeFault) → found ≡ fault.OutOfMemory → IsWriteEnd state state found
 unwritten state found same = subst (λ (f : ServeFault). IsWriteEnd state state f) (sym same) (inl refl)

@@ -24,27 +24,6 @@ use Rattle.gate_serve.specs.BeforeServing.{Configures, AreBoundAs, IsAddressIn, 
 use Rattle.gate_serve.specs.Serve.{ServeEnds, FollowsAddresses, IsRun, page_of}
 use Rattle.gate_serve.specs.inner.Serving.{HasStopped, IsStopCause, IsFaultOf, IsPageGiven, IsCloseEnd, IsLoglessEnd, IsWholeEnd, IsRunEnd, RunsOn, fault_after, queued_after}
 
--- a failed write ends the end of a gateway that did not apply all
-pub write_ends_close : (why : CloseAllCause) (applier : ApplierView) (before after : SinkState) (found : ServeFault) → IsWriteEnd before after found → IsCloseEnd why applier before after found
-write_ends_close why applier before after fault.Unreadable k = k
-write_ends_close why applier before after (fault.Config text) k = k
-write_ends_close why applier before after (fault.Bind text) k = k
-write_ends_close why applier before after fault.LogFull k = absurd k
-write_ends_close why applier before after fault.OutOfMemory (inl k) = inl k
-write_ends_close why applier before after fault.OutOfMemory (inr k) = inr (inl k)
-write_ends_close why applier before after fault.Spawn k = absurd k
-write_ends_close why applier before after fault.WriteFault k = k
-
--- a gateway that did not apply all ends with its log page
-pub closed_end : (why : CloseAllCause) (applier : ApplierView) (before after : SinkState) (found : ServeFault) → IsFaultOf why found → length applier.records ≤ applier.limit
-    → Delivers before after (page_of applier.table applier.records) → IsCloseEnd why applier before after found
-closed_end cause.LogFull applier before after found same few printed =
-    subst (λ (f : ServeFault). IsCloseEnd cause.LogFull applier before after f) (sym same) (refl, record { few = few; printed = printed })
-closed_end cause.OutOfMemory applier before after found same few printed =
-    subst (λ (f : ServeFault). IsCloseEnd cause.OutOfMemory applier before after f) (sym same) (inr (inr (refl, record { few = few; printed = printed })))
-closed_end cause.NotClosing applier before after found same few printed = absurd same
-closed_end (cause.Missing client) applier before after found same few printed = absurd same
-
 -- nothing was printed before what comes after the addresses
 delivers_after : (before middle after : SinkState) (x y : List ℕ) → Delivers before middle x → Delivers middle after y → Delivers before after (x ++ y)
 delivers_after before middle after x y p q = delivers_on before middle after x y (record { appended = p.appended; none_failed = p.none_failed }) q
@@ -83,17 +62,6 @@ page_after config before middle after applier p of_table given = record {
 -- a call failed after the addresses
 fails_after : (config : Config) (before middle after : SinkState) → FollowsAddresses config before middle [] → FailsOnce middle after → FailsOnce before after
 fails_after config before middle after printed k = fails_then before.tally middle.tally after.tally 1 printed.printed.none_failed k
-
--- the addresses can't be written
-pub write_ends : (config : Config) (before after : SinkState) (queued : List (ℕ × List ℕ)) (found : ServeFault) → IsWriteEnd before after found → RunsOn config before after queued (Some found)
-write_ends config before after queued fault.Unreadable k = k
-write_ends config before after queued (fault.Config text) k = k
-write_ends config before after queued (fault.Bind text) k = k
-write_ends config before after queued fault.LogFull k = absurd k
-write_ends config before after queued fault.OutOfMemory (inl k) = inl k
-write_ends config before after queued fault.OutOfMemory (inr k) = inr (inl k)
-write_ends config before after queued fault.Spawn k = absurd k
-write_ends config before after queued fault.WriteFault k = k
 
 -- what runs as a text configures it is served
 pub served : (text : List ℕ) (config : Config) (before after : SinkState) (queued : List (ℕ × List ℕ)) (found : Option ServeFault) → Configures text config → RunsOn config before after queued found → ServeEnds before after queued found

@@ -23,15 +23,6 @@ pub asked_to_serve : (met : Option (Text × List Row)) (name : Text) (rows : Lis
     → bytes_eq name (codes "replay") ≡ false → path ≡ first_of (codes "config") rows → option_map serve path ≡ asked_with met
 asked_to_serve met name rows path is not_replay found = rw (is, not_replay, found)
 
-unless_none : (kinds : Kinds) → unless_faulty kinds None ≡ None
-unless_none [] = refl
-unless_none (kind ∷ kinds) = refl
-
-pub nothing_asked : (words : List Text) (met : Option (Text × List Row)) → None ≡ asked_with met → met ≡ subcommand_of program words
-    → asked_of words ≡ None
-nothing_asked words met nothing is =
-    ap (unless_faulty (fault_of program words)) (ap asked_with (sym is) ∙ sym nothing) ∙ unless_none (fault_of program words)
-
 faulty : (kind : ErrorKind) (kinds : Kinds) (asked : Option Asked) → IsAmong kind kinds → unless_faulty kinds asked ≡ None
 faulty kind [] asked never = absurd never
 faulty kind (first ∷ kinds) asked _ = refl

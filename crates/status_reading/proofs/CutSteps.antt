@@ -40,10 +40,6 @@ same_cut mark front rest other after clean unmarked is =
     let both = same_front mark front (mark ∷ rest) other (mark ∷ after) clean unmarked refl refl is in
     (both.0, ap tail both.1)
 
--- a text without the byte, before and after
-pub none_apart : (mark : ℕ) (front back : List ℕ) → holds mark (front ++ back) ≡ false → (holds mark front ≡ false) × (holds mark back ≡ false)
-none_apart mark front back none = or_parts (holds mark front) (holds mark back) (sym (list_any-append (λ byte. byte == mark) front back) ∙ none)
-
 pub none_together : (mark : ℕ) (front back : List ℕ) → holds mark front ≡ false → holds mark back ≡ false → holds mark (front ++ back) ≡ false
 none_together mark front back one other = list_any-append (λ byte. byte == mark) front back ∙ or_from (holds mark front) (holds mark back) one other
 
