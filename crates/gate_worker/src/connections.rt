@@ -67,11 +67,16 @@ pub trait Watch {
         ensures { shows self.now result };
 }
 
-/// A session's view of a shared clock. Nothing is known of its readings.
+/// A session's view of a shared clock. Each reading is one that the shared clock may show; which one
+/// isn't known.
 #[derive(Clone, Copy, Debug)]
 pub struct SharedClock<'a, K: Watch>(pub &'a K);
 
 impl<'a, K: Watch> Clock for SharedClock<'a, K> {
+    ghost use Rattle.std.specs.Prelude.{None};
+
+    ghost state = { λ clock. record { readings = None; shows = K.shows clock.0.now } };
+
     fn now(&mut self) -> Moment {
         self.0.read()
     }
