@@ -1,9 +1,9 @@
 -- What the memory for a list is after it is taken, and after one more element; records at a later moment.
-use Rattle.std.proofs.Common.{◌≡◌, ℕ, ◌+◌, ◌-◌, ◌≤◌, List, arith}
+use Rattle.std.proofs.Common.{ℕ, ◌+◌, List, arith}
 use Rattle.gate_model.specs.declared.record.Moment.{Moment}
 use Rattle.gate_model.specs.declared.record.Record.{Record}
 use Rattle.gate_model.specs.Record.{later, AreInOrder}
-use Rattle.std.specs.Prelude.{min, max, Result, Ok, Err, OnErr}
+use Rattle.std.specs.Prelude.{Result, Ok, Err, OnErr}
 use Rattle.gate_applier.specs.inner.Applier.{IsModest}
 
 -- one more element

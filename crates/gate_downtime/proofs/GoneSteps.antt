@@ -14,9 +14,8 @@ use Rattle.std.proofs.Math.Seq.{map-set_same}
 use Rattle.gate_downtime.specs.declared.row.Row.{Row}
 use Rattle.gate_downtime.specs.declared.gone.Mark.{Mark}
 use Rattle.gate_downtime.specs.declared.gone.Gone.{Gone}
-use Rattle.gate_downtime.specs.inner.Rows.{live_at, with_active, Deadlines, Awake, IsDue, Sound, deadline_cmp}
+use Rattle.gate_downtime.specs.inner.Rows.{live_at, with_active, Deadlines, IsDue, Sound, deadline_cmp}
 use Rattle.gate_downtime.proofs.Fresh.{set-cases}
-use Rattle.gate_downtime.proofs.Marks.{between, ltb-same}
 use Rattle.gate_downtime.proofs.Settling.{not-first}
 use Rattle.gate_downtime.specs.inner.Gone.{gone_cmp, Listed, is_free, is_returned, IsKept, Awaits, AllGone, GoneOrDue, Lists, SameGone, Pops, Returns, AllPassed, TakesGone}
 use Rattle.std.specs.Global.{Vec}

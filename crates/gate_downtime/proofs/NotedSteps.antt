@@ -1,6 +1,6 @@
 -- The rows that a call has ended are noted, and their ids removed.
-use Rattle.std.proofs.Common.{◌≡◌, ◌≢◌, ℕ, zero, suc, ◌+◌, ◌-◌, ◌≤◌, ◌<◌, Bool, true, false, not, ◌&&◌, List, [], ◌∷◌, ◌++◌, get_or, set, length, refl, sym, ap, ◌∙◌, subst, arith, ◌⊎◌, inl, inr}
-use Rattle.std.specs.Prelude.{All, Contains, filter}
+use Rattle.std.proofs.Common.{◌≡◌, ◌≢◌, ℕ, zero, suc, ◌+◌, ◌-◌, ◌<◌, Bool, true, false, not, ◌&&◌, List, [], ◌∷◌, ◌++◌, get_or, set, length, refl, sym, ap, ◌∙◌, subst, arith, ◌⊎◌, inl, inr}
+use Rattle.std.specs.Prelude.{Contains, filter}
 use Rattle.std.specs.List.Sorted.{IsPermutation}
 use Rattle.std.specs.declared.cmp.Reverse.{Reverse}
 use Rattle.std.proofs.lemmas.Bool.{true≢false}
@@ -9,10 +9,9 @@ use Rattle.std.proofs.lemmas.List.Elements.{Contains-append_cases}
 use Rattle.std.proofs.lemmas.List.Sorted.{Contains-permutation}
 use Rattle.gate_downtime.specs.declared.row.Row.{Row}
 use Rattle.gate_downtime.specs.declared.live.LiveIds.{LiveIds}
-use Rattle.gate_downtime.specs.inner.Rows.{live_at, is_live_row, some-row, with_active, Deadlines, Awake, IsDue}
+use Rattle.gate_downtime.specs.inner.Rows.{live_at, is_live_row, some-row, with_active, Deadlines, IsDue}
 use Rattle.gate_downtime.specs.inner.Live.{IsNoted, Notes, IsRowNoted, AllNoted, NotedOrDue, AreNoted, IsFresh, live_ids}
 use Rattle.gate_downtime.proofs.Fresh.{set-cases}
-use Rattle.gate_downtime.proofs.Marks.{between, ltb-same}
 use Rattle.gate_downtime.proofs.Settling.{not-first}
 use Rattle.gate_downtime.proofs.IdSteps.{filter-all, live-of, live-in, live-id}
 

@@ -9,8 +9,7 @@ use Rattle.std.proofs.lemmas.List.Elements.{All-set, All-head, All-tail, Contain
 use Rattle.std.proofs.lemmas.List.Sorted.{Contains-permutation, All-permutation}
 use Rattle.std.proofs.Math.Seq.{map-set_same}
 use Rattle.gate_downtime.specs.declared.row.Row.{Row}
-use Rattle.gate_downtime.specs.inner.Rows.{active_at, with_active, Counted, Wakes, Deadlines, Sound, IsDue, Settling, deadline_cmp}
-use Rattle.gate_downtime.proofs.Marks.{active-same}
+use Rattle.gate_downtime.specs.inner.Rows.{active_at, with_active, Counted, Wakes, Deadlines, IsDue, Settling, deadline_cmp}
 
 -- an element of a list that isn't its first is among the others
 pub not-first : (x : Reverse (ℕ × ℕ)) (xs : Deadlines) (y : Reverse (ℕ × ℕ)) → (x ≡ y → ⊥) → Contains (x ∷ xs) y → Contains xs y

@@ -1,6 +1,6 @@
 -- What doesn't depend on the marks.
 use Rattle.std.proofs.Common.{◌≡◌, ℕ, ◌+◌, ◌-◌, ◌≤◌, ◌<◌, true, cond, List, [], ◌∷◌, map, reverse, get_or, length, refl, sym, ap, ◌∙◌, subst, arith, ◌⊎◌, inl, inr}
-use Rattle.std.specs.Prelude.{Some, All, count_by}
+use Rattle.std.specs.Prelude.{Some, count_by}
 use Rattle.std.specs.List.{sum_by}
 use Rattle.std.proofs.lemmas.List.{get_or-map, length-map}
 use Rattle.gate_model.specs.declared.downtime.Entry.{Entry}
