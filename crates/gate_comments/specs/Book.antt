@@ -1,5 +1,5 @@
 -- What the book of comments shows, and what each call leaves of the comments.
-use Rattle.std.specs.Prelude.{◌≡◌, ◌≤◌, ℕ, Bool, not, List, filter}
+use Rattle.std.specs.Prelude.{◌≡◌, ◌≤◌, ◌+◌, ℕ, Bool, not, List, filter, length}
 use Rattle.gate_model.specs.declared.object.ObjectId.{ObjectId}
 use Rattle.gate_model.specs.declared.comments.Source.{Source}
 use Rattle.gate_model.specs.declared.comments.Comment.{Comment}
@@ -12,6 +12,10 @@ pub record CommentsView : Type 0 where
   pub comments : List Comment
   pub next_id : ℕ
   pub room : ℕ
+
+-- no memory was taken, nor given back: there is room for as many comments in all
+abbrev pub KeepsMemory : CommentsView → CommentsView → Type 0
+KeepsMemory old new = length new.comments + new.room ≡ length old.comments + old.room
 
 -- the comments that the event leaves
 abbrev pub without : CommentEvent → List Comment → List Comment

@@ -5,7 +5,7 @@ ghost use Rattle.gate_model.specs.Meaning.{is_same_kind};
 ghost use Rattle.gate_model.specs.Search.{IsWithinBinaryDigits};
 ghost use Rattle.gate_comments.specs.Search.{index_of_id, IsAscending};
 ghost use Rattle.gate_comments.specs.Faults.{deletion_by_id};
-ghost use Rattle.gate_comments.specs.Book.{without, with_live, AnswersBy, comment_by};
+ghost use Rattle.gate_comments.specs.Book.{KeepsMemory, without, with_live, AnswersBy, comment_by};
 ghost use Rattle.gate_comments.specs.Standing.{IsStanding, AddsEvent, AreEnded, AddsEnds, HoldsAfter};
 
 use crate::counts::{Counts, outlives, removes};
@@ -47,6 +47,7 @@ impl CommentBook {
         ensures stands { IsStanding first_id result [] }
         ensures comments { result.comments ≡ [] }
         ensures next_id { result.next_id ≡ first_id }
+        ensures room { result.room ≡ 0 }
     {
         CommentBook {
             comments: Vec::new(alloc),
@@ -97,7 +98,7 @@ impl CommentBook {
             ≡ self.old.comments
             ++ comment_by self.old.next_id object source persistent log_index ∷ []) }
         ensures next_id { OnOk result (self.new.next_id ≡ self.old.next_id + 1) }
-        ensures room { self.old.room ≤ self.new.room + 1 }
+        ensures room { KeepsMemory self.old self.new }
 
         ensures spent { IsErr result ↔ (4294967295 < self.old.next_id) }
         ensures err { OnErr result (self.new ≡ self.old) }
@@ -128,7 +129,7 @@ impl CommentBook {
         ensures comments { OnOk result (
             self.new.comments ≡ without (Delete id) self.old.comments) }
         ensures next_id { self.new.next_id ≡ self.old.next_id }
-        ensures room { self.old.room ≤ self.new.room }
+        ensures room { KeepsMemory self.old self.new }
         ensures err { OnErr result (self.new ≡ self.old) }
     {
         let mut steps = Steps::new();
@@ -151,7 +152,7 @@ impl CommentBook {
         ensures stands { AddsEvent (DeleteAll object.place) self.old self.new }
         ensures comments { self.new.comments ≡ without (DeleteAll object.place) self.old.comments }
         ensures next_id { self.new.next_id ≡ self.old.next_id }
-        ensures room { self.old.room ≤ self.new.room }
+        ensures room { KeepsMemory self.old self.new }
     {
         self.remove(CommentEvent::DeleteAll {
             place: object.place,
@@ -165,7 +166,7 @@ impl CommentBook {
         ensures stands { AddsEvent (Clear object.place) self.old self.new }
         ensures comments { self.new.comments ≡ without (Clear object.place) self.old.comments }
         ensures next_id { self.new.next_id ≡ self.old.next_id }
-        ensures room { self.old.room ≤ self.new.room }
+        ensures room { KeepsMemory self.old self.new }
     {
         self.remove(CommentEvent::Clear {
             place: object.place,
@@ -178,7 +179,7 @@ impl CommentBook {
         ensures stands { AddsEvent (Gone id) self.old self.new }
         ensures comments { self.new.comments ≡ without (Gone id) self.old.comments }
         ensures next_id { self.new.next_id ≡ self.old.next_id }
-        ensures room { self.old.room ≤ self.new.room }
+        ensures room { KeepsMemory self.old self.new }
     {
         self.remove(CommentEvent::Gone { id });
     }
@@ -193,7 +194,7 @@ impl CommentBook {
         ensures comments { (live : ℕ → Bool) → AnswersBy (L.post is_live) live
             → self.new.comments ≡ with_live live self.old.comments }
         ensures next_id { self.new.next_id ≡ self.old.next_id }
-        ensures room { self.old.room ≤ self.new.room }
+        ensures room { KeepsMemory self.old self.new }
     {
         if self.counts.downtimes > 0 {
             self.counts.remove_ended(&self.comments, &is_live);
@@ -221,7 +222,7 @@ impl CommentBook {
     fn remove(&mut self, event: CommentEvent)
         ensures comments { self.new.comments ≡ without event self.old.comments }
         ensures next_id { self.new.next_id ≡ self.old.next_id }
-        ensures room { self.old.room ≤ self.new.room }
+        ensures room { KeepsMemory self.old self.new }
     {
         if self.counts.may_remove(event) {
             self.counts.remove_all(&self.comments, event);

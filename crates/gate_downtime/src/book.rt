@@ -140,7 +140,7 @@ impl DowntimeBook {
         ensures answer { result ≡ scheduling_of plan self.old }
         ensures entries { OnOk result (
             self.new.entries ≡ fresh self.old object plan ∷ self.old.entries) }
-        ensures room { self.old.room ≤ self.new.room + 1 }
+        ensures room { OnOk result (self.old.room ≡ self.new.room + 1) }
         ensures same { self.new ≡ with_room self.new.room (with_entries self.new.entries self.old) }
         ensures err { OnErr result (self.new ≡ self.old) }
     {

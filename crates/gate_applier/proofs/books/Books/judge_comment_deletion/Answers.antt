@@ -1,6 +1,7 @@
 use Rattle.std.proofs.Common.{Result, Err, sym, ap, ◌∙◌}
 use Rattle.gate_comments.specs.declared.faults.DeleteFault.{DeleteFault}
 use Rattle.gate_comments.specs.declared.faults.DeleteFault.TheVariants.{NoSuchComment, WrongKind}
+use Rattle.gate_applier.proofs.BookSteps.{takes-filtered}
 use Rattle.gate_applier.proofs.JudgeSteps.{judged-deletion, judged-no_deletion}
 use Rattle.gate_applier.proofs.books.Books.judge_comment_deletion.Goals as goal
 
@@ -20,3 +21,6 @@ pub returns-in-Err-WrongKind-clause-judged : goal.returns-in-Err-WrongKind-claus
 returns-in-Err-WrongKind-clause-judged c = λ table moment log_index before stand.
     rw c.in-Err-WrongKind.ensures.err
     (judged-no_deletion table before moment log_index c.args.kind c.args.id c.args.self.now WrongKind (ap refusal (sym c.in-Err-WrongKind.field-0-is) ∙ sym c.in-Err-WrongKind.is ∙ c.delete.ensures.answer) stand)
+
+pub returns-in-Ok-clause-takes : goal.returns-in-Ok-clause-takes
+returns-in-Ok-clause-takes c = takes-filtered c.args.self.now _ c.delete.new.self c.in-Ok.ensures.comments c.delete.ensures.room
