@@ -6,7 +6,7 @@ use Rattle.std.proofs.lemmas.Bool.{true≢false}
 use Rattle.gate_model.specs.declared.object.ObjectLine.{ObjectLine}
 use Rattle.gate_model.specs.declared.record.Moment.{Moment}
 use Rattle.gate_model.specs.declared.submission.Numbered.{Numbered}
-use Rattle.gate_core.specs.Merge.{IsMerge}
+use Rattle.gate_core.specs.Merge.{IsClient, IsMerge}
 use Rattle.gate_queue.specs.declared.rule.EndedList.{EndedList}
 use Rattle.gate_close.specs.declared.drained_close.CloseAllCause.{CloseAllCause}
 use Rattle.gate_close.specs.declared.drained_close.CloseAllCause.TheVariants as cause
@@ -17,7 +17,7 @@ use Rattle.gate_worker.specs.Numbers.{numbers_after}
 use Rattle.gate_daemon.specs.Answered.{HoldsAll}
 use Rattle.gate_daemon.specs.Faults.{LosesNothing, IsUndrained}
 use Rattle.gate_daemon.specs.inner.Collecting.{numbers_of, queued_for_each}
-use Rattle.gate_daemon.proofs.Merged.{holds_all}
+use Rattle.gate_daemon.proofs.Merged.{AreHeld, all_merged, holds_all}
 
 -- ---- no client is missing
 
@@ -75,6 +75,17 @@ pub drained_all : (workers n : ℕ) (queued : List (ℕ × List ℕ)) (old : Clo
 drained_all workers n queued old log can merge =
     holds_all workers n old.clients queued log can.count can.all can.reported can.counted
     (subst (λ (o : List EndedList). IsMerge n (queued_by old.clients o) log) can.none_in merge)
+
+-- the log holds the items of each client, and nobody else's
+pub drained_held : (workers n : ℕ) (queued : List (ℕ × List ℕ)) (old : CloseParts) (log : List Numbered) → CanDrain workers n queued old
+    → IsMerge n (queued_by old.clients old.taker.ended) log → AreHeld log old.clients × All (λ (item : Numbered). IsClient (workers + 1) item.client) log
+drained_held workers n queued old log can merge =
+    let whole = subst (λ (o : List EndedList). IsMerge n (queued_by old.clients o) log) can.none_in merge in
+    let e : workers + 1 ≡ suc workers = omega arith in (
+      all_merged workers log old.clients (can.all ∙ ap (λ k. k ∷ numbers_after 0 workers) e)
+          (subst (λ (k : ℕ). IsMerge k (queued_by old.clients []) log) (can.count ∙ e) whole),
+      subst (λ (k : ℕ). All (λ (item : Numbered). IsClient k item.client) log) can.count whole.clients,
+    )
 
 drained_left : (workers n : ℕ) (queued : List (ℕ × List ℕ)) (old : CloseParts) (log : List Numbered) → CanDrain workers n queued old
     → LeavesSome n (queued_by old.clients old.taker.ended) log → LosesNothing workers queued log

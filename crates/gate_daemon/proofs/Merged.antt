@@ -60,19 +60,27 @@ other_clients c (e ∷ es) old n = other_clients c es (ended_list e.number e.que
 same_client : (e : ClientState) (old : List EndedList) → queued_of e.number (ended_list e.number e.queued ∷ old) ≡ Some e.queued
 same_client e old = ap (λ (b : Bool). if b then Some e.queued else queued_of e.number old) (eq-eqb e.number e.number refl)
 
+-- the items of each of these clients are what was queued for it
+abbrev pub AreHeld : List Numbered → List ClientState → Type 0
+AreHeld items [] = Unit {0}
+AreHeld items (e ∷ es) = (of_client e.number items ≡ e.queued) × AreHeld items es
+
 each_merged : (n : ℕ) (items : List Numbered) (es : List ClientState) (old : List EndedList) → ((c : ℕ) → IsClient n c → of_client c items ≡ queued_by es old c) → AreDistinct (numbers_of es) → AreClients n (numbers_of es)
-    → map (λ e. item_numbers (of_client e.number items)) es ≡ map (λ e. item_numbers e.queued) es
-each_merged n items [] old h d w = refl
+    → AreHeld items es
+each_merged n items [] old h d w = tt
 each_merged n items (e ∷ es) old h d w =
     let more = ended_list e.number e.queued ∷ old in
     let found : queued_of e.number (lists_with es more) ≡ Some e.queued = other_clients e.number es more d.0 ∙ same_client e old in
-    let head : item_numbers (of_client e.number items) ≡ item_numbers e.queued = ap item_numbers (h e.number w.0 ∙ ap (λ o. unwrap_or o []) found) in
-    let rest = each_merged n items es more h d.1 w.1 in
-    ap (λ l. l ∷ map (λ x. item_numbers (of_client x.number items)) es) head ∙ ap (λ l. item_numbers e.queued ∷ l) rest
+    (h e.number w.0 ∙ ap (λ o. unwrap_or o []) found, each_merged n items es more h d.1 w.1)
 
 -- all clients were joined, and the items are a merge of what was queued for them
-pub all_merged : (workers : ℕ) (items : List Numbered) (es : List ClientState) → numbers_of es ≡ suc workers ∷ numbers_after 0 workers → IsMerge (suc workers) (queued_by es []) items → map (λ e. item_numbers (of_client e.number items)) es ≡ map (λ e. item_numbers e.queued) es
+pub all_merged : (workers : ℕ) (items : List Numbered) (es : List ClientState) → numbers_of es ≡ suc workers ∷ numbers_after 0 workers → IsMerge (suc workers) (queued_by es []) items → AreHeld items es
 all_merged workers items es all m = each_merged (suc workers) items es [] m.each (subst AreDistinct (sym all) (distinct_all workers)) (subst (AreClients (suc workers)) (sym all) (clients_all workers))
+
+held_numbers : (items : List Numbered) (es : List ClientState) → AreHeld items es → map (λ e. item_numbers (of_client e.number items)) es ≡ map (λ e. item_numbers e.queued) es
+held_numbers items [] held = refl
+held_numbers items (e ∷ es) held =
+    ap (λ l. l ∷ map (λ x. item_numbers (of_client x.number items)) es) (ap item_numbers held.0) ∙ ap (λ l. item_numbers e.queued ∷ l) (held_numbers items es held.1)
 
 -- ---- what they were answered
 
@@ -89,7 +97,7 @@ holds_for workers es log all counted merge =
     record {
       clients = map_twice (λ (pair : ℕ × List ℕ). pair.0) one es ∙ all ∙ ap (λ k. k ∷ numbers_after 0 workers) e;
       counted = counted;
-      answered = map_twice (λ (pair : ℕ × List ℕ). item_numbers (of_client pair.0 log)) one es ∙ all_merged workers log es all merge
+      answered = map_twice (λ (pair : ℕ × List ℕ). item_numbers (of_client pair.0 log)) one es ∙ held_numbers log es (all_merged workers log es all merge)
           ∙ sym (map_twice (λ (pair : ℕ × List ℕ). pair.1) one es);
       items = subst (λ (n : ℕ). All (λ (item : Numbered). IsClient n item.client) log) e merge.clients;
     }

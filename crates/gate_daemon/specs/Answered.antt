@@ -6,9 +6,13 @@ use Rattle.gate_core.specs.Merge.{IsClient, of_client}
 use Rattle.gate_reader.specs.declared.report.Report.{Report}
 use Rattle.gate_worker.specs.Numbers.{item_numbers, numbers_after, reported_numbers}
 
+-- each client's number, and its reports
+abbrev pub reports_of_each : {Allocator : Type 0} → List (ℕ × Vec Report Allocator) → List (ℕ × List Report)
+reports_of_each reports = map (λ pair. (pair.0, pair.1.items)) reports
+
 -- each client's number, and the numbers that its reports answer with Queued
-abbrev pub queued_by_each : {Allocator : Type 0} → List (ℕ × Vec Report Allocator) → List (ℕ × List ℕ)
-queued_by_each reports = map (λ pair. (pair.0, reported_numbers pair.1.items)) reports
+abbrev pub queued_by_each : List (ℕ × List Report) → List (ℕ × List ℕ)
+queued_by_each reports = map (λ pair. (pair.0, reported_numbers pair.1)) reports
 
 -- of a gateway with so many agents' workers, each client with the numbers that it was answered are queued: all its
 -- clients are there, the operator, who is the last, and then those of the workers, from 1; each was answered 1, 2 and

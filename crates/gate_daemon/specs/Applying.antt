@@ -1,11 +1,11 @@
 -- What applying leaves as it is, and the moments at which records stand. Own rules.
-use Rattle.std.specs.Prelude.{◌≡◌, ℕ, List, [], ◌∷◌, ◌++◌, map, Option, Some, None}
+use Rattle.std.specs.Prelude.{◌≡◌, List, [], ◌∷◌, ◌++◌, All, map, Option, Some, None}
 use Rattle.gate_model.specs.declared.record.Moment.{Moment}
 use Rattle.gate_model.specs.declared.record.Record.{Record}
 use Rattle.gate_model.specs.declared.submission.Numbered.{Numbered}
 use Rattle.gate_model.specs.Record.{later}
 use Rattle.gate_applier.specs.Applier.{ApplierView}
-use Rattle.gate_reader.specs.Clock.{Takes}
+use Rattle.gate_reader.specs.Clock.{Takes, ClockState}
 
 -- it is a log of the same table and limit, opened at the same moment
 pub record IsSameLog (old new : ApplierView) : Type 0 where
@@ -39,8 +39,16 @@ records_by moment (reading ∷ readings) =
     record_at (later moment reading.moment) reading.item ++ records_by (later moment reading.moment) readings
 
 -- the clock was read, the old records are followed by those of these readings, and the applier's moment is the latest
-pub record GoesByClock (before after : Option (ℕ → Moment)) (old new : ApplierView) : Type 0 where
+pub record GoesByClock (before after : ClockState) (old new : ApplierView) : Type 0 where
   pub readings : List Reading
-  pub taken : Takes before after (moments_of readings)
+  pub taken : Takes before.readings after.readings (moments_of readings)
+  pub shown : All before.shows (moments_of readings)
+  pub stays : (moment : Moment) → after.shows moment → before.shows moment
   pub records : new.records ≡ old.records ++ records_by old.moment readings
   pub moment : new.moment ≡ latest_of old.moment readings
+
+-- an applier opened at a moment that a clock may show, its records stand at such moments, and so does the applier
+pub record AreShown (shows : Moment → Type 0) (applier : ApplierView) : Type 0 where
+  pub opening : shows applier.opening
+  pub records : All (λ (applied : Record). shows applied.moment) applier.records
+  pub moment : shows applier.moment

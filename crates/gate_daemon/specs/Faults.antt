@@ -1,6 +1,7 @@
 -- What a gateway that did not finish reports. Own rules.
-use Rattle.std.specs.Prelude.{◌≡◌, ℕ, ◌+◌, ◌<◌, List, ◌∷◌, ◌++◌, length, false}
+use Rattle.std.specs.Prelude.{◌≡◌, ℕ, ◌+◌, ◌<◌, List, ◌∷◌, ◌++◌, length, true, false, ⊤}
 use Rattle.gate_model.specs.declared.object.ObjectLine.{ObjectLine}
+use Rattle.gate_model.specs.declared.record.Moment.{Moment}
 use Rattle.gate_model.specs.declared.submission.Numbered.{Numbered}
 use Rattle.gate_core.specs.Limits.{default_quota, IsOpenFault}
 use Rattle.gate_core.specs.Merge.{IsMerge}
@@ -10,7 +11,8 @@ use Rattle.gate_queue.specs.Gate.{GateId}
 use Rattle.gate_close.specs.declared.drained_close.CloseAllCause.{CloseAllCause}
 use Rattle.gate_close.specs.declared.drained_close.CloseAllCause.TheVariants as cause
 use Rattle.gate_close.specs.DrainedClose.{items_of_records, queued_by, CloseParts, close_parts, CanClose, LeavesSome}
-use Rattle.gate_daemon.specs.Answered.{queued_by_each, HoldsAll}
+use Rattle.gate_daemon.specs.Answered.{reports_of_each, queued_by_each, HoldsAll}
+use Rattle.gate_daemon.specs.Applying.{AreShown}
 use Rattle.gate_daemon.specs.declared.gateway.GatewayFault.{GatewayFault}
 use Rattle.gate_daemon.specs.declared.gateway.GatewayFault.TheVariants as fault
 
@@ -45,12 +47,21 @@ pub record IsUndrained (workers limit : ℕ) (table : List ObjectLine) (gate : G
       → LosesNothing workers queued log
 
 -- of a gateway with so many workers, this capacity, this limit and these objects: the queue's own fault; that the
--- limit isn't 1 to 1,000,000; or, with the reports of every client, why the queue couldn't be drained
+-- limit isn't 1 to 1,000,000, which comes before memory; or, with the reports of every client, why the queue couldn't
+-- be drained
 abbrev pub IsGatewayFault : ℕ → ℕ → ℕ → List ObjectLine → GatewayFault → Type 0
 IsGatewayFault workers capacity limit table (fault.Queue why) = IsOpenFault why (workers + 1) default_quota capacity
 IsGatewayFault workers capacity limit table (fault.Applier why) = why ≡ BadLimit → is_limit limit ≡ false
-IsGatewayFault workers capacity limit table fault.OutOfMemory = Unit {0}
+IsGatewayFault workers capacity limit table fault.OutOfMemory = is_limit limit ≡ true
 IsGatewayFault workers capacity limit table fault.Spawn = Unit {0}
 IsGatewayFault workers capacity limit table (fault.CloseAll gate drain reports) =
     IsUndrained workers limit table gate drain.cause (close_parts drain.taker drain.ended.items drain.applier)
-    (queued_by_each reports.items)
+    (queued_by_each (reports_of_each reports.items))
+
+-- what was applied before the queue couldn't be drained further stands at moments that a clock may show
+abbrev pub AreShownUntil : (Moment → Type 0) → GatewayFault → Type 0
+AreShownUntil shows (fault.CloseAll gate drain reports) = AreShown shows drain.applier
+AreShownUntil shows fault.Spawn = ⊤
+AreShownUntil shows fault.OutOfMemory = ⊤
+AreShownUntil shows (fault.Queue why) = ⊤
+AreShownUntil shows (fault.Applier why) = ⊤

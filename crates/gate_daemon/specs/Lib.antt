@@ -2,4 +2,5 @@ pub mod Answered
 pub mod Applying
 pub mod Boards
 pub mod Faults
+pub mod Served
 pub mod inner

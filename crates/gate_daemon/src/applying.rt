@@ -1,7 +1,7 @@
 ghost use Rattle.std.specs.Prelude.{◌≡◌, ◌≢◌, ◌≤◌, [], ◌∷◌, ◌++◌, IsSome, length};
 ghost use Rattle.gate_model.specs.declared.record.Moment.{Moment};
 ghost use Rattle.gate_model.specs.Record.{later};
-ghost use Rattle.gate_reader.specs.Clock.{Reads};
+ghost use Rattle.gate_reader.specs.Clock.{Shows};
 ghost use Rattle.gate_close.specs.DrainedClose.{items_of_records};
 ghost use Rattle.gate_daemon.specs.declared.applying.ApplierStop.TheVariants.{Closing, LogFull};
 ghost use Rattle.gate_daemon.specs.Applying.{GoesByClock, IsSameLog};
@@ -76,7 +76,7 @@ fn apply_next<R: Wait, K: Clock, H: Hold>(
     ensures ended { taker.new.ended ≡ taker.old.ended }
     ensures applied { items_of_records result.0.records ≡ taker.new.taken }
     ensures same { IsSameLog ready result.0 }
-    ensures clock { GoesByClock (K.readings clock.old) (K.readings clock.new) ready result.0 }
+    ensures clock { GoesByClock (K.state clock.old) (K.state clock.new) ready result.0 }
     ensures not_full { result.1 ≢ attempt.LogFull }
 {
     match taker.take(rt, gate) {
@@ -106,7 +106,7 @@ fn turn<R: Wait, K: Clock, H: Hold>(
     ensures ended { taker.new.ended ≡ taker.old.ended }
     ensures applied { items_of_records result.0.records ≡ taker.new.taken }
     ensures same { IsSameLog applier result.0 }
-    ensures clock { GoesByClock (K.readings clock.old) (K.readings clock.new) applier result.0 }
+    ensures clock { GoesByClock (K.state clock.old) (K.state clock.new) applier result.0 }
     ensures log_full { result.1 ≡ attempt.LogFull
         → length result.0.records ≡ result.0.limit }
 {
@@ -118,7 +118,7 @@ fn turn<R: Wait, K: Clock, H: Hold>(
 
 // Goes on to the clock's moment, where it is later.
 fn go_on<K: Clock>(applier: &mut Applier, clock: &mut K)
-    ensures idle { (now : Moment) × Reads (K.readings clock.old) (K.readings clock.new) now
+    ensures idle { (now : Moment) × Shows (K.state clock.old) (K.state clock.new) now
         × (applier.new.moment ≡ later applier.old.moment now) }
     ensures records { applier.new.records ≡ applier.old.records }
     ensures same { IsSameLog applier.old applier.new }
@@ -143,10 +143,10 @@ fn show_turn<R: Wait, K: Clock>(
 ) -> LastBoard
     requires pauses { last.pauses_left ≤ 25 }
     ensures pauses { result.pauses_left ≤ 25 }
-    ensures clock { GoesByClock (K.readings clock.old) (K.readings clock.new)
-        applier.old applier.new }
+    ensures clock { GoesByClock
+        (K.state clock.old) (K.state clock.new) applier.old applier.new }
     ensures idle { found ≡ Nothing
-        → (now : Moment) × Reads (K.readings clock.old) (K.readings clock.new) now
+        → (now : Moment) × Shows (K.state clock.old) (K.state clock.new) now
         × (applier.new.moment ≡ later applier.old.moment now) }
     ensures records { applier.new.records ≡ applier.old.records }
     ensures same { IsSameLog applier.old applier.new }
@@ -234,7 +234,7 @@ pub fn run_applier<R: Wait + time::Clock, K: Clock, H: Hold + Drop>(
     ensures ended { result.0.ended ≡ taker.ended }
     ensures same { IsSameLog applier result.1 }
     // Each record stands at the later of a reading of its own and the applier's moment then.
-    ensures clock { GoesByClock (K.readings clock.old) (K.readings clock.new) applier result.1 }
+    ensures clock { GoesByClock (K.state clock.old) (K.state clock.new) applier result.1 }
 
     ensures closing { result.2 ≡ Closing → IsSome result.0.known_close }
     ensures log_full { result.2 ≡ LogFull → length result.1.records ≡ result.1.limit }

@@ -1,6 +1,6 @@
 ghost use Rattle.std.specs.Prelude.{◌≡◌, ℕ, ◌≤◌, ◌<◌, ◌++◌, List, [], ◌∷◌, All, length, IfOk};
 ghost use Rattle.gate_worker.specs.Numbers.{numbers_after};
-ghost use Rattle.gate_daemon.specs.Answered.{queued_by_each};
+ghost use Rattle.gate_daemon.specs.Answered.{reports_of_each, queued_by_each};
 ghost use Rattle.gate_daemon.specs.inner.Collecting.{queued_for_each};
 
 use gate_queue::Ended;
@@ -14,7 +14,7 @@ use std::alloc::{AllocError, Global};
 pub(crate) struct Collected {
     pub(crate) ended: Vec<Ended>,
     pub(crate) reports: Vec<(u32, Vec<Report>)>,
-    pub(crate) ghost reported: { queued_for_each ended.items ≡ queued_by_each reports.items },
+    pub(crate) ghost reported: { queued_for_each ended.items ≡ queued_by_each (reports_of_each reports.items) },
     pub(crate) ghost counted: { All
         (λ (pair : ℕ × List ℕ). pair.1 ≡ numbers_after 0 (length pair.1))
         (queued_for_each ended.items) },
@@ -24,7 +24,8 @@ impl Collected {
     /// Room for so many workers' ends. It is taken before a thread starts, so that collecting them
     /// needs no memory.
     pub(crate) fn with_room(alloc: Global, count: usize) -> Result<Collected, AllocError>
-        ensures none { IfOk result (λ collected. collected.ended.items ≡ []) }
+        ensures none { IfOk result (λ collected.
+            (collected.ended.items ≡ []) × (collected.reports.items ≡ [])) }
         ensures room { IfOk result (λ collected.
             (count ≤ collected.ended.cap) × (count ≤ collected.reports.cap)) }
     {
@@ -38,6 +39,9 @@ impl Collected {
         requires room { (length self.old.ended.items < self.old.ended.cap)
             × (length self.old.ended.items < self.old.reports.cap) }
         ensures ended { self.new.ended.items ≡ self.old.ended.items ++ end.ended ∷ [] }
+        ensures reports { reports_of_each self.new.reports.items
+            ≡ reports_of_each self.old.reports.items
+            ++ (end.ended.number, end.reports.items) ∷ [] }
         ensures room { (self.new.ended.cap ≡ self.old.ended.cap)
             × (self.new.reports.cap ≡ self.old.reports.cap) }
     {

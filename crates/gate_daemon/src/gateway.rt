@@ -1,34 +1,34 @@
-ghost use Rattle.std.specs.Prelude.{◌≡◌, ℕ, ◌+◌, ◌≤◌, List, vec_len, IfOk, IfErr};
-ghost use Rattle.gate_model.specs.declared.object.ObjectLine.{ObjectLine};
+ghost use Rattle.std.specs.Prelude.{◌≡◌, ◌+◌, ◌≤◌, ℕ, List, [], Option, None, length, vec_len, map, IfOk, IfErr};
 ghost use Rattle.gate_close.specs.DrainedClose.{items_of_records};
-ghost use Rattle.gate_daemon.specs.Answered.{queued_by_each, HoldsAll};
-ghost use Rattle.gate_daemon.specs.Applying.{IsSameLog};
-ghost use Rattle.gate_daemon.specs.Faults.{IsGatewayFault};
+ghost use Rattle.gate_queue.specs.Client.{client_state};
+ghost use Rattle.gate_worker.specs.declared.limits.WorkerLimits.{WorkerLimits};
+ghost use Rattle.gate_daemon.specs.Answered.{reports_of_each, queued_by_each, HoldsAll};
+ghost use Rattle.gate_daemon.specs.Applying.{AreShown, IsSameLog};
+ghost use Rattle.gate_daemon.specs.Faults.{AreShownUntil, IsGatewayFault};
+ghost use Rattle.gate_daemon.specs.Served.{AllServed};
 ghost use Rattle.gate_daemon.specs.declared.gateway.GatewayFault.TheVariants.{OutOfMemory};
-ghost use Rattle.gate_daemon.specs.inner.Draining.{DrainsByClock, DrainsUntilFault};
-ghost use Rattle.gate_daemon.specs.inner.Joining.{AreJoined};
-ghost use Rattle.gate_daemon.specs.inner.Opening.{AreParts, IsUnopened};
+ghost use Rattle.gate_daemon.specs.inner.Collecting.{AllEnded};
+ghost use Rattle.gate_daemon.specs.inner.Joining.{AreJoined, IsStart};
 
 use crate::collected::Collected;
 use crate::endpoints::Endpoints;
 use crate::joined::Joined;
-use crate::opening::{Opening, Parts, Unopened, open_parts};
+use crate::opening::{open_parts, start_on};
 use crate::settings::GatewaySettings;
 use crate::shared::Shared;
 use crate::starting::Unstarted;
-use crate::threads::{Start, run_scoped};
-use crate::workers::Workers;
+use crate::threads::run_threads;
 use gate_applier::OpenCause;
 use gate_close::{CloseAllFault, Closed, close_all};
 use gate_core::OpenFault;
 use gate_queue::Gate;
 use gate_reader::Report;
-use gate_worker::{Cause, Connections, Hold, SharedClock, Wake, Watch, WorkerLimits};
+use gate_worker::{Cause, Connections, Hold, Wake, Watch};
 use std::alloc::{AllocError, Global};
-use std::fmt;
 use std::sync::Wait;
 use std::thread::Threads;
 use std::time::Clock;
+use std::{fmt, thread};
 use thiserror::Error;
 
 /// All that was queued, applied; and what each client was answered.
@@ -91,42 +91,36 @@ impl From<AllocError> for GatewayFault {
     }
 }
 
-// The fault of a gateway that can't be opened.
-fn fault_of(unopened: Unopened) -> GatewayFault
-    ensures { (workers capacity limit : ℕ) (table : List ObjectLine)
-        → IsUnopened workers capacity limit unopened
-        → IsGatewayFault workers capacity limit table result }
-{
-    match unopened {
-        Unopened::Queue(fault) => GatewayFault::Queue(fault),
-        Unopened::Applier(cause) => GatewayFault::Applier(cause),
-        Unopened::OutOfMemory => GatewayFault::OutOfMemory,
-    }
-}
-
 // Drains the gate of so many agents' workers, once all threads are joined.
-fn finish<R: Wait, K: gate_reader::Clock>(
+fn finish<R: Wait, K: Watch>(
     rt: &R,
     workers: u32,
     gate: Gate,
     joined: Joined,
-    clock: &mut K,
+    clock: &K,
 ) -> Result<Finished, GatewayFault>
-    requires workers { workers ≤ 63 }
-    requires gate { gate.limits.clients ≡ workers + 1 }
+    requires clients { gate.limits.clients ≡ workers + 1 }
     requires joined { AreJoined gate workers joined.applier joined }
     ensures holds { IfOk result (λ finished. HoldsAll workers
-        (queued_by_each finished.reports.items)
+        (queued_by_each (reports_of_each finished.reports.items))
         (items_of_records finished.closed.applier.records)) }
+    ensures served { IfOk result (λ finished. (limits : WorkerLimits)
+        (agents : List (Option (List (List ℕ)))) (operators : Option (List (List ℕ)))
+        → length agents ≡ workers
+        → AllEnded limits gate agents operators (client_state gate (workers + 1) [] None)
+        joined.operator joined.collected.ended.items
+        (reports_of_each joined.collected.reports.items)
+        → AllServed limits agents operators (reports_of_each finished.reports.items)
+        finished.operator (items_of_records finished.closed.applier.records)) }
     ensures same { IfOk result (λ finished.
         IsSameLog joined.applier finished.closed.applier) }
     ensures fault { IfErr result (λ fault. (capacity : ℕ)
         → IsGatewayFault workers capacity joined.applier.limit joined.applier.table fault) }
-    // What is applied now stands at the clock's moment or the applier's, whichever is later.
-    ensures clock { IfOk result (λ finished. DrainsByClock (K.readings clock.old)
-        (K.readings clock.new) joined.applier finished.closed.applier) }
-    ensures clock_until_fault { IfErr result (λ fault. DrainsUntilFault (K.readings clock.old)
-        (K.readings clock.new) joined.applier fault) }
+    // What is applied now stands at a moment of the clock or the applier's, whichever is later.
+    ensures shown { AreShown (K.shows clock.now) joined.applier
+        → IfOk result (λ finished. AreShown (K.shows clock.now) finished.closed.applier) }
+    ensures shown_until_fault { AreShown (K.shows clock.now) joined.applier
+        → IfErr result (AreShownUntil (K.shows clock.now)) }
 {
     let Joined {
         taker,
@@ -135,7 +129,7 @@ fn finish<R: Wait, K: gate_reader::Clock>(
         operator,
     } = joined;
     let Collected { ended, reports } = collected;
-    match close_all(rt, &gate, taker, ended, applier, clock.now()) {
+    match close_all(rt, &gate, taker, ended, applier, clock.read()) {
         Ok(closed) => Ok(Finished {
             closed,
             reports,
@@ -146,76 +140,6 @@ fn finish<R: Wait, K: gate_reader::Clock>(
             fault,
             reports,
         }),
-    }
-}
-
-// Runs a gateway that is opened, and drains it.
-fn run_opened<
-    R: Threads + Wait + Clock + Sync,
-    A: Connections + Send + Drop,
-    O: Connections + Send + Drop,
-    P: Connections + Send + Drop,
-    H: Hold + Send + Drop,
-    K: Watch + Sync,
-    W: Wake + Sync,
->(
-    rt: &R,
-    alloc: Global,
-    parts: Parts,
-    endpoints: Endpoints<A, O, P, H>,
-    clock: &K,
-    wake: &W,
-    limits: WorkerLimits,
-    workers: u32,
-) -> Result<Finished, GatewayFault>
-    requires workers { workers ≤ 63 }
-    requires endpoints { vec_len endpoints.agents ≡ workers }
-    requires parts { AreParts workers parts }
-    ensures holds { IfOk result (λ finished. HoldsAll workers
-        (queued_by_each finished.reports.items)
-        (items_of_records finished.closed.applier.records)) }
-    ensures same { IfOk result (λ finished. IsSameLog parts.applier finished.closed.applier) }
-    ensures fault { IfErr result (λ fault. (capacity : ℕ)
-        → IsGatewayFault workers capacity parts.applier.limit parts.applier.table fault) }
-{
-    let Parts {
-        opening,
-        applier,
-        collected,
-        board,
-    } = parts;
-    let Opening {
-        gate,
-        taker,
-        closer,
-        clients,
-        last,
-    } = opening;
-    let start = Start {
-        taker,
-        applier,
-        closer,
-        workers: Workers {
-            clients,
-            endpoints: endpoints.agents,
-            operator: last,
-            operator_endpoint: endpoints.operator,
-            collected,
-        },
-        pages: endpoints.pages,
-        hold: endpoints.applier,
-    };
-    let shared = Shared {
-        rt,
-        alloc,
-        gate: &gate,
-        clock,
-        wake,
-        limits,
-    };
-    match run_scoped(&shared, start, &board) {
-        Ok(joined) => finish(rt, workers, gate, joined, &mut SharedClock(clock)),
-        Err(Unstarted) => Err(GatewayFault::Spawn),
     }
 }
 
@@ -257,14 +181,24 @@ pub fn run_gateway<
     // Every client was joined, and the log holds for each of them the items that its reports answer
     // with Queued, numbered from 1, in that order, and no others.
     ensures holds { IfOk result (λ finished. HoldsAll settings.workers
-        (queued_by_each finished.reports.items)
+        (queued_by_each (reports_of_each finished.reports.items))
         (items_of_records finished.closed.applier.records)) }
+    // Each client's worker served its connections, from the first on, with the limits of the settings:
+    // packets of agents and lines of operators. What they mean is what the log holds for it.
+    ensures served { IfOk result (λ finished. AllServed settings.worker
+        (map (λ endpoint. A.streams endpoint.connections) endpoints.agents.items)
+        (O.streams endpoints.operator.connections) (reports_of_each finished.reports.items)
+        finished.operator (items_of_records finished.closed.applier.records)) }
     // State and pages are what these records mean for the objects of the configuration.
     ensures table { IfOk result (λ finished. finished.closed.applier.table ≡ settings.table) }
     ensures limit { IfOk result (λ finished. finished.closed.applier.limit ≡ settings.limit) }
+    // The log was opened at a moment of the clock, and each record stands at one.
+    ensures moments { IfOk result (λ finished.
+        AreShown (K.shows clock.now) finished.closed.applier) }
 
     ensures fault { IfErr result (λ fault.
         IsGatewayFault settings.workers settings.capacity settings.limit settings.table fault) }
+    ensures moments_until_fault { IfErr result (AreShownUntil (K.shows clock.now)) }
 {
     let GatewaySettings {
         workers,
@@ -273,8 +207,38 @@ pub fn run_gateway<
         worker,
         table,
     } = settings;
-    match open_parts(alloc, workers, capacity, limit, table, clock.read()) {
-        Ok(parts) => run_opened(rt, alloc, parts, endpoints, clock, wake, worker, workers),
-        Err(unopened) => Err(fault_of(unopened)),
+    let parts = match open_parts(alloc, workers, capacity, limit, table, clock.read()) {
+        Ok(parts) => parts,
+        Err(fault) => return Err(fault),
+    };
+    let (gate, board, start) = start_on(parts, endpoints);
+    let shared = Shared {
+        rt,
+        alloc,
+        gate: &gate,
+        clock,
+        wake,
+        limits: worker,
+    };
+    let board = &board;
+    let joined = thread::scope(
+        thread::scope_env(),
+        rt,
+        move |scope| -> Result<Joined, Unstarted>
+            requires { IsStart shared.gate.now start }
+            ensures { IfOk result (λ joined. AreJoined shared.entry.gate.now
+                (length start.workers.endpoints.items) start.applier joined
+                × AllEnded shared.entry.limits shared.entry.gate.now
+                (map (λ endpoint. A.streams endpoint.connections) start.workers.endpoints.items)
+                (O.streams start.workers.operator_endpoint.connections) start.workers.operator
+                joined.operator joined.collected.ended.items
+                (reports_of_each joined.collected.reports.items)
+                × (AreShown (K.shows shared.entry.clock.now) start.applier
+                → AreShown (K.shows shared.entry.clock.now) joined.applier)) }
+        { run_threads(&shared, scope, start, board) },
+    );
+    match joined {
+        Ok(joined) => finish(rt, workers, gate, joined, clock),
+        Err(Unstarted) => Err(GatewayFault::Spawn),
     }
 }

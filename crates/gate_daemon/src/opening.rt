@@ -1,32 +1,19 @@
-ghost use Rattle.std.specs.Prelude.{◌≡◌, ℕ, ◌≤◌, IfOk, IfErr};
-ghost use Rattle.gate_applier.specs.Applier.{opened};
-ghost use Rattle.gate_daemon.specs.declared.opening.Unopened.TheVariants.{OutOfMemory};
+ghost use Rattle.std.specs.Prelude.{◌≡◌, ℕ, ◌+◌, ◌≤◌, IfOk, IfErr, OnOk, true, vec_len};
+ghost use Rattle.gate_applier.specs.Applier.{is_limit, opened};
+ghost use Rattle.gate_daemon.specs.inner.Joining.{IsStart};
 ghost use Rattle.gate_daemon.specs.inner.Opening.{AreParts, IsOpening, IsUnopened};
 
 use crate::collected::Collected;
-use gate_applier::{Applier, OpenCause};
-use gate_core::OpenFault;
+use crate::endpoints::Endpoints;
+use crate::gateway::GatewayFault;
+use crate::threads::Start;
+use crate::workers::Workers;
+use gate_applier::Applier;
 use gate_model::{Moment, ObjectTable};
 use gate_pages::Board;
 use gate_queue::{Client, Closer, Gate, Taker, open};
-use std::alloc::{AllocError, Global};
+use std::alloc::Global;
 use std::sync::Mutex;
-
-// Why a gateway can't be opened.
-#[derive(Clone, Copy)]
-pub(crate) enum Unopened {
-    Queue(OpenFault),
-    Applier(OpenCause),
-    OutOfMemory,
-}
-
-impl From<AllocError> for Unopened {
-    ghost from_gives = { λ _ fault. fault ≡ OutOfMemory };
-
-    fn from(_: AllocError) -> Unopened {
-        Unopened::OutOfMemory
-    }
-}
 
 // A gate's parts; the last of its clients is the operator's.
 #[derive(Drop)]
@@ -39,10 +26,11 @@ pub(crate) struct Opening {
 }
 
 // Opens a gate for so many workers and the operator.
-fn open_gate(alloc: Global, workers: u32, capacity: usize) -> Result<Opening, Unopened>
+fn open_gate(alloc: Global, workers: u32, capacity: usize) -> Result<Opening, GatewayFault>
     requires { workers ≤ 63 }
     ensures opening { IfOk result (IsOpening workers) }
-    ensures fault { IfErr result (λ fault. (limit : ℕ) → IsUnopened workers capacity limit fault) }
+    ensures fault { IfErr result (λ fault.
+        (limit : ℕ) → is_limit limit ≡ true → IsUnopened workers capacity limit fault) }
 {
     match open(alloc, workers + 1, capacity) {
         Ok((gate, taker, closer, mut clients)) => match clients.pop() {
@@ -55,7 +43,7 @@ fn open_gate(alloc: Global, workers: u32, capacity: usize) -> Result<Opening, Un
             }),
             None => unreachable!(),
         },
-        Err(fault) => Err(Unopened::Queue(fault)),
+        Err(fault) => Err(GatewayFault::Queue(fault)),
     }
 }
 
@@ -65,8 +53,9 @@ fn open_log(
     table: ObjectTable,
     moment: Moment,
     limit: u32,
-) -> Result<(Applier, Mutex<Board>), Unopened>
+) -> Result<(Applier, Mutex<Board>), GatewayFault>
     ensures opened { IfOk result (λ log. log.0 ≡ opened table moment limit) }
+    ensures limit { OnOk result (is_limit limit ≡ true) }
     ensures fault { IfErr result (λ fault.
         (workers capacity : ℕ) → IsUnopened workers capacity limit fault) }
 {
@@ -75,13 +64,13 @@ fn open_log(
             Ok(board) => Ok((applier, Mutex::new(board))),
             Err(_) => {
                 drop(applier);
-                Err(Unopened::OutOfMemory)
+                Err(GatewayFault::OutOfMemory)
             }
         },
         Err(fault) => {
             let cause = fault.cause;
             drop(fault);
-            Err(Unopened::Applier(cause))
+            Err(GatewayFault::Applier(cause))
         }
     }
 }
@@ -95,7 +84,7 @@ pub(crate) struct Parts {
     pub(crate) board: Mutex<Board>,
 }
 
-// Makes room for what the workers return, and opens the applier and the gate.
+// Opens the applier and the gate, and makes room for what the workers return.
 pub(crate) fn open_parts(
     alloc: Global,
     workers: u32,
@@ -103,22 +92,20 @@ pub(crate) fn open_parts(
     limit: u32,
     table: ObjectTable,
     now: Moment,
-) -> Result<Parts, Unopened>
+) -> Result<Parts, GatewayFault>
     requires { workers ≤ 63 }
     ensures parts { IfOk result (AreParts workers) }
     ensures applier { IfOk result (λ parts. parts.applier ≡ opened table now limit) }
-    ensures fault { IfErr result (λ fault. IsUnopened workers capacity limit fault) }
+    ensures fault { IfErr result (IsUnopened workers capacity limit) }
 {
-    let Ok(collected) = Collected::with_room(alloc, workers as usize + 1) else {
-        drop(table);
-        return Err(Unopened::OutOfMemory);
-    };
     let (applier, board) = match open_log(alloc, table, now, limit) {
         Ok(log) => log,
-        Err(unopened) => {
-            drop(collected);
-            return Err(unopened);
-        }
+        Err(fault) => return Err(fault),
+    };
+    let Ok(collected) = Collected::with_room(alloc, workers as usize + 1) else {
+        drop(applier);
+        drop(board);
+        return Err(GatewayFault::OutOfMemory);
     };
     match open_gate(alloc, workers, capacity) {
         Ok(opening) => Ok(Parts {
@@ -127,11 +114,61 @@ pub(crate) fn open_parts(
             collected,
             board,
         }),
-        Err(unopened) => {
+        Err(fault) => {
             drop(applier);
             drop(board);
             drop(collected);
-            Err(unopened)
+            Err(fault)
         }
     }
+}
+
+// The gate and the board of these parts, and what the threads start with on these endpoints.
+pub(crate) fn start_on<A, O, P, H>(
+    parts: Parts,
+    endpoints: Endpoints<A, O, P, H>,
+) -> (Gate, Mutex<Board>, Start<A, O, P, H>)
+    requires { AreParts (vec_len endpoints.agents) parts }
+    ensures clients { result.0.limits.clients ≡ vec_len endpoints.agents + 1 }
+    ensures start { IsStart result.0 result.2 }
+    ensures applier { result.2.applier ≡ parts.applier }
+    ensures agents { result.2.workers.endpoints.items ≡ endpoints.agents.items }
+    ensures operator { result.2.workers.operator_endpoint.connections
+        ≡ endpoints.operator.connections }
+{
+    let Parts {
+        opening,
+        applier,
+        collected,
+        board,
+    } = parts;
+    let Opening {
+        gate,
+        taker,
+        closer,
+        clients,
+        last,
+    } = opening;
+    let Endpoints {
+        agents,
+        operator,
+        pages,
+        applier: hold,
+    } = endpoints;
+    let workers = Workers {
+        clients,
+        endpoints: agents,
+        operator: last,
+        operator_endpoint: operator,
+        collected,
+    };
+    let start = Start {
+        taker,
+        applier,
+        closer,
+        workers,
+        pages,
+        hold,
+    };
+    (gate, board, start)
 }

@@ -1,6 +1,7 @@
-ghost use Rattle.std.specs.Prelude.{◌≡◌, [], IfOk, IfSome};
-ghost use Rattle.gate_daemon.specs.Applying.{IsSameLog};
+ghost use Rattle.std.specs.Prelude.{◌≡◌, [], IfOk, IfSome, is_some};
+ghost use Rattle.gate_daemon.specs.Applying.{AreShown, IsSameLog};
 ghost use Rattle.gate_daemon.specs.inner.Joining.{IsApplied};
+ghost use Rattle.gate_daemon.specs.Served.{EndsSo};
 
 use crate::applying::{ApplierStop, run_applier};
 use crate::endpoints::Endpoint;
@@ -8,7 +9,7 @@ use crate::shared::Shared;
 use gate_applier::Applier;
 use gate_pages::Board;
 use gate_queue::{Client, Closer, Gate, Taker};
-use gate_worker::{Connections, Hold, SharedClock, Watch, WorkerEnd, run_worker};
+use gate_worker::{Connections, Hold, SharedClock, Watch, WorkerEnd, WorkerLimits, run_worker};
 use std::snapshot::Snapshot;
 use std::sync::{Mutex, Wait};
 use std::thread::{Promise, PromisedHandle, Scope, Threads};
@@ -18,21 +19,24 @@ use std::time::Clock;
 #[derive(Clone, Copy, Debug, PartialEq, Eq)]
 pub(crate) struct Unstarted;
 
-// The worker returns the client of this number, of this gate.
-#[derive(Clone, Copy)]
-pub(crate) struct EndsClient<'a> {
-    gate: &'a Gate,
-    number: u32,
+// A worker with these limits serves these connections, from this client on.
+#[derive(Drop)]
+pub(crate) struct Works<C> {
+    is_operator: bool,
+    limits: WorkerLimits,
+    client: Snapshot<Client>,
+    connections: Snapshot<C>,
 }
 
-impl<'a> Promise<WorkerEnd> for EndsClient<'a> {
-    ghost use Rattle.std.specs.Prelude.{◌≡◌};
+impl<C: Connections> Promise<WorkerEnd> for Works<C> {
+    ghost use Rattle.gate_daemon.specs.Served.{EndsSo};
 
-    ghost kept_by = { λ promise end.
-        (end.ended.gate ≡ promise.gate.now) × (end.ended.number ≡ promise.number) };
+    ghost kept_by = { λ promise end. EndsSo promise.is_operator promise.limits
+        (C.streams promise.connections.value) promise.client.value
+        end.reports.items end.ended end.cause };
 }
 
-// Starts a worker.
+// Starts a worker: of operators where there is a closer, else of agents.
 pub(crate) fn start_worker<
     's,
     E,
@@ -47,14 +51,16 @@ pub(crate) fn start_worker<
     client: Client,
     closer: Option<Closer>,
     endpoint: Endpoint<C, H>,
-) -> Result<PromisedHandle<WorkerEnd, EndsClient<'s>>, Unstarted>
+) -> Result<PromisedHandle<WorkerEnd, Works<C>>, Unstarted>
     requires gate { client.gate ≡ shared.now.gate.now }
     requires closer { IfSome closer (λ c. c.cell ≡ shared.now.gate.now.cell) }
     requires fresh { client.queued ≡ [] }
-    ensures { IfOk result (λ handle. (handle.promise.gate.now ≡ shared.now.gate.now)
-        × (handle.promise.number ≡ client.number)) }
+    ensures role { IfOk result (λ handle. handle.promise.is_operator ≡ is_some closer) }
+    ensures limits { IfOk result (λ handle. handle.promise.limits ≡ shared.now.limits) }
+    ensures client { IfOk result (λ handle. handle.promise.client.value ≡ client) }
+    ensures connections { IfOk result (λ handle.
+        handle.promise.connections.value ≡ endpoint.connections) }
 {
-    let number = client.number();
     let Shared {
         rt,
         alloc,
@@ -64,10 +70,17 @@ pub(crate) fn start_worker<
         limits,
     } = *shared;
     let Endpoint { connections, hold } = endpoint;
+    let promise = Works {
+        is_operator: closer.is_some(),
+        limits,
+        client: Snapshot::of(&client),
+        connections: Snapshot::of(&connections),
+    };
     let run = move || -> WorkerEnd
         requires { (client.gate ≡ gate.now) × IfSome closer (λ c. c.cell ≡ gate.now.cell)
             × (client.queued ≡ []) }
-        ensures { (result.ended.gate ≡ gate.entry.now) × (result.ended.number ≡ client.number) }
+        ensures { EndsSo (is_some closer) limits (C.streams connections) client
+            result.reports.items result.ended result.cause }
     {
         run_worker(
             rt,
@@ -81,26 +94,29 @@ pub(crate) fn start_worker<
             limits,
         )
     };
-    match scope.spawn_with(EndsClient { gate, number }, run) {
+    match scope.spawn_with(promise, run) {
         Ok(handle) => Ok(handle),
         Err(_) => Err(Unstarted),
     }
 }
 
 // The applier returns what it took from this gate, in a log of the same table, opening and limit,
-// and took no client in.
+// at moments that the clock may show, and took no client in.
 #[derive(Drop)]
-pub(crate) struct KeepsLog<'a> {
+pub(crate) struct KeepsLog<'a, K> {
     gate: &'a Gate,
+    clock: &'a K,
     before: Snapshot<Applier>,
 }
 
-impl<'a> Promise<(Taker, Applier, ApplierStop)> for KeepsLog<'a> {
-    ghost use Rattle.gate_daemon.specs.Applying.{IsSameLog};
+impl<'a, K: Watch> Promise<(Taker, Applier, ApplierStop)> for KeepsLog<'a, K> {
+    ghost use Rattle.gate_daemon.specs.Applying.{AreShown, IsSameLog};
     ghost use Rattle.gate_daemon.specs.inner.Joining.{IsApplied};
 
     ghost kept_by = { λ promise end. IsApplied promise.gate.now end.0 end.1
-        × IsSameLog promise.before.value end.1 };
+        × IsSameLog promise.before.value end.1
+        × (AreShown (K.shows promise.clock.now) promise.before.value
+        → AreShown (K.shows promise.clock.now) end.1) };
 }
 
 // Starts the applier.
@@ -118,9 +134,10 @@ pub(crate) fn start_applier<
     applier: Applier,
     hold: A,
     board: &'s Mutex<Board>,
-) -> Result<PromisedHandle<(Taker, Applier, ApplierStop), KeepsLog<'s>>, Unstarted>
+) -> Result<PromisedHandle<(Taker, Applier, ApplierStop), KeepsLog<'s, K>>, Unstarted>
     requires { IsApplied shared.now.gate.now taker applier }
     ensures { IfOk result (λ handle. (handle.promise.gate.now ≡ shared.now.gate.now)
+        × (handle.promise.clock.now ≡ shared.now.clock.now)
         × (handle.promise.before.value ≡ applier)) }
 {
     let before = Snapshot::of(&applier);
@@ -134,7 +151,9 @@ pub(crate) fn start_applier<
     } = *shared;
     let run = move || -> (Taker, Applier, ApplierStop)
         requires { IsApplied gate.now taker applier }
-        ensures { IsApplied gate.entry.now result.0 result.1 × IsSameLog applier result.1 }
+        ensures { IsApplied gate.entry.now result.0 result.1 × IsSameLog applier result.1
+            × (AreShown (K.shows clock.entry.now) applier
+            → AreShown (K.shows clock.entry.now) result.1) }
     {
         run_applier(
             rt,
@@ -147,7 +166,12 @@ pub(crate) fn start_applier<
             board,
         )
     };
-    match scope.spawn_with(KeepsLog { gate, before }, run) {
+    let promise = KeepsLog {
+        gate,
+        clock,
+        before,
+    };
+    match scope.spawn_with(promise, run) {
         Ok(handle) => Ok(handle),
         Err(_) => Err(Unstarted),
     }

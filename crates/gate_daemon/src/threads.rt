@@ -1,5 +1,8 @@
-ghost use Rattle.std.specs.Prelude.{◌≡◌, ◌+◌, IfOk, length};
-ghost use Rattle.gate_daemon.specs.inner.Joining.{AreJoined, AreNew, HasRoom, IsApplied};
+ghost use Rattle.std.specs.Prelude.{◌≡◌, IfOk, length, map};
+ghost use Rattle.gate_daemon.specs.Applying.{AreShown};
+ghost use Rattle.gate_daemon.specs.Answered.{reports_of_each};
+ghost use Rattle.gate_daemon.specs.inner.Collecting.{AllEnded};
+ghost use Rattle.gate_daemon.specs.inner.Joining.{AreJoined, IsStart};
 
 use crate::closing::close_gate;
 use crate::joined::Joined;
@@ -12,7 +15,6 @@ use gate_pages::Board;
 use gate_queue::{Closer, Taker};
 use gate_worker::{Connections, Hold, Wake, Watch};
 use std::sync::{Mutex, Wait};
-use std::thread;
 use std::thread::{Scope, Threads};
 use std::time::Clock;
 
@@ -44,14 +46,17 @@ pub(crate) fn run_threads<
     start: Start<A, O, P, H>,
     board: &'s Mutex<Board>,
 ) -> Result<Joined, Unstarted>
-    requires applied { IsApplied shared.now.gate.now start.taker start.applier }
-    requires closer { start.closer.cell ≡ shared.now.gate.now.cell }
-    requires new { AreNew shared.now.gate.now start.workers.clients.items
-        (length start.workers.endpoints.items) start.workers.operator }
-    requires last { start.workers.operator.number ≡ length start.workers.clients.items + 1 }
-    requires room { HasRoom (length start.workers.clients.items + 1) start.workers.collected }
-    ensures { IfOk result (λ joined. AreJoined shared.now.gate.now
-        (length start.workers.clients.items) start.applier joined) }
+    requires { IsStart shared.now.gate.now start }
+    ensures joined { IfOk result (AreJoined shared.now.gate.now
+        (length start.workers.endpoints.items) start.applier) }
+    ensures ended { IfOk result (λ joined. AllEnded shared.now.limits
+        shared.now.gate.now
+        (map (λ endpoint. A.streams endpoint.connections) start.workers.endpoints.items)
+        (O.streams start.workers.operator_endpoint.connections) start.workers.operator
+        joined.operator joined.collected.ended.items
+        (reports_of_each joined.collected.reports.items)) }
+    ensures shown { IfOk result (λ joined. AreShown (K.shows shared.now.clock.now) start.applier
+        → AreShown (K.shows shared.now.clock.now) joined.applier) }
 {
     let Start {
         taker,
@@ -90,43 +95,4 @@ pub(crate) fn run_threads<
             Err(Unstarted)
         }
     }
-}
-
-// Runs all threads in a scope.
-pub(crate) fn run_scoped<
-    R: Threads + Wait + Clock + Sync,
-    A: Connections + Send + Drop,
-    O: Connections + Send + Drop,
-    P: Connections + Send + Drop,
-    H: Hold + Send + Drop,
-    K: Watch + Sync,
-    W: Wake + Sync,
->(
-    shared: &Shared<'_, R, K, W>,
-    start: Start<A, O, P, H>,
-    board: &Mutex<Board>,
-) -> Result<Joined, Unstarted>
-    requires applied { IsApplied shared.now.gate.now start.taker start.applier }
-    requires closer { start.closer.cell ≡ shared.now.gate.now.cell }
-    requires new { AreNew shared.now.gate.now start.workers.clients.items
-        (length start.workers.endpoints.items) start.workers.operator }
-    requires last { start.workers.operator.number ≡ length start.workers.clients.items + 1 }
-    requires room { HasRoom (length start.workers.clients.items + 1) start.workers.collected }
-    ensures { IfOk result (λ joined. AreJoined shared.now.gate.now
-        (length start.workers.clients.items) start.applier joined) }
-{
-    thread::scope(
-        thread::scope_env(),
-        shared.rt,
-        move |scope| -> Result<Joined, Unstarted>
-            requires { IsApplied shared.now.gate.now start.taker start.applier
-                × (start.closer.cell ≡ shared.now.gate.now.cell)
-                × AreNew shared.now.gate.now start.workers.clients.items
-                (length start.workers.endpoints.items) start.workers.operator
-                × (start.workers.operator.number ≡ length start.workers.clients.items + 1)
-                × HasRoom (length start.workers.clients.items + 1) start.workers.collected }
-            ensures { IfOk result (λ joined. AreJoined shared.entry.now.gate.now
-                (length start.workers.clients.items) start.applier joined) }
-        { run_threads(shared, scope, start, board) },
-    )
 }

@@ -1,4 +1,4 @@
-ghost use Rattle.std.specs.Prelude.{◌≡◌, ◌+◌, [], length};
+ghost use Rattle.std.specs.Prelude.{◌≡◌, ◌+◌, [], length, map};
 ghost use Rattle.gate_daemon.specs.inner.Joining.{AreCollected, AreNew, HasRoom};
 
 use crate::closing::close_and_wake;
@@ -60,8 +60,8 @@ fn run_operator<
     requires fresh { client.queued ≡ [] }
     requires room { HasRoom 1 collected.old }
     ensures closer { closer.new.cell ≡ shared.now.gate.now.cell }
-    ensures ends { AreCollected shared.now.gate.now 0 client.number
-        collected.old collected.new result }
+    ensures ends { AreCollected shared.now.limits shared.now.gate.now [] client
+        (C.streams endpoint.connections) collected.old collected.new result }
 {
     let spare = Some(closer.another());
     let of_operator = Shared {
@@ -111,8 +111,9 @@ pub(crate) fn run_workers<
     requires closer { closer.old.cell ≡ shared.now.gate.now.cell }
     requires room { HasRoom (length workers.clients.items + 1) workers.collected }
     ensures closer { closer.new.cell ≡ shared.now.gate.now.cell }
-    ensures ends { AreCollected shared.now.gate.now
-        (length workers.clients.items) workers.operator.number
+    ensures ends { AreCollected shared.now.limits shared.now.gate.now
+        (map (λ endpoint. A.streams endpoint.connections) workers.endpoints.items)
+        workers.operator (O.streams workers.operator_endpoint.connections)
         workers.collected result.0 result.1 }
 {
     let Workers {

@@ -1,21 +1,25 @@
 -- Only proofs and private functions use this: workers before they start, and what all threads returned.
-use Rattle.std.specs.Prelude.{◌≡◌, ℕ, ◌+◌, ◌≤◌, Option, IsSome, List, [], ◌∷◌, length}
+use Rattle.std.specs.Prelude.{◌≡◌, ℕ, ◌+◌, ◌≤◌, Option, None, IsSome, IfSome, List, [], ◌∷◌, length}
 use Rattle.gate_queue.specs.Gate.{GateId}
-use Rattle.gate_queue.specs.Client.{ClientState}
+use Rattle.gate_queue.specs.Client.{ClientState, client_state}
 use Rattle.gate_queue.specs.Taker.{TakerState}
 use Rattle.gate_queue.specs.Opening.{new_clients}
 use Rattle.gate_close.specs.DrainedClose.{items_of_records}
 use Rattle.gate_applier.specs.Applier.{ApplierView}
 use Rattle.gate_worker.specs.Numbers.{numbers_after}
+use Rattle.gate_worker.specs.declared.limits.WorkerLimits.{WorkerLimits}
 use Rattle.gate_worker.specs.declared.worker.Cause.{Cause}
 use Rattle.gate_daemon.specs.Applying.{IsSameLog}
 use Rattle.gate_daemon.specs.declared.collected.Collected.{Collected}
 use Rattle.gate_daemon.specs.declared.joined.Joined.{Joined}
-use Rattle.gate_daemon.specs.inner.Collecting.{numbers_of, AreOf}
+use Rattle.gate_daemon.specs.declared.threads.Start.{Start}
+use Rattle.gate_daemon.specs.Answered.{reports_of_each}
+use Rattle.gate_daemon.specs.inner.Collecting.{numbers_of, AreOf, AllEnded}
 
 -- there is room for what so many workers return, and nothing there yet
 pub record HasRoom (count : ℕ) (collected : Collected) : Type 0 where
   pub none : collected.ended.items ≡ []
+  pub none_reported : collected.reports.items ≡ []
   pub ended : count ≤ collected.ended.cap
   pub reports : count ≤ collected.reports.cap
 
@@ -26,12 +30,14 @@ pub record AreNew (gate : GateId) (clients : List ClientState) (endpoints : ℕ)
   pub operators : operator.gate ≡ gate
   pub fresh : operator.queued ≡ []
 
--- the ends of at most so many agents' workers and of the operator's are collected; where the operator's ended for a
--- cause that is known, all were started, and it is the ends of all
-pub record AreCollected (gate : GateId) (count operator : ℕ) (before after : Collected) (cause : Option Cause)
+-- the ends of agents' workers, who served these streams, and of the operators', who began with this client, are
+-- collected; where the operators' ended for a cause that is known, all were started, and it is the ends of all
+pub record AreCollected (limits : WorkerLimits) (gate : GateId) (agents : List (Option (List (List ℕ))))
+    (operator : ClientState) (operators : Option (List (List ℕ))) (before after : Collected) (cause : Option Cause)
     : Type 0 where
-  pub all : IsSome cause → numbers_of after.ended.items ≡ operator ∷ numbers_after 0 count
-  pub few : length after.ended.items ≤ count + 1
+  pub ended : IfSome cause (λ why. AllEnded limits gate agents operators operator why after.ended.items
+      (reports_of_each after.reports.items))
+  pub few : length after.ended.items ≤ length agents + 1
   pub gates : AreOf gate after.ended.items
   pub ended_room : after.ended.cap ≡ before.ended.cap
   pub reports_room : after.reports.cap ≡ before.reports.cap
@@ -49,3 +55,13 @@ pub record AreJoined (gate : GateId) (workers : ℕ) (before : ApplierView) (joi
   pub same : IsSameLog before joined.applier
   pub all : numbers_of joined.collected.ended.items ≡ (workers + 1) ∷ numbers_after 0 workers
   pub gates : AreOf gate joined.collected.ended.items
+
+-- what the threads of a gate start with: its parts, an applier that has applied nothing, and room for what its workers
+-- return
+pub record IsStart {A O P H : Type 0} (gate : GateId) (start : Start A O P H) : Type 0 where
+  pub applied : IsApplied gate start.taker start.applier
+  pub closer : start.closer.cell ≡ gate.cell
+  pub clients : start.workers.clients.items ≡ new_clients gate (length start.workers.clients.items)
+  pub each : length start.workers.endpoints.items ≡ length start.workers.clients.items
+  pub operator : start.workers.operator ≡ client_state gate (length start.workers.clients.items + 1) [] None
+  pub room : HasRoom (length start.workers.clients.items + 1) start.workers.collected

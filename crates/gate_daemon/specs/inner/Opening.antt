@@ -1,5 +1,5 @@
 -- Only proofs and private functions use this: what a gateway is opened with, and why it can't be opened.
-use Rattle.std.specs.Prelude.{◌≡◌, ℕ, ◌+◌, [], length, None, false}
+use Rattle.std.specs.Prelude.{◌≡◌, ℕ, ◌+◌, [], length, None, true, false}
 use Rattle.gate_core.specs.Limits.{default_quota, IsOpenFault}
 use Rattle.gate_applier.specs.Applier.{is_limit}
 use Rattle.gate_applier.specs.declared.applier.OpenCause.TheVariants.{BadLimit}
@@ -7,8 +7,8 @@ use Rattle.gate_queue.specs.Client.{client_state}
 use Rattle.gate_queue.specs.Opening.{new_clients}
 use Rattle.gate_daemon.specs.declared.opening.Opening.{Opening}
 use Rattle.gate_daemon.specs.declared.opening.Parts.{Parts}
-use Rattle.gate_daemon.specs.declared.opening.Unopened.{Unopened}
-use Rattle.gate_daemon.specs.declared.opening.Unopened.TheVariants as unopened
+use Rattle.gate_daemon.specs.declared.gateway.GatewayFault.{GatewayFault}
+use Rattle.gate_daemon.specs.declared.gateway.GatewayFault.TheVariants as fault
 use Rattle.gate_daemon.specs.inner.Joining.{HasRoom}
 
 -- the parts of a new gate, with a client for each of so many agents' workers and one more, the operator's
@@ -29,7 +29,9 @@ pub record AreParts (workers : ℕ) (parts : Parts) : Type 0 where
   pub room : HasRoom (workers + 1) parts.collected
 
 -- why a gateway with so many workers, this capacity and this limit can't be opened
-abbrev pub IsUnopened : ℕ → ℕ → ℕ → Unopened → Type 0
-IsUnopened workers capacity limit (unopened.Queue why) = IsOpenFault why (workers + 1) default_quota capacity
-IsUnopened workers capacity limit (unopened.Applier why) = why ≡ BadLimit → is_limit limit ≡ false
-IsUnopened workers capacity limit unopened.OutOfMemory = Unit {0}
+abbrev pub IsUnopened : ℕ → ℕ → ℕ → GatewayFault → Type 0
+IsUnopened workers capacity limit (fault.Queue why) = IsOpenFault why (workers + 1) default_quota capacity
+IsUnopened workers capacity limit (fault.Applier why) = why ≡ BadLimit → is_limit limit ≡ false
+IsUnopened workers capacity limit fault.OutOfMemory = is_limit limit ≡ true
+IsUnopened workers capacity limit fault.Spawn = ⊥
+IsUnopened workers capacity limit (fault.CloseAll gate drain reports) = ⊥

@@ -9,4 +9,4 @@ invariant-loop g l =
     × (l.taker.gate ≡ l.gate) × (items_of_records l.applier.records ≡ l.taker.taken) × (l.taker.ended ≡ l.initial.taker.ended)
     × IsSameLog l.initial.applier l.applier
     × (l.last.pauses_left ≤ 25)
-    × GoesByClock (g.K.Clock.readings l.fn.clock) (g.K.Clock.readings l.clock) l.initial.applier l.applier
+    × GoesByClock (g.K.Clock.state l.fn.clock) (g.K.Clock.state l.clock) l.initial.applier l.applier

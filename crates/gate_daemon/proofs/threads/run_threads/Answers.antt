@@ -1,20 +1,36 @@
-use Rattle.std.proofs.Common.{ℕ, ◌∷◌, length, Option, sym, ap, ◌∙◌, subst, refl}
+use Rattle.std.proofs.Common.{length, Option, sym, ap, ◌∙◌, subst, refl}
 use Rattle.std.specs.Prelude.{IsSome}
 use Rattle.gate_model.specs.declared.record.Moment.{Moment}
 use Rattle.gate_applier.specs.Applier.{ApplierView}
+use Rattle.gate_queue.specs.Client.{ClientState}
 use Rattle.gate_queue.specs.Gate.{GateId}
 use Rattle.gate_queue.specs.Taker.{TakerState}
-use Rattle.gate_worker.specs.Numbers.{numbers_after}
-use Rattle.gate_worker.specs.declared.worker.Cause.{Cause}
 use Rattle.gate_daemon.specs.Applying.{IsSameLog}
 use Rattle.gate_daemon.specs.inner.Joining.{IsApplied}
+use Rattle.gate_daemon.proofs.Ended.{at_some, joined_numbers}
+use Rattle.gate_daemon.proofs.Clocked.{shown_on}
 use Rattle.gate_daemon.proofs.threads.run_threads.Goals as goal
 
-pub returns-in-Some : goal.returns-in-Some
-returns-in-Some g c =
+pub run_workers-collected-requires-clause-new : goal.run_workers-collected-requires-clause-new
+run_workers-collected-requires-clause-new g c κs within = record {
+  all = c.requires.clients;
+  count = c.requires.each;
+  operators = ap (λ (x : ClientState). x.gate) c.requires.operator;
+  fresh = ap (λ (x : ClientState). x.queued) c.requires.operator;
+}
+
+pub returns-in-Some-clause-ended : goal.returns-in-Some-clause-ended
+returns-in-Some-clause-ended g c = at_some _ c.run_workers-collected.result.1 c.in-Some.operator c.in-Some.is c.run_workers-collected.ensures.ends.ended
+
+pub returns-in-Some-clause-shown : goal.returns-in-Some-clause-shown
+returns-in-Some-clause-shown g c =
+    shown_on g.K.Watch.shows c.in-Ok.applies.promise.clock.now c.args.shared.now.clock.now c.in-Ok.applies.promise.before.value c.args.start.applier c.join-taker.result.1
+    c.in-Ok.ensures.1 c.in-Ok.ensures.2 c.join-taker.ensures.2
+
+pub returns-in-Some-clause-joined : goal.returns-in-Some-clause-joined
+returns-in-Some-clause-joined g c =
     let end = c.join-taker.result in
     let known = c.learn.ensures.known in
-    let ends = c.run_workers-collected.ensures.ends in
     let kept = subst (λ (gate : GateId). IsApplied gate end.0 end.1) c.in-Ok.ensures.0 c.join-taker.ensures.0 in
     record {
       applied = record {
@@ -23,7 +39,9 @@ returns-in-Some g c =
         applied = kept.applied ∙ sym (ap (λ (t : TakerState). t.taken) known);
       };
       known_close = subst (λ (k : Option Moment). IsSome k) (sym (ap (λ (t : TakerState). t.known_close) known)) refl;
-      same = subst (λ (a : ApplierView). IsSameLog a end.1) c.in-Ok.ensures.1 c.join-taker.ensures.1;
-      all = ends.all (subst (λ (cause : Option Cause). IsSome cause) (sym c.in-Some.is) refl) ∙ ap (λ (k : ℕ). k ∷ numbers_after 0 (length c.args.start.workers.clients.items)) c.requires.last;
-      gates = ends.gates;
+      same = subst (λ (a : ApplierView). IsSameLog a end.1) c.in-Ok.ensures.2 c.join-taker.ensures.1;
+      all = joined_numbers c.args.start.workers.endpoints.items (λ endpoint. g.A.Connections.streams endpoint.connections) c.args.shared.now.limits c.args.shared.now.gate.now
+          (length c.args.start.workers.clients.items) _ c.args.start.workers.operator c.in-Some.operator c.run_workers-collected.result.0.ended.items _
+          (returns-in-Some-clause-ended g c) c.requires.each c.requires.operator;
+      gates = c.run_workers-collected.ensures.ends.gates;
     }

@@ -1,8 +1,10 @@
-use Rattle.std.proofs.Common.{◌≡◌, ◌+◌, ◌≤◌, [], ◌∷◌, ◌++◌, length, length-append, sym, ap, ◌∙◌, subst, arith}
+use Rattle.std.proofs.Common.{◌≡◌, ◌+◌, ℕ, suc, [], ◌∷◌, ◌++◌, length, length-append, None, sym, ap, ◌∙◌, subst, arith}
+use Rattle.std.proofs.lemmas.List.{length-map}
 use Rattle.std.proofs.lemmas.List.Elements.{All-push}
-use Rattle.gate_queue.specs.Client.{ClientState}
+use Rattle.gate_queue.specs.Client.{ClientState, client_state}
 use Rattle.gate_daemon.specs.inner.Collecting.{AreOf}
-use Rattle.gate_daemon.proofs.Clients.{last_client, all_ended}
+use Rattle.gate_daemon.proofs.Clients.{last_client}
+use Rattle.gate_daemon.proofs.Ended.{collected_next, ended_as}
 use Rattle.gate_daemon.proofs.workers.+run_workers.Goals as goal
 
 pub start_worker-requires-clause-gate : goal.start_worker-requires-clause-gate
@@ -34,19 +36,31 @@ returns-in-Ok-clause-ends g t c =
     let gate = c.args.shared.now.gate.now in
     let clients = c.args.workers.clients.items in
     let rest = c.pop.new.self.items in
+    let agents = c.args.workers.endpoints.items in
+    let others = c.pop-2.new.self.items in
     let before = c.run_workers-collected.result.0.ended.items in
     let ends = c.run_workers-collected.ensures.ends in
     let a : length clients ≡ length (rest ++ c.in-Some.client ∷ []) = ap length c.in-Some.ensures.items in
     let b : length (rest ++ c.in-Some.client ∷ []) ≡ length rest + 1 = length-append rest (c.in-Some.client ∷ []) in
     let d : length c.add.new.self.ended.items ≡ length (before ++ c.join.result.ended ∷ []) = ap length c.add.ensures.ended in
     let e : length (before ++ c.join.result.ended ∷ []) ≡ length before + 1 = length-append before (c.join.result.ended ∷ []) in
-    let few : length before ≤ length rest + 1 = ends.few in
+    let f : length agents ≡ length (others ++ c.in-Some-pop.endpoint ∷ []) = ap length c.in-Some-pop.ensures.items in
+    let h : length (others ++ c.in-Some-pop.endpoint ∷ []) ≡ length others + 1 = length-append others (c.in-Some-pop.endpoint ∷ []) in
+    let same : length agents ≡ length clients = c.requires.new.count in
+    let count : length rest ≡ length others = omega arith in
+    let sent = length-map agents (λ endpoint. g.A.Connections.streams endpoint.connections) in
+    let sent_others = length-map others (λ endpoint. g.A.Connections.streams endpoint.connections) in
+    let last = (last_client gate clients rest c.in-Some.client c.requires.new.all c.in-Some.ensures.items).0 in
     record {
-      all = λ all. all_ended gate clients rest before c.add.new.self.ended.items c.in-Some.client c.join.result.ended c.args.workers.operator.number
-          c.requires.new.all c.in-Some.ensures.items (c.join.ensures.1 ∙ c.in-Ok.ensures.1) c.add.ensures.ended (ends.all all);
-      few = omega arith;
+      ended = collected_next agents others c.in-Some-pop.endpoint (λ endpoint. g.A.Connections.streams endpoint.connections) c.args.shared.now.limits gate _ _
+          c.run_workers-collected.result.1 before c.add.new.self.ended.items _ _ c.join.result.ended c.join.result.reports.items c.join.result.cause
+          c.in-Some-pop.ensures.items c.add.ensures.ended c.add.ensures.reports
+          (ended_as c.join.ensures c.in-Ok.ensures.role c.in-Ok.ensures.limits (ap g.A.Connections.streams c.in-Ok.ensures.connections)
+          (c.in-Ok.ensures.client ∙ last ∙ ap (λ (n : ℕ). client_state gate (suc n) [] None) count))
+          ends.ended;
+      few = omega (arith, ends.few, sent, sent_others);
       gates = subst (AreOf gate) (sym c.add.ensures.ended)
-          (All-push (λ (e : ClientState). e.gate ≡ gate) before c.join.result.ended ends.gates (c.join.ensures.0 ∙ c.in-Ok.ensures.0));
+          (All-push (λ (e : ClientState). e.gate ≡ gate) before c.join.result.ended ends.gates (c.join.ensures.0 ∙ ap (λ (x : ClientState). x.gate) c.in-Ok.ensures.client ∙ ap (λ (x : ClientState). x.gate) last));
       ended_room = c.add.ensures.room.0 ∙ ends.ended_room;
       reports_room = c.add.ensures.room.1 ∙ ends.reports_room;
     }
