@@ -1,9 +1,9 @@
 ghost use Rattle.std.specs.Prelude.{◌≡◌, ◌≤◌, length, IfErr, IfOk, IfSome, IsOk, None, OnOk};
 ghost use Rattle.gate_reader.specs.Sink.{SinkState, Delivers};
-ghost use Rattle.gate_daemon.specs.Answered.{queued_by_each};
+ghost use Rattle.gate_daemon.specs.Answered.{reports_of_each};
 ghost use Rattle.gate_serve.specs.BeforeServing.{IsWriteEnd};
 ghost use Rattle.gate_serve.specs.Serve.{page_of};
-ghost use Rattle.gate_serve.specs.inner.Serving.{HasStopped, IsCloseEnd, IsFaultOf, IsPageGiven, IsRunEnd, IsStopCause, IsWholeEnd, fault_after, queued_after};
+ghost use Rattle.gate_serve.specs.inner.Serving.{HasStopped, IsCloseEnd, IsFaultOf, IsPageGiven, IsRunEnd, IsStopCause, IsWholeEnd, fault_after, reports_after};
 
 use crate::announcing::print;
 use crate::fault::ServeFault;
@@ -92,7 +92,7 @@ pub(crate) fn end<W: Sink>(
 ) -> Served
     requires { IfErr ran HasStopped }
     ensures finished { result.fault ≡ None → IsOk ran }
-    ensures reports { queued_by_each result.reports.items ≡ queued_after ran }
+    ensures reports { reports_of_each result.reports.items ≡ reports_after ran }
     ensures printed { IfOk ran (λ finished. result.fault ≡ None
         → (fault_after finished.operator ≡ None) × IsPageGiven finished.closed.applier
         (W.state output.old) (W.state output.new)) }

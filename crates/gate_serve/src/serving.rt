@@ -1,10 +1,9 @@
 ghost use Rattle.std.specs.Prelude.{◌≡◌, ℕ, List, IfErr, IfOk, vec_len};
-ghost use Rattle.gate_close.specs.DrainedClose.{items_of_records};
-ghost use Rattle.gate_daemon.specs.Answered.{queued_by_each, HoldsAll};
+ghost use Rattle.gate_daemon.specs.Answered.{reports_of_each};
 ghost use Rattle.gate_daemon.specs.Faults.{IsGatewayFault};
 ghost use Rattle.gate_serve.specs.BeforeServing.{AreBoundAs, Configures};
-ghost use Rattle.gate_serve.specs.Serve.{ServeEnds, IsServeRun};
-ghost use Rattle.gate_serve.specs.inner.Serving.{RunsOn};
+ghost use Rattle.gate_serve.specs.Serve.{ServeEnds, IsServeRun, worker_limits};
+ghost use Rattle.gate_serve.specs.inner.Serving.{HasRun, RunsOn};
 
 use crate::announcing::announce;
 use crate::configuring::configuration;
@@ -14,7 +13,9 @@ use crate::served::{Served, without_reports};
 use gate_config::{Config, Limits};
 use gate_daemon::{Endpoint, Endpoints, Finished, GatewayFault, GatewaySettings, run_gateway};
 use gate_model::ObjectTable;
-use gate_ports::{AgentConnections, AgentsPort, Ports, SystemWatch};
+use gate_ports::{
+    AgentConnections, AgentsPort, OperatorConnections, Ports, ReaderConnections, SystemWatch,
+};
 use gate_reader::{SessionLimits, Sink, end_with};
 use gate_worker::{NoHold, WorkerLimits};
 use std::alloc::{AllocError, Global};
@@ -29,10 +30,7 @@ fn gateway_settings(workers: u32, limits: Limits, table: ObjectTable) -> Gateway
     ensures workers { result.workers ≡ workers }
     ensures capacity { result.capacity ≡ limits.capacity }
     ensures limit { result.limit ≡ limits.limit }
-    ensures sessions { result.worker.sessions ≡ limits.sessions }
-    ensures items { result.worker.session.items ≡ limits.items }
-    ensures reads { result.worker.session.reads ≡ limits.reads }
-    ensures greatest_age { result.worker.greatest_age ≡ limits.greatest_age }
+    ensures worker { result.worker ≡ worker_limits limits }
     ensures table { result.table ≡ table }
 {
     GatewaySettings {
@@ -81,15 +79,17 @@ fn run<R: Net<Listener = TcpListener, Stream = TcpStream> + Threads + Wait + Clo
     config: Config,
     ports: Ports,
 ) -> Result<Finished, GatewayFault>
-    ensures holds { IfOk result (λ finished. HoldsAll config.workers
-        (queued_by_each finished.reports.items)
-        (items_of_records finished.closed.applier.records)) }
-    ensures table { IfOk result (λ finished. finished.closed.applier.table ≡ config.table) }
-    ensures limit { IfOk result (λ finished. finished.closed.applier.limit ≡ config.limits.limit) }
+    ensures ran { IfOk result (HasRun config) }
     ensures fault { IfErr result
         (IsGatewayFault config.workers config.limits.capacity config.limits.limit config.table) }
 {
-    let endpoints = Endpoints {
+    // Its type keeps each port to its own peers.
+    let endpoints: Endpoints<
+        AgentConnections<'_, R>,
+        OperatorConnections<'_, R>,
+        ReaderConnections<'_, R>,
+        NoHold,
+    > = Endpoints {
         agents: agents_endpoints(rt, alloc, &ports.agents, config.workers)?,
         operator: endpoint(ports.operators.connections(rt)),
         pages: ports.pages.connections(rt),
@@ -106,7 +106,7 @@ fn serve_on<
 >(rt: &R, alloc: Global, config: Config, listening: Listening, output: &mut W) -> Served
     requires bound { AreBoundAs config listening.agents listening.operators listening.pages }
     ensures { RunsOn config (W.state output.old) (W.state output.new)
-        (queued_by_each result.reports.items) result.fault }
+        (reports_of_each result.reports.items) result.fault }
 {
     let Listening {
         ports,
@@ -146,7 +146,7 @@ pub fn serve<
     W: Sink,
 >(rt: &R, alloc: Global, path: &str, output: &mut W) -> Served
     ensures { ServeEnds (W.state output.old) (W.state output.new)
-        (queued_by_each result.reports.items) result.fault }
+        (reports_of_each result.reports.items) result.fault }
 {
     let config = match configuration(rt, alloc, path) {
         Ok(config) => config,

@@ -1,12 +1,15 @@
 -- Only proofs and private functions use this: how the steps of a daemon fail.
-use Rattle.std.specs.Prelude.{◌≡◌, ◌⊎◌, ◌≤◌, ℕ, List, [], length, Option, Some, None, Result, Ok, Err}
+use Rattle.std.specs.Prelude.{◌≡◌, ◌⊎◌, ◌≤◌, ℕ, List, [], length, replicate, Option, Some, None, Result, Ok, Err}
 use Rattle.gate_reader.specs.Sink.{SinkState, Delivers, FailsOnce}
 use Rattle.gate_applier.specs.Applier.{ApplierView}
 use Rattle.gate_close.specs.declared.drained_close.CloseAllCause.{CloseAllCause}
 use Rattle.gate_close.specs.declared.drained_close.CloseAllCause.TheVariants as cause
 use Rattle.gate_worker.specs.declared.worker.Cause.{Cause}
 use Rattle.gate_worker.specs.declared.worker.Cause.TheVariants as worker
-use Rattle.gate_daemon.specs.Answered.{queued_by_each}
+use Rattle.gate_reader.specs.declared.report.Report.{Report}
+use Rattle.gate_daemon.specs.Answered.{reports_of_each, queued_by_each, HoldsAll}
+use Rattle.gate_daemon.specs.Served.{AllServed}
+use Rattle.gate_close.specs.DrainedClose.{items_of_records}
 use Rattle.gate_daemon.specs.declared.gateway.Finished.{Finished}
 use Rattle.gate_daemon.specs.declared.gateway.GatewayFault.{GatewayFault}
 use Rattle.gate_daemon.specs.declared.gateway.GatewayFault.TheVariants as gateway_fault
@@ -14,7 +17,7 @@ use Rattle.gate_config.specs.declared.config.Config.{Config}
 use Rattle.gate_serve.specs.declared.fault.ServeFault.{ServeFault}
 use Rattle.gate_serve.specs.declared.fault.ServeFault.TheVariants.{LogFull, OutOfMemory, Spawn, WriteFault}
 use Rattle.gate_serve.specs.BeforeServing.{IsWriteEnd}
-use Rattle.gate_serve.specs.Serve.{page_of, FollowsAddresses, IsRun, IsFull, IsStarved}
+use Rattle.gate_serve.specs.Serve.{page_of, worker_limits, FollowsAddresses, IsRun, IsFull, IsStarved}
 
 -- why a gateway may not have applied all
 abbrev pub IsStopCause : CloseAllCause → Type 0
@@ -33,11 +36,20 @@ abbrev pub HasStopped : GatewayFault → Type 0
 HasStopped (gateway_fault.CloseAll gate drain reports) = IsStopCause drain.cause
 HasStopped _ = Unit {0}
 
--- what the clients of a gateway that has ended were answered is queued, as far as it is known
-abbrev pub queued_after : Result Finished GatewayFault → List (ℕ × List ℕ)
-queued_after (Ok finished) = queued_by_each finished.reports.items
-queued_after (Err (gateway_fault.CloseAll gate drain reports)) = queued_by_each reports.items
-queued_after (Err _) = []
+-- the reports of the clients of a gateway that has ended, as far as they are known
+abbrev pub reports_after : Result Finished GatewayFault → List (ℕ × List Report)
+reports_after (Ok finished) = reports_of_each finished.reports.items
+reports_after (Err (gateway_fault.CloseAll gate drain reports)) = reports_of_each reports.items
+reports_after (Err _) = []
+
+-- a gateway of this configuration applied all that was queued
+pub record HasRun (config : Config) (finished : Finished) : Type 0 where
+  pub holds : HoldsAll config.workers (queued_by_each (reports_of_each finished.reports.items))
+      (items_of_records finished.closed.applier.records)
+  pub served : AllServed (worker_limits config.limits) (replicate config.workers None) None
+      (reports_of_each finished.reports.items) finished.operator (items_of_records finished.closed.applier.records)
+  pub table : finished.closed.applier.table ≡ config.table
+  pub limit : finished.closed.applier.limit ≡ config.limits.limit
 
 -- the log page of this applier was printed
 pub record IsPageGiven (applier : ApplierView) (before after : SinkState) : Type 0 where
@@ -79,13 +91,12 @@ IsRunEnd (Err (gateway_fault.CloseAll gate drain reports)) before after found =
     IsCloseEnd drain.cause drain.applier before after found
 IsRunEnd (Err _) before after found = IsLoglessEnd before after found
 
--- a daemon of this configuration, whose clients were answered that these numbers are queued, ended without a fault or
--- with this one
-abbrev pub RunsOn : Config → SinkState → SinkState → List (ℕ × List ℕ) → Option ServeFault → Type 0
-RunsOn config before after queued None = IsRun config queued before after
-RunsOn config before after queued (Some LogFull) = IsFull config queued before after
-RunsOn config before after queued (Some OutOfMemory) =
-    (after ≡ before) ⊎ FailsOnce before after ⊎ IsStarved config queued before after
-RunsOn config before after queued (Some Spawn) = FollowsAddresses config before after []
-RunsOn config before after queued (Some WriteFault) = FailsOnce before after
-RunsOn config before after queued (Some _) = ⊥
+-- a daemon of this configuration, whose clients have these reports, ended without a fault or with this one
+abbrev pub RunsOn : Config → SinkState → SinkState → List (ℕ × List Report) → Option ServeFault → Type 0
+RunsOn config before after reports None = IsRun config reports before after
+RunsOn config before after reports (Some LogFull) = IsFull config reports before after
+RunsOn config before after reports (Some OutOfMemory) =
+    (after ≡ before) ⊎ FailsOnce before after ⊎ IsStarved config reports before after
+RunsOn config before after reports (Some Spawn) = FollowsAddresses config before after []
+RunsOn config before after reports (Some WriteFault) = FailsOnce before after
+RunsOn config before after reports (Some _) = ⊥

@@ -1,15 +1,14 @@
-use Rattle.std.proofs.Common.{ℕ, subst}
-use Rattle.std.proofs.lemmas.Result.{IfOk-weaker}
-use Rattle.gate_close.specs.DrainedClose.{items_of_records}
-use Rattle.gate_daemon.specs.Answered.{queued_by_each, HoldsAll}
-use Rattle.gate_serve.proofs.Steps.{faults_of}
+use Rattle.std.proofs.Common.{None, sym, ◌∙◌}
+use Rattle.std.proofs.lemmas.Simd.{splat_is_map}
+use Rattle.gate_serve.proofs.Steps.{faults_of, has_run}
 use Rattle.gate_serve.proofs.serving.run.Goals as goal
 
-pub returns-clause-holds : goal.returns-clause-holds
-returns-clause-holds g c =
-    IfOk-weaker c.run_gateway.result _ _
-    (λ finished holds. subst (λ (n : ℕ). HoldsAll n (queued_by_each finished.reports.items) (items_of_records finished.closed.applier.records)) c.gateway_settings-settings.ensures.workers holds)
-    c.run_gateway.ensures.holds
+pub returns-clause-ran : goal.returns-clause-ran
+returns-clause-ran g c =
+    let made = c.gateway_settings-settings in
+    let agents = c.in_ok-agents_endpoints.field-0 in
+    has_run c.run_gateway.result c.args.config made.result (splat_is_map agents.items c.args.config.workers None (sym agents.ok.0 ∙ c.in_ok-agents_endpoints.ensures))
+    made.ensures.workers made.ensures.worker made.ensures.table made.ensures.limit c.run_gateway.ensures.holds c.run_gateway.ensures.served c.run_gateway.ensures.table c.run_gateway.ensures.limit
 
 pub returns-clause-fault : goal.returns-clause-fault
 returns-clause-fault g c =

@@ -1,5 +1,6 @@
 use Rattle.std.proofs.Common.{ℕ, List, sym, subst}
 use Rattle.std.proofs.lemmas.Result.{IfErr-weaker}
+use Rattle.gate_reader.specs.declared.report.Report.{Report}
 use Rattle.gate_serve.specs.inner.Serving.{RunsOn}
 use Rattle.gate_serve.proofs.Steps.{announced, ends_on, has_stopped}
 use Rattle.gate_serve.proofs.serving.serve_on.Goals as goal
@@ -13,7 +14,7 @@ pub returns-in-Ok : goal.returns-in-Ok
 returns-in-Ok g c =
     let state = g.W.Sink.state in
     let bound = c.args.listening in
-    subst (λ (queued : List (ℕ × List ℕ)). RunsOn c.args.config (state c.args.output.now) (state c.end.new.output) queued c.end.result.fault) (sym c.end.ensures.reports)
+    subst (λ (reports : List (ℕ × List Report)). RunsOn c.args.config (state c.args.output.now) (state c.end.new.output) reports c.end.result.fault) (sym c.end.ensures.reports)
     (ends_on c.run-ran.result c.end.result.fault c.args.config (state c.args.output.now) (state c.announce.new.output) (state c.end.new.output)
     (announced c.args.config bound.agents bound.operators bound.pages (state c.args.output.now) (state c.announce.new.output) c.requires.bound c.in-Ok.ensures.ok)
-    c.run-ran.ensures.holds c.run-ran.ensures.table c.run-ran.ensures.limit c.run-ran.ensures.fault c.end.ensures.finished c.end.ensures.printed c.end.ensures.err)
+    c.run-ran.ensures.ran c.run-ran.ensures.fault c.end.ensures.finished c.end.ensures.printed c.end.ensures.err)
