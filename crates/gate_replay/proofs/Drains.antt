@@ -13,7 +13,7 @@ use Rattle.gate_replay.specs.declared.player.Player.{Player}
 use Rattle.gate_replay.specs.declared.player.Stopped.{Stopped}
 use Rattle.gate_replay.specs.declared.player.Stopped.TheVariants as stopped
 use Rattle.gate_replay.specs.ReplayState.{ReplayState, records_item, drains, number_queued, Finishes, BeginsDrain}
-use Rattle.gate_replay.specs.inner.Playing.{SoloView, Extends, IsEnded, Setting, Shows, FindsFull, Takes, TakesItem, TakesNothing, Drains, DrainsFull, DrainsPart, Stays, Ends, StopsPreparing, StopsTaking, StopsDraining}
+use Rattle.gate_replay.specs.inner.Playing.{SoloView, Extends, IsEnded, Setting, Shows, FindsFull, Takes, TakesItem, TakesNothing, DrainsTo, DrainsFrom, Stays, Ends, StopsPreparing, StopsTaking, StopsDraining}
 
 -- whatever is so of a drain from g is so of one from start
 abbrev pub Leads : (List (Option Numbered) → ReplayState → Type 0) → ReplayState → ReplayState → Type 0
@@ -49,7 +49,7 @@ below_limit view s now output g h few room =
     omega (arith, there, h.applier.limit, ap length h.applier.records)
 
 -- no item is left
-pub drains_none : {D : Type 0} (view : SoloView D) (was now : Player D) → now.queued ≤ length now.applier.records → DrainsOn view was now → (s : Setting) (output : SinkState) (g : ReplayState) → Shows view s was output g → Drains view s now output g
+pub drains_none : {D : Type 0} (view : SoloView D) (was now : Player D) → now.queued ≤ length now.applier.records → DrainsOn view was now → DrainsFrom view was now
 drains_none {D} view was now none on s output g h =
     let r : Reaches view s now output g = on s output g h in
     let zero_left : number_queued r.g.run ≤ length r.g.records = omega (arith, none, r.shows.queued, ap length r.shows.applier.records) in
@@ -57,8 +57,8 @@ drains_none {D} view was now none on s output g h =
     let same : drains [] r.g ≡ record r.g { full = false } = ap (λ b. record r.g { full = b }) (not_left (length r.g.records) (number_queued r.g.run) zero_left) in
     record {
       takes = more.0;
-      finishes = more.1;
-      shows = subst (λ (x : ReplayState). Shows view s now output x) (sym (more.2 ∙ same)) (record {
+      whole = more.1;
+      ends = subst (λ (x : ReplayState). Shows view s now output x) (sym (more.2 ∙ same)) (record {
         holds = r.shows.holds;
         applier = record { table = r.shows.applier.table; opening = r.shows.applier.opening; limit = r.shows.applier.limit; records = r.shows.applier.records };
         moment = r.shows.moment;
@@ -72,7 +72,7 @@ drains_none {D} view was now none on s output g h =
 
 -- the log is full, and an item is left
 pub drains_full : {D E : Type 0} (view : SoloView D) (ended : SoloView E) (was now : Player D) (kept : ApplierView) → length now.applier.records < now.queued → FindsFull view ended now kept → DrainsOn view was now
-    → (s : Setting) (output : SinkState) (g : ReplayState) → Shows view s was output g → DrainsFull ended s kept output g
+    → (s : Setting) (output : SinkState) (g : ReplayState) → Shows view s was output g → DrainsTo Finishes (Ends ended s kept output) s.setup.limit g
 drains_full {D} view ended was now kept some found on s output g h =
     let r : Reaches view s now output g = on s output g h in
     let left : length r.g.records < number_queued r.g.run = left_in view s now output r.g r.shows some in
@@ -81,7 +81,7 @@ drains_full {D} view ended was now kept some found on s output g h =
     let same : drains [] r.g ≡ record r.g { full = true } = ap (λ b. record r.g { full = b }) (is_left (length r.g.records) (number_queued r.g.run) left) in
     record {
       takes = more.0;
-      finishes = more.1;
+      whole = more.1;
       ends = subst (λ (x : ReplayState). Ends ended s kept output x) (sym (more.2 ∙ same)) (record {
         kept = record { queue = found.is_ended.rest; after = found.is_ended.after r.g.run r.shows.holds.after; limits_are = found.is_ended.limits_are ∙ r.shows.holds.limits };
         shown = record {
@@ -97,15 +97,15 @@ drains_full {D} view ended was now kept some found on s output g h =
 
 -- a take found nothing
 pub drains_missed : {D : Type 0} (view : SoloView D) (was now next : Player D) → length now.applier.records < now.queued → length now.applier.records ≤ now.applier.limit → Takes view now next false → DrainsOn view was now
-    → (s : Setting) (output : SinkState) (g : ReplayState) → Shows view s was output g → Drains view s next output g
+    → DrainsFrom view was next
 drains_missed {D} view was now next some few t on s output g h =
     let r : Reaches view s now output g = on s output g h in
     let nothing : TakesNothing view now next = t.turn in
     let more = r.leads (None ∷ []) (left_in view s now output r.g r.shows some, below_limit view s now output r.g r.shows few t.room, refl) in
     record {
       takes = more.0;
-      finishes = more.1;
-      shows = subst (λ (x : ReplayState). Shows view s next output x) (sym more.2) (record {
+      whole = more.1;
+      ends = subst (λ (x : ReplayState). Shows view s next output x) (sym more.2) (record {
         holds = record {
           after = nothing.taken r.g.run r.shows.holds.after;
           limits = t.limits ∙ r.shows.holds.limits;
@@ -221,14 +221,14 @@ takes_false {D} view was now found e t = subst (λ (b : Bool). Takes view was no
 
 -- memory ran out for a take
 drains_part : {D : Type 0} (view : SoloView D) (was now : Player D) (kept : ApplierView) → kept ≡ now.applier → length now.applier.records ≤ now.applier.limit → length now.applier.records ≢ now.applier.limit → DrainsOn view was now
-    → (s : Setting) (output : SinkState) (g : ReplayState) → Shows view s was output g → DrainsPart view s kept output g
+    → (s : Setting) (output : SinkState) (g : ReplayState) → Shows view s was output g → DrainsTo BeginsDrain (Stays view s kept output) s.setup.limit g
 drains_part {D} view was now kept is few room on s output g h =
     let r : Reaches view s now output g = on s output g h in
     let more = r.begins [] tt in
     record {
       takes = more.0;
-      begins = more.1;
-      stays = subst (λ (x : ReplayState). Stays view s kept output x) (sym more.2) (record {
+      whole = more.1;
+      ends = subst (λ (x : ReplayState). Stays view s kept output x) (sym more.2) (record {
         stood = record { queue = now.queue; after = r.shows.holds.after; limits_are = r.shows.holds.limits };
         shown = record {
           table = ap (λ (a : ApplierView). a.table) is ∙ r.shows.applier.table;

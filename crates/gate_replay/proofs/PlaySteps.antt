@@ -15,6 +15,7 @@ use Rattle.gate_solo.specs.Allowed.{IsAllowed}
 use Rattle.gate_applier.specs.Applier.{ApplierView}
 use Rattle.gate_pages.specs.StatusPage.{status_text_at}
 use Rattle.gate_reader.specs.declared.report.Answer.{Answer}
+use Rattle.gate_reader.specs.declared.report.Report.{Report}
 use Rattle.gate_reader.specs.Report.{answer_line}
 use Rattle.gate_reader.specs.Sink.{SinkState, Fails, Writes}
 use Rattle.gate_replay.specs.declared.fault.ReplayFault.{ReplayFault}
@@ -25,9 +26,9 @@ use Rattle.gate_replay.specs.declared.player.Stopped.TheVariants as stopped
 use Rattle.gate_replay.specs.declared.script.Step.{Step}
 use Rattle.gate_replay.specs.declared.script.Step.TheVariants as step
 use Rattle.gate_replay.specs.declared.setup.Setup.{Setup}
-use Rattle.gate_replay.specs.ReplayState.{ReplayState, Heard, body_of_line, carries_out, is_session, serves, drains, plays, state_after, steps_of, records_item, Finishes, IsWhole, BeginsDrain, IsWholeSoFar}
-use Rattle.gate_replay.specs.inner.Sessions.{queued_in, Answers, AnswersStep}
-use Rattle.gate_replay.specs.inner.Playing.{SoloView, Setting, setting, Shows, IsNew, IsUnderWay, IsReady, Serves, Drains, DrainsFull, Ends, Stays, DrainsPart, Plays, PlaysFull, PlaysPart, PlayedTo, PlayedFull, PlayedPart, IsWriteEnd, StopsBy, ServesFrom, StopsServing, StopsDraining}
+use Rattle.gate_replay.specs.ReplayState.{ReplayState, Heard, prints, asks, body_of_line, carries_out, is_session, serves, drains, plays, state_after, steps_of, records_item, Finishes, IsWholeStep, IsWhole, BeginsDrain, IsBegunStep, IsWholeSoFar}
+use Rattle.gate_replay.specs.inner.Sessions.{queued_in, HasOnly, PrintsAnswer, Answers, AnswersStep}
+use Rattle.gate_replay.specs.inner.Playing.{SoloView, Setting, setting, ShowsRecords, Shows, IsNew, IsUnderWay, IsReady, Ends, Stays, DrainsTo, PlaysTo, PlayedTo, PlayedPart, IsWriteEnd, StopsBy, StopsBefore, PlaysFrom, StopsPlaying, StopsAll, DrainsFrom, StopsDraining}
 use Rattle.gate_reader.proofs.Outputs.{fails_then, writes_none, writes_on}
 use Rattle.gate_replay.proofs.SoloSteps.{queued_few, holds_same}
 
@@ -36,74 +37,81 @@ nothing_heard takes = record { reply = Ok 0; closed = None; takes = takes }
 
 -- ---- one step without its drain
 
-pub serves_clock : {D : Type 0} (view : SoloView D) (was now : Player D) (clock : Moment) (output : SinkState) → now.queue ≡ was.queue → now.applier ≡ was.applier → now.clock ≡ clock → now.age ≡ was.age → now.queued ≡ was.queued
-    → (s : Setting) (g : ReplayState) → Shows view s was output g → Serves view s now output (step.Clock clock) g
-serves_clock {D} view was now clock output queue applier clock_is age queued s g h = record {
+-- the step was served, without its drain
+pub record Serves {D : Type 0} (view : SoloView D) (s : Setting) (player : Player D) (output : SinkState) (step : Step) (g : ReplayState) : Type 0 where
+  pub heard : Heard
+  pub shows : (takes : List (Option Numbered)) → Shows view s player output (serves s.setup step (record heard { takes = takes }) g)
+
+-- the player, from whatever state of the gateway it had come to, served the step
+abbrev pub ServesFrom : {D : Type 0} → SoloView D → Player D → SinkState → Step → Player D → SinkState → Type 0
+ServesFrom view was before step now after = (s : Setting) (g : ReplayState) → Shows view s was before g → Serves view s now after step g
+
+-- an applier that has the same records shows those of a gateway that has the same
+records_on : (setup : Setup) (applier kept : ApplierView) (g h : ReplayState) → kept ≡ record applier { moment = kept.moment; room = kept.room } → h.records ≡ g.records → ShowsRecords setup applier g → ShowsRecords setup kept h
+records_on setup applier kept g h is same shown = record {
+  table = ap (λ (v : ApplierView). v.table) is ∙ shown.table;
+  opening = ap (λ (v : ApplierView). v.opening) is ∙ shown.opening;
+  limit = ap (λ (v : ApplierView). v.limit) is ∙ shown.limit;
+  records = ap (λ (v : ApplierView). v.records) is ∙ shown.records ∙ sym same;
+}
+
+serves_clock : {D : Type 0} (view : SoloView D) (was : Player D) (clock : Moment) (output : SinkState) → ServesFrom view was output (step.Clock clock) (record was { clock = clock }) output
+serves_clock {D} view was clock output s g h = record {
   heard = nothing_heard [];
   shows = λ takes. record {
-    holds = holds_same view s.setup was.queue now.queue g.run queue h.holds;
-    applier = rw applier (record { table = h.applier.table; opening = h.applier.opening; limit = h.applier.limit; records = h.applier.records });
-    moment = rw applier h.moment;
-    clock = clock_is;
-    age = age ∙ h.age;
-    queued = queued ∙ h.queued;
+    holds = record { after = h.holds.after; limits = h.holds.limits };
+    applier = records_on s.setup was.applier was.applier g (record g { clock = clock }) refl refl h.applier;
+    moment = h.moment;
+    clock = refl;
+    age = h.age;
+    queued = h.queued;
     printed = h.printed;
     running = h.running;
   };
 }
 
-pub serves_session : {D : Type 0} (view : SoloView D) (was now : Player D) (before after : SinkState) (step : Step) (a : Answer) → AnswersStep view was.queue was.age was.clock now.queue step a → Writes before after (answer_line a)
-    → now.applier ≡ was.applier → now.clock ≡ was.clock → now.age ≡ was.age → now.queued ≡ was.queued + queued_in a
-    → (s : Setting) (g : ReplayState) → Shows view s was before g → Serves view s now after step g
-serves_session {D} view was now before after step a answers printed applier clock age queued s g h =
-    let x : Answers view s.setup now.queue step a g = answers s.setup g h.holds h.clock h.age in
+-- a session of the queue was answered, and its answer printed
+pub serves_session : {D : Type 0} (view : SoloView D) (was now : Player D) (queue : D) (report : Report) (before after : SinkState) (step : Step)
+    → ((answer : Answer) → HasOnly report answer → AnswersStep view was.queue was.age was.clock queue step answer)
+    → PrintsAnswer report (record was { queue = queue }) now before after → ServesFrom view was before step now after
+serves_session {D} view was now queue report before after step answers p s g h =
+    let a = p.answer in
+    let x : Answers view s.setup queue step a g = answers a p.only s.setup g h.holds h.clock h.age in
     record {
       heard = x.heard;
-      shows = λ takes. subst (λ (v : ReplayState). Shows view s now after v) (sym (x.does takes)) (record {
-        holds = x.holds;
-        applier = record {
-          table = ap (λ (v : ApplierView). v.table) applier ∙ h.applier.table;
-          opening = ap (λ (v : ApplierView). v.opening) applier ∙ h.applier.opening;
-          limit = ap (λ (v : ApplierView). v.limit) applier ∙ h.applier.limit;
-          records = ap (λ (v : ApplierView). v.records) applier ∙ h.applier.records;
-        };
-        moment = ap (λ (v : ApplierView). v.moment) applier ∙ h.moment;
-        clock = clock ∙ h.clock;
-        age = age ∙ h.age;
-        queued = queued ∙ ap (λ n. n + queued_in a) h.queued ∙ sym x.counted;
-        printed = writes_on s.base before after g.printed (answer_line a) h.printed printed;
+      shows = λ takes. subst (λ (v : ReplayState). Shows view s now after v) (sym (x.does takes)) (subst (λ (player : Player D). Shows view s player after (prints (answer_line a) (asks x.pairs g))) (sym p.same) (record {
+        holds = record { after = x.holds.after; limits = x.holds.limits };
+        applier = records_on s.setup was.applier was.applier g (prints (answer_line a) (asks x.pairs g)) refl refl h.applier;
+        moment = h.moment;
+        clock = h.clock;
+        age = h.age;
+        queued = ap (λ n. n + queued_in a) h.queued ∙ sym x.counted;
+        printed = writes_on s.base before after g.printed (answer_line a) h.printed p.printed;
         running = h.running;
-      });
+      }));
     }
 
-pub serves_page : {D : Type 0} (view : SoloView D) (was now : Player D) (before after : SinkState) → now.queue ≡ was.queue → now.applier.table ≡ was.applier.table → now.applier.opening ≡ was.applier.opening → now.applier.limit ≡ was.applier.limit
-    → now.applier.records ≡ was.applier.records → now.applier.moment ≡ later was.applier.moment was.clock → now.clock ≡ was.clock → now.age ≡ was.age → now.queued ≡ was.queued
-    → Writes before after (status_text_at now.applier.table now.applier.opening now.applier.records now.applier.moment)
-    → (s : Setting) (g : ReplayState) → Shows view s was before g → Serves view s now after step.Page g
-serves_page {D} view was now before after queue table opening limit records moment clock age queued printed s g h =
-    let table_is : now.applier.table ≡ s.setup.table = table ∙ h.applier.table in
-    let opening_is : now.applier.opening ≡ s.setup.moment = opening ∙ h.applier.opening in
-    let records_are : now.applier.records ≡ g.records = records ∙ h.applier.records in
-    let moment_is : now.applier.moment ≡ later g.moment g.clock = moment ∙ cc (h.moment, h.clock) in
-    let text : status_text_at now.applier.table now.applier.opening now.applier.records now.applier.moment ≡ status_text_at s.setup.table s.setup.moment g.records (later g.moment g.clock) =
-    rw (table_is, opening_is, records_are, moment_is) refl in
+serves_page : {D : Type 0} (view : SoloView D) (was : Player D) (applier : ApplierView) (before after : SinkState) → applier ≡ record was.applier { moment = applier.moment; room = applier.room } → applier.moment ≡ later was.applier.moment was.clock
+    → Writes before after (status_text_at applier.table applier.opening applier.records applier.moment)
+    → ServesFrom view was before step.Page (record was { applier = applier }) after
+serves_page {D} view was applier before after same moment printed s g h =
+    let shown = records_on s.setup was.applier applier g g same refl h.applier in
+    let moment_is : applier.moment ≡ later g.moment g.clock = moment ∙ cc (h.moment, h.clock) in
+    let text : status_text_at applier.table applier.opening applier.records applier.moment ≡ status_text_at s.setup.table s.setup.moment g.records (later g.moment g.clock) =
+    rw (shown.table, shown.opening, shown.records, moment_is) refl in
     record {
       heard = nothing_heard [];
       shows = λ takes. record {
-        holds = holds_same view s.setup was.queue now.queue g.run queue h.holds;
-        applier = record { table = table_is; opening = opening_is; limit = limit ∙ h.applier.limit; records = records_are };
+        holds = record { after = h.holds.after; limits = h.holds.limits };
+        applier = record { table = shown.table; opening = shown.opening; limit = shown.limit; records = shown.records };
         moment = moment_is;
-        clock = clock ∙ h.clock;
-        age = age ∙ h.age;
-        queued = queued ∙ h.queued;
+        clock = h.clock;
+        age = h.age;
+        queued = h.queued;
         printed = writes_on s.base before after g.printed _ h.printed (subst (λ (t : List ℕ). Writes before after t) text printed);
         running = h.running;
       };
     }
-
--- what a session wrote into an empty buffer
-pub written_line : (text written before line : List ℕ) → text ≡ written → written ≡ before ++ line → before ≡ [] → text ≡ line
-written_line text written before line same grown empty = same ∙ grown ∙ ap (λ (l : List ℕ). l ++ line) empty
 
 -- ---- one step
 
@@ -131,43 +139,30 @@ serves_with setup (step.Packet sent) heard takes g = refl
 serves_with setup (step.Line text) heard takes g = carries_with (body_of_line (text_before 10 (text ++ 10 ∷ []))) heard takes g
 serves_with setup step.Page heard takes g = refl
 
-drains_plays : {D : Type 0} (view : SoloView D) (s : Setting) (now : Player D) (step : Step) (after : SinkState) (g : ReplayState) (heard : Heard) → g.full ≡ false → is_session step ≡ true → Drains view s now after (serves s.setup step heard g) → Plays view s now after step g
-drains_plays {D} view s now step after g heard running session d =
+-- the drain of a session led where its step leads
+drains_plays : (AreWhole : ℕ → List (Option Numbered) → ReplayState → Type 0) (IsEnd : ReplayState → Type 0) (setup : Setup) (step : Step) (g : ReplayState) (heard : Heard) → g.full ≡ false → is_session step ≡ true
+    → DrainsTo AreWhole IsEnd setup.limit (serves setup step heard g)
+    → PlaysTo (λ setup step heard g. g.full ≡ false → is_session step ≡ true → AreWhole setup.limit heard.takes (serves setup step heard g)) IsEnd setup step g
+drains_plays AreWhole IsEnd setup step g heard running session d =
     let with_takes : Heard = record heard { takes = d.takes } in
-    let same : serves s.setup step with_takes g ≡ serves s.setup step heard g = serves_with s.setup step heard d.takes g in
-    let is : plays s.setup step with_takes g ≡ drains d.takes (serves s.setup step heard g) = session_is s.setup step with_takes g running session ∙ ap (λ (v : ReplayState). drains d.takes v) same in
+    let same : serves setup step with_takes g ≡ serves setup step heard g = serves_with setup step heard d.takes g in
+    let is : plays setup step with_takes g ≡ drains d.takes (serves setup step heard g) = session_is setup step with_takes g running session ∙ ap (λ (v : ReplayState). drains d.takes v) same in
     record {
       heard = with_takes;
-      whole = λ _ _. rw same d.finishes;
-      shows = subst (λ (x : ReplayState). Shows view s now after x) (sym is) d.shows;
-    }
-
-drains_plays_full : {E : Type 0} (ended : SoloView E) (s : Setting) (kept : ApplierView) (step : Step) (after : SinkState) (g : ReplayState) (heard : Heard) → g.full ≡ false → is_session step ≡ true → DrainsFull ended s kept after (serves s.setup step heard g) → PlaysFull ended s kept after step g
-drains_plays_full {E} ended s kept step after g heard running session d =
-    let with_takes : Heard = record heard { takes = d.takes } in
-    let same : serves s.setup step with_takes g ≡ serves s.setup step heard g = serves_with s.setup step heard d.takes g in
-    let is : plays s.setup step with_takes g ≡ drains d.takes (serves s.setup step heard g) = session_is s.setup step with_takes g running session ∙ ap (λ (v : ReplayState). drains d.takes v) same in
-    record {
-      heard = with_takes;
-      whole = λ _ _. rw same d.finishes;
-      ends = subst (λ (x : ReplayState). Ends ended s kept after x) (sym is) d.ends;
+      whole = λ _ _. rw same d.whole;
+      ends = subst IsEnd (sym is) d.ends;
     }
 
 -- the step's service, whatever its takes
 pub served_shows : {D : Type 0} (view : SoloView D) (s : Setting) (mid : Player D) (after : SinkState) (step : Step) (g : ReplayState) (v : Serves view s mid after step g) → Shows view s mid after (serves s.setup step v.heard g)
 served_shows {D} view s mid after step g v = subst (λ (x : ReplayState). Shows view s mid after x) (serves_with s.setup step v.heard [] g) (v.shows [])
 
-pub plays_session : {D : Type 0} (view : SoloView D) (r : Result (Player D) Stopped) (was mid : Player D) (step : Step) (before after : SinkState) → ((s : Setting) (g : ReplayState) → Shows view s was before g → Serves view s mid after step g) → is_session step ≡ true
-    → IfOk r (λ now. (s : Setting) (output : SinkState) (g : ReplayState) → Shows view s mid output g → Drains view s now output g)
-    → IfOk r (λ now. (s : Setting) (g : ReplayState) → Shows view s was before g → Plays view s now after step g)
+plays_session : {D : Type 0} (view : SoloView D) (r : Result (Player D) Stopped) (was mid : Player D) (step : Step) (before after : SinkState) → ServesFrom view was before step mid after → is_session step ≡ true
+    → IfOk r (DrainsFrom view mid)
+    → IfOk r (λ now. PlaysFrom view was before step now after)
 plays_session view (Ok now) was mid step before after served session drained = λ s g h.
-    let v = served s g h in drains_plays view s now step after g v.heard h.running session (drained s after (serves s.setup step v.heard g) (served_shows view s mid after step g v))
+    let v = served s g h in drains_plays Finishes (Shows view s now after) s.setup step g v.heard h.running session (drained s after (serves s.setup step v.heard g) (served_shows view s mid after step g v))
 plays_session view (Err stop) was mid step before after served session drained = tt
-
-stops : (stop : Stopped) (P Q M N : ApplierView → Type 0) (F G : ReplayFault → Type 0) → ((kept : ApplierView) → P kept → Q kept) → ((kept : ApplierView) → M kept → N kept) → ((fault : ReplayFault) → F fault → G fault) → StopsBy P M F stop → StopsBy Q N G stop
-stops (stopped.Full kept) P Q M N F G f m n h = f kept h
-stops (stopped.OutOfMemory kept) P Q M N F G f m n h = m kept h
-stops (stopped.Unwritten fault) P Q M N F G f m n h = n fault h
 
 write_end_on : (a b c : SinkState) (fault : ReplayFault) → Fails a.tally b.tally 0 → IsWriteEnd b c fault → IsWriteEnd a c fault
 write_end_on a b c replay_fault.TooLong h k = k
@@ -177,54 +172,63 @@ write_end_on a b c replay_fault.OutOfMemory h k = fails_then a.tally b.tally c.t
 write_end_on a b c replay_fault.ReadFault h k = k
 write_end_on a b c replay_fault.WriteFault h k = fails_then a.tally b.tally c.tally 1 h k
 
--- a full log met at a step
-abbrev pub FullAt : {D E : Type 0} (view : SoloView D) (ended : SoloView E) (was : Player D) (step : Step) (before after : SinkState) (kept : ApplierView) → Type 0
-FullAt view ended was step before after kept = (s : Setting) (g : ReplayState) → Shows view s was before g → PlaysFull ended s kept after step g
+-- memory ran out, or a write failed, before the step was printed
+stays_before : {D : Type 0} (view : SoloView D) (s : Setting) (was : Player D) (kept : ApplierView) (before after : SinkState) (g : ReplayState) → kept ≡ record was.applier { moment = kept.moment; room = kept.room } → after ≡ before → Shows view s was before g → Stays view s kept after g
+stays_before {D} view s was kept before after g same silent h = record {
+  stood = record { queue = was.queue; after = h.holds.after; limits_are = h.holds.limits };
+  shown = records_on s.setup was.applier kept g g same refl h.applier;
+  printed = subst (λ (o : SinkState). Writes s.base o g.printed) (sym silent) h.printed;
+  room = λ full. let no : true ≡ false = sym full ∙ h.running in absurd (cc);
+}
 
--- memory ran out before the step or amid its drain
-abbrev pub PartAt : {D : Type 0} (view : SoloView D) (was : Player D) (step : Step) (before after : SinkState) (kept : ApplierView) → Type 0
-PartAt view was step before after kept = (s : Setting) (g : ReplayState) → Shows view s was before g → Stays view s kept after g ⊎ PlaysPart view s kept after step g
+pub stops_before : {D E : Type 0} (view : SoloView D) (ended : SoloView E) (stop : Stopped) (was : Player D) (step : Step) (before after : SinkState) → StopsBefore was.applier before after stop → StopsPlaying view ended was before step after stop
+stops_before view ended (stopped.Full kept) was step before after h = absurd h
+stops_before view ended (stopped.OutOfMemory kept) was step before after h = λ s g shows. inl (stays_before view s was kept before after g h.0 h.1 shows)
+stops_before view ended (stopped.Unwritten fault) was step before after h = h
 
--- the service of a session stopped
-pub served_stops : {D E : Type 0} (view : SoloView D) (ended : SoloView E) (stop : Stopped) (was : Player D) (step : Step) (before after : SinkState)
-    → StopsServing view was before after stop
-    → StopsBy (FullAt view ended was step before after) (PartAt view was step before after) (IsWriteEnd before after) stop
-served_stops {D} view ended stop was step before after h =
-    stops stop (λ _. ⊥) (FullAt view ended was step before after) (λ kept. (s : Setting) (g : ReplayState) → Shows view s was before g → Stays view s kept after g) (PartAt view was step before after) (IsWriteEnd before after) (IsWriteEnd before after)
-    (λ kept no. absurd no) (λ kept m s g shows. inl (m s g shows)) (λ fault f. f) h
-
-drains_plays_part : {D : Type 0} (view : SoloView D) (s : Setting) (kept : ApplierView) (step : Step) (after : SinkState) (g : ReplayState) (heard : Heard) → g.full ≡ false → is_session step ≡ true → DrainsPart view s kept after (serves s.setup step heard g) → PlaysPart view s kept after step g
-drains_plays_part {D} view s kept step after g heard running session d =
-    let with_takes : Heard = record heard { takes = d.takes } in
-    let same : serves s.setup step with_takes g ≡ serves s.setup step heard g = serves_with s.setup step heard d.takes g in
-    let is : plays s.setup step with_takes g ≡ drains d.takes (serves s.setup step heard g) = session_is s.setup step with_takes g running session ∙ ap (λ (v : ReplayState). drains d.takes v) same in
-    record {
-      heard = with_takes;
-      begins = λ _ _. rw same d.begins;
-      stays = subst (λ (x : ReplayState). Stays view s kept after x) (sym is) d.stays;
-    }
+-- so does a step that is no session
+pub stops_other : {D E X : Type 0} (view : SoloView D) (ended : SoloView E) (r : Result X Stopped) (was : Player D) (step : Step) (before after : SinkState) → IfErr r (StopsBefore was.applier before after) → IfErr r (StopsPlaying view ended was before step after)
+stops_other view ended (Ok now) was step before after h = tt
+stops_other view ended (Err stop) was step before after h = stops_before view ended stop was step before after h
 
 -- the drain of a session stopped
-pub drain_stops : {D E : Type 0} (view : SoloView D) (ended : SoloView E) (r : Result (Player D) Stopped) (was mid : Player D) (step : Step) (before after : SinkState) → ServesFrom view was before step mid after → is_session step ≡ true
+drain_stops : {D E : Type 0} (view : SoloView D) (ended : SoloView E) (r : Result (Player D) Stopped) (was mid : Player D) (step : Step) (before after : SinkState) → ServesFrom view was before step mid after → is_session step ≡ true
     → IfErr r (StopsDraining view ended mid)
-    → IfErr r (StopsBy (FullAt view ended was step before after) (PartAt view was step before after) (IsWriteEnd before after))
+    → IfErr r (StopsPlaying view ended was before step after)
 drain_stops view ended (Ok now) was mid step before after served session h = tt
-drain_stops {D} view ended (Err stop) was mid step before after served session h =
-    stops stop (λ kept. (s : Setting) (output : SinkState) (g : ReplayState) → Shows view s mid output g → DrainsFull ended s kept output g) (FullAt view ended was step before after)
-    (λ kept. (s : Setting) (output : SinkState) (g : ReplayState) → Shows view s mid output g → DrainsPart view s kept output g) (PartAt view was step before after) (λ _. ⊥) (IsWriteEnd before after)
-    (λ kept full s g shows. let v = served s g shows in drains_plays_full ended s kept step after g v.heard shows.running session (full s after (serves s.setup step v.heard g) (served_shows view s mid after step g v)))
-    (λ kept part s g shows. let v = served s g shows in inr (drains_plays_part view s kept step after g v.heard shows.running session (part s after (serves s.setup step v.heard g) (served_shows view s mid after step g v))))
-    (λ fault no. absurd no) h
+drain_stops view ended (Err (stopped.Full kept)) was mid step before after served session h = λ s g shows.
+    let v = served s g shows in drains_plays Finishes (Ends ended s kept after) s.setup step g v.heard shows.running session (h s after (serves s.setup step v.heard g) (served_shows view s mid after step g v))
+drain_stops view ended (Err (stopped.OutOfMemory kept)) was mid step before after served session h = λ s g shows.
+    let v = served s g shows in inr (drains_plays BeginsDrain (Stays view s kept after) s.setup step g v.heard shows.running session (h s after (serves s.setup step v.heard g) (served_shows view s mid after step g v)))
+drain_stops view ended (Err (stopped.Unwritten fault)) was mid step before after served session h = absurd h
 
-pub plays_other : {D : Type 0} (view : SoloView D) (was now : Player D) (step : Step) (before after : SinkState) → ((s : Setting) (g : ReplayState) → Shows view s was before g → Serves view s now after step g) → is_session step ≡ false
-    → (s : Setting) (g : ReplayState) → Shows view s was before g → Plays view s now after step g
+-- a session was answered, its answer printed, and the queue drained
+pub session_drained : {D E : Type 0} (view : SoloView D) (ended : SoloView E) (r : Result (Player D) Stopped) (was mid : Player D) (queue : D) (report : Report) (before after : SinkState) (step : Step)
+    → ((answer : Answer) → HasOnly report answer → AnswersStep view was.queue was.age was.clock queue step answer)
+    → PrintsAnswer report (record was { queue = queue }) mid before after → is_session step ≡ true
+    → IfOk r (DrainsFrom view mid) → IfErr r (StopsDraining view ended mid)
+    → IfOk r (λ now. PlaysFrom view was before step now after) × IfErr r (StopsPlaying view ended was before step after)
+session_drained view ended r was mid queue report before after step answers printed session drained stopped =
+    let served = serves_session view was mid queue report before after step answers printed in
+    (plays_session view r was mid step before after served session drained, drain_stops view ended r was mid step before after served session stopped)
+
+plays_other : {D : Type 0} (view : SoloView D) (was now : Player D) (step : Step) (before after : SinkState) → ServesFrom view was before step now after → is_session step ≡ false → PlaysFrom view was before step now after
 plays_other {D} view was now step before after served other s g h =
     let v = served s g h in
     record {
       heard = v.heard;
       whole = λ _ session. let no : true ≡ false = sym session ∙ other in absurd (cc);
-      shows = subst (λ (x : ReplayState). Shows view s now after x) (sym (other_is s.setup step v.heard g h.running other)) (served_shows view s now after step g v);
+      ends = subst (λ (x : ReplayState). Shows view s now after x) (sym (other_is s.setup step v.heard g h.running other)) (served_shows view s now after step g v);
     }
+
+pub plays_clock : {D : Type 0} (view : SoloView D) (was : Player D) (clock : Moment) (output : SinkState) → PlaysFrom view was output (step.Clock clock) (record was { clock = clock }) output
+plays_clock view was clock output = plays_other view was (record was { clock = clock }) (step.Clock clock) output output (serves_clock view was clock output) refl
+
+pub plays_page : {D : Type 0} (view : SoloView D) (was : Player D) (applier : ApplierView) (before after : SinkState) → applier ≡ record was.applier { moment = applier.moment; room = applier.room } → applier.moment ≡ later was.applier.moment was.clock
+    → Writes before after (status_text_at applier.table applier.opening applier.records applier.moment)
+    → PlaysFrom view was before step.Page (record was { applier = applier }) after
+plays_page view was applier before after same moment printed =
+    plays_other view was (record was { applier = applier }) step.Page before after (serves_page view was applier before after same moment printed) refl
 
 -- ---- all steps
 
@@ -239,12 +243,12 @@ ready view allowed s player output g h =
       few = subst (λ n. n < 2 ^ 34) (sym h.queued) (queued_few (view.limits player.queue) g.run (allowed player.queue g.run h.holds.after) (omega (arith, quota_is)));
     }
 
-pub played_none : {D : Type 0} (view : SoloView D) (setup : Setup) (player : Player D) (output : SinkState) → IsNew view setup player → PlayedTo view (setting setup output) [] player output
+pub played_none : {D : Type 0} (view : SoloView D) (setup : Setup) (player : Player D) (output : SinkState) → IsNew view setup player → PlayedTo IsWhole (Shows view (setting setup output) player output) setup []
 played_none view setup player output h = record {
   done = [];
   steps_are = refl;
   whole = tt;
-  shows = record {
+  ends = record {
     holds = h.holds;
     applier = record {
       table = ap (λ (v : ApplierView). v.table) h.applier;
@@ -268,15 +272,15 @@ next_step steps i item inside is = take_more steps i item inside ∙ ap (λ x. t
 more_steps : (steps : List Step) (step : Step) (before : List Step) → before ≡ reverse steps → step ∷ before ≡ reverse (steps ++ step ∷ [])
 more_steps steps step before e = ap (λ l. step ∷ l) e ∙ sym (reverse-append steps (step ∷ []))
 
-pub played_more : {D : Type 0} (view : SoloView D) (s : Setting) (steps next : List Step) (was now : Player D) (before after : SinkState) (step : Step) → next ≡ steps ++ step ∷ [] → PlayedTo view s steps was before
-    → ((t : Setting) (g : ReplayState) → Shows view t was before g → Plays view t now after step g) → PlayedTo view s next now after
+pub played_more : {D : Type 0} (view : SoloView D) (s : Setting) (steps next : List Step) (was now : Player D) (before after : SinkState) (step : Step) → next ≡ steps ++ step ∷ [] → PlayedTo IsWhole (Shows view s was before) s.setup steps
+    → PlaysFrom view was before step now after → PlayedTo IsWhole (Shows view s now after) s.setup next
 played_more view s steps next was now before after step is h played =
-    let p = played s (state_after s.setup h.done) h.shows in
+    let p = played s (state_after s.setup h.done) h.ends in
     record {
       done = (step, p.heard) ∷ h.done;
       steps_are = more_steps steps step (steps_of h.done) h.steps_are ∙ ap reverse (sym is);
       whole = (p.whole, h.whole);
-      shows = p.shows;
+      ends = p.ends;
     }
 
 -- nothing happens once the log is full
@@ -305,10 +309,9 @@ idle_whole setup (step ∷ more) done full whole =
     let same : state_after setup ((step, nothing_heard []) ∷ done) ≡ state_after setup done = stays_full setup step (nothing_heard []) (state_after setup done) full in
     idle_whole setup more ((step, nothing_heard []) ∷ done) (ap (λ (g : ReplayState). g.full) same ∙ full) ((λ running _. let no : true ≡ false = sym full ∙ running in absurd (cc)), whole)
 
-full_after : {D E : Type 0} (view : SoloView D) (ended : SoloView E) (s : Setting) (steps first rest : List Step) (step : Step) (was : Player D) (kept : ApplierView) (before after : SinkState) → first ++ step ∷ [] ++ rest ≡ steps → PlayedTo view s first was before
-    → ((t : Setting) (g : ReplayState) → Shows view t was before g → PlaysFull ended t kept after step g) → PlayedFull ended s steps kept after
-full_after {D} view ended s steps first rest step was kept before after parts h played =
-    let p = played s (state_after s.setup h.done) h.shows in
+full_after : {E : Type 0} (ended : SoloView E) (s : Setting) (steps first rest : List Step) (step : Step) (kept : ApplierView) (after : SinkState) (IsEnd : ReplayState → Type 0) → first ++ step ∷ [] ++ rest ≡ steps → (h : PlayedTo IsWhole IsEnd s.setup first)
+    → PlaysTo IsWholeStep (Ends ended s kept after) s.setup step (state_after s.setup h.done) → PlayedTo IsWhole (Ends ended s kept after) s.setup steps
+full_after {E} ended s steps first rest step kept after IsEnd parts h p =
     let done : List (Step × Heard) = (step, p.heard) ∷ h.done in
     let all : steps_of done ≡ reverse (first ++ step ∷ []) = more_steps first step (steps_of h.done) h.steps_are in
     record {
@@ -331,36 +334,38 @@ whole_so_far setup [] h = tt
 whole_so_far setup ((step, heard) ∷ before) h =
     ((λ running session. begins_whole setup.limit heard.takes (serves setup step heard (state_after setup before)) (h.0 running session)), h.1)
 
-part_after : {D : Type 0} (view : SoloView D) (s : Setting) (steps : List Step) (i : ℕ) (step : Step) (was : Player D) (kept : ApplierView) (before after : SinkState) → take (i + 1) steps ≡ take i steps ++ step ∷ [] → PlayedTo view s (take i steps) was before
-    → PartAt view was step before after kept → PlayedPart view s steps kept after
-part_after {D} view s steps i step was kept before after is h part =
-    ⊎_elim
-    (λ (stays : Stays view s kept after (state_after s.setup h.done)). record {
-      front = take i steps;
-      front_begins = (drop i steps, take-append-drop i steps);
-      done = h.done;
-      steps_are = h.steps_are;
-      whole = whole_so_far s.setup h.done h.whole;
-      stays = stays;
-    })
-    (λ (p : PlaysPart view s kept after step (state_after s.setup h.done)). record {
-      front = take (i + 1) steps;
-      front_begins = (drop (i + 1) steps, take-append-drop (i + 1) steps);
-      done = (step, p.heard) ∷ h.done;
-      steps_are = more_steps (take i steps) step (steps_of h.done) h.steps_are ∙ ap reverse (sym is);
-      whole = (p.begins, h.whole);
-      stays = p.stays;
-    })
-    (part s (state_after s.setup h.done) h.shows)
+part_after : {D : Type 0} (view : SoloView D) (s : Setting) (steps : List Step) (i : ℕ) (step : Step) (kept : ApplierView) (after : SinkState) (IsEnd : ReplayState → Type 0) → take (i + 1) steps ≡ take i steps ++ step ∷ [] → (h : PlayedTo IsWhole IsEnd s.setup (take i steps))
+    → Stays view s kept after (state_after s.setup h.done) ⊎ PlaysTo IsBegunStep (Stays view s kept after) s.setup step (state_after s.setup h.done) → PlayedPart view s steps kept after
+part_after view s steps i step kept after IsEnd is h (inl stays) = record {
+  front = take i steps;
+  front_begins = (drop i steps, take-append-drop i steps);
+  played = record {
+    done = h.done;
+    steps_are = h.steps_are;
+    whole = whole_so_far s.setup h.done h.whole;
+    ends = stays;
+  };
+}
+part_after view s steps i step kept after IsEnd is h (inr p) = record {
+  front = take (i + 1) steps;
+  front_begins = (drop (i + 1) steps, take-append-drop (i + 1) steps);
+  played = record {
+    done = (step, p.heard) ∷ h.done;
+    steps_are = more_steps (take i steps) step (steps_of h.done) h.steps_are ∙ ap reverse (sym is);
+    whole = (p.whole, h.whole);
+    ends = p.ends;
+  };
+}
 
 -- the replay stopped at a step, after steps of which none failed a call
 pub played_stops : {D E : Type 0} (view : SoloView D) (ended : SoloView E) (stop : Stopped) (player : Player D) (base : SinkState) (steps : List Step) (i : ℕ) (step : Step) (was : Player D) (before after : SinkState) → take (i + 1) steps ≡ take i steps ++ step ∷ []
-    → Fails base.tally before.tally 0 → ((setup : Setup) → IsNew view setup player → PlayedTo view (setting setup base) (take i steps) was before)
-    → StopsBy (FullAt view ended was step before after) (PartAt view was step before after) (IsWriteEnd before after) stop
-    → StopsBy (λ kept. (setup : Setup) → IsNew view setup player → PlayedFull ended (setting setup base) steps kept after) (λ kept. (setup : Setup) → IsNew view setup player → PlayedPart view (setting setup base) steps kept after) (IsWriteEnd base after) stop
-played_stops {D} view ended stop player base steps i step was before after is none so_far h =
-    stops stop (FullAt view ended was step before after) (λ kept. (setup : Setup) → IsNew view setup player → PlayedFull ended (setting setup base) steps kept after)
-    (PartAt view was step before after) (λ kept. (setup : Setup) → IsNew view setup player → PlayedPart view (setting setup base) steps kept after) (IsWriteEnd before after) (IsWriteEnd base after)
-    (λ kept full setup new. full_after view ended (setting setup base) steps (take i steps) (drop (i + 1) steps) step was kept before after (ap (λ l. l ++ drop (i + 1) steps) (sym is) ∙ take-append-drop (i + 1) steps) (so_far setup new) full)
-    (λ kept part setup new. part_after view (setting setup base) steps i step was kept before after is (so_far setup new) part)
-    (λ fault f. write_end_on base before after fault none f) h
+    → Fails base.tally before.tally 0 → ((setup : Setup) → IsNew view setup player → PlayedTo IsWhole (Shows view (setting setup base) was before) setup (take i steps))
+    → StopsPlaying view ended was before step after stop → StopsAll view ended player base steps after stop
+played_stops view ended (stopped.Full kept) player base steps i step was before after is none so_far full = λ setup new.
+    let h = so_far setup new in
+    full_after ended (setting setup base) steps (take i steps) (drop (i + 1) steps) step kept after (Shows view (setting setup base) was before) (ap (λ l. l ++ drop (i + 1) steps) (sym is) ∙ take-append-drop (i + 1) steps) h
+    (full (setting setup base) (state_after setup h.done) h.ends)
+played_stops view ended (stopped.OutOfMemory kept) player base steps i step was before after is none so_far part = λ setup new.
+    let h = so_far setup new in
+    part_after view (setting setup base) steps i step kept after (Shows view (setting setup base) was before) is h (part (setting setup base) (state_after setup h.done) h.ends)
+played_stops view ended (stopped.Unwritten fault) player base steps i step was before after is none so_far f = write_end_on base before after fault none f

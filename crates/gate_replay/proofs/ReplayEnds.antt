@@ -15,9 +15,9 @@ use Rattle.gate_replay.specs.declared.fault.ReplayFault.{ReplayFault}
 use Rattle.gate_replay.specs.declared.fault.ReplayFault.TheVariants.{TooLong, Line, LogFull, OutOfMemory, ReadFault, WriteFault}
 use Rattle.gate_replay.specs.declared.player.Player.{Player}
 use Rattle.gate_replay.specs.declared.script.Script.{Script}
-use Rattle.gate_replay.specs.ReplayState.{ReplayState, state_after, IsPlayedSoFar}
+use Rattle.gate_replay.specs.ReplayState.{ReplayState, state_after, IsWhole, IsPlayedSoFar}
 use Rattle.gate_reader.specs.Fault.{fault_in}
-use Rattle.gate_replay.specs.inner.Playing.{SoloView, setting, IsShown, IsShownSoFar, IsEnded, PlayedTo, PlayedFull, PlayedPart, IsWriteEnd, IsLogEnd, IsPrinted, IsPrintedSoFar, EndsPlaying}
+use Rattle.gate_replay.specs.inner.Playing.{SoloView, setting, Shows, Ends, IsShown, IsShownSoFar, IsEnded, PlayedTo, PlayedPart, IsWriteEnd, IsLogEnd, IsPrinted, IsPrintedSoFar, EndsPlaying}
 use Rattle.gate_reader.proofs.Outputs.{fails_then, delivers_on}
 use Rattle.gate_replay.proofs.PlaySteps.{whole_so_far}
 
@@ -25,10 +25,10 @@ page_again : (table other : List ObjectLine) (records more : List Record) → re
 page_again table other records more e f = rw (e, f) refl
 
 -- the log page is delivered after the answers and the status pages
-finished : {D E : Type 0} (view : SoloView D) (ended : SoloView E) (script : Script) (player : Player D) (b m a : SinkState) → IsEnded view ended player.queue → PlayedTo view (setting script.setup b) script.steps.items player m → Delivers m a (log_text player.applier.records (outcomes_of player.applier.table player.applier.records)) → IsPrinted (IsShown ended) script b a false
+finished : {D E : Type 0} (view : SoloView D) (ended : SoloView E) (script : Script) (player : Player D) (b m a : SinkState) → IsEnded view ended player.queue → PlayedTo IsWhole (Shows view (setting script.setup b) player m) script.setup script.steps.items → Delivers m a (log_text player.applier.records (outcomes_of player.applier.table player.applier.records)) → IsPrinted (IsShown ended) script b a false
 finished {D} view ended script player b m a e h printed =
     let g : ReplayState = state_after script.setup h.done in
-    let page = page_again player.applier.table script.setup.table player.applier.records g.records h.shows.applier.records h.shows.applier.table in
+    let page = page_again player.applier.table script.setup.table player.applier.records g.records h.ends.applier.records h.ends.applier.table in
     record {
       replayed = g;
       played = record {
@@ -36,13 +36,13 @@ finished {D} view ended script player b m a e h printed =
         steps_are = h.steps_are;
         whole = h.whole;
         is = refl;
-        kept = record { queue = e.rest; after = e.after g.run h.shows.holds.after; limits_are = e.limits_are ∙ h.shows.holds.limits };
+        kept = record { queue = e.rest; after = e.after g.run h.ends.holds.after; limits_are = e.limits_are ∙ h.ends.holds.limits };
       };
-      full_is = h.shows.running;
-      printed = delivers_on b m a g.printed _ h.shows.printed (subst (λ (t : List ℕ). Delivers m a t) page printed);
+      full_is = h.ends.running;
+      printed = delivers_on b m a g.printed _ h.ends.printed (subst (λ (t : List ℕ). Delivers m a t) page printed);
     }
 
-finished_full : {E : Type 0} (ended : SoloView E) (script : Script) (kept : ApplierView) (b m a : SinkState) → PlayedFull ended (setting script.setup b) script.steps.items kept m → Delivers m a (log_text kept.records (outcomes_of kept.table kept.records)) → IsPrinted (IsShown ended) script b a true
+finished_full : {E : Type 0} (ended : SoloView E) (script : Script) (kept : ApplierView) (b m a : SinkState) → PlayedTo IsWhole (Ends ended (setting script.setup b) kept m) script.setup script.steps.items → Delivers m a (log_text kept.records (outcomes_of kept.table kept.records)) → IsPrinted (IsShown ended) script b a true
 finished_full {E} ended script kept b m a h printed =
     let g : ReplayState = state_after script.setup h.done in
     let page = page_again kept.table script.setup.table kept.records g.records h.ends.shown.records h.ends.shown.table in
@@ -59,20 +59,20 @@ finished_full {E} ended script kept b m a h printed =
       printed = delivers_on b m a g.printed _ h.ends.printed (subst (λ (t : List ℕ). Delivers m a t) page printed);
     }
 
-finished_part : {D : Type 0} (view : SoloView D) (so_far : Limits → Run → Type 0) (script : Script) (kept : ApplierView) (b m a : SinkState) (h : PlayedPart view (setting script.setup b) script.steps.items kept m) → IsPlayedSoFar so_far script (state_after script.setup h.done)
+finished_part : {D : Type 0} (view : SoloView D) (so_far : Limits → Run → Type 0) (script : Script) (kept : ApplierView) (b m a : SinkState) (h : PlayedPart view (setting script.setup b) script.steps.items kept m) → IsPlayedSoFar so_far script (state_after script.setup h.played.done)
     → Delivers m a (log_text kept.records (outcomes_of kept.table kept.records)) → IsPrintedSoFar so_far script b a
 finished_part {D} view so_far script kept b m a h played printed =
-    let g : ReplayState = state_after script.setup h.done in
-    let page = page_again kept.table script.setup.table kept.records g.records h.stays.shown.records h.stays.shown.table in
+    let g : ReplayState = state_after script.setup h.played.done in
+    let page = page_again kept.table script.setup.table kept.records g.records h.played.ends.shown.records h.played.ends.shown.table in
     record {
       replayed = g;
       played = played;
-      printed = inr (h.stays.room, delivers_on b m a g.printed _ h.stays.printed (subst (λ (t : List ℕ). Delivers m a t) page printed));
+      printed = inr (h.played.ends.room, delivers_on b m a g.printed _ h.played.ends.printed (subst (λ (t : List ℕ). Delivers m a t) page printed));
     }
 
 -- ---- what was played so far
 
-all_so_far : {D E : Type 0} (view : SoloView D) (ended : SoloView E) (script : Script) (player : Player D) (b m : SinkState) (h : PlayedTo view (setting script.setup b) script.steps.items player m) → IsPlayedSoFar (IsShownSoFar view ended) script (state_after script.setup h.done)
+all_so_far : {D E : Type 0} (view : SoloView D) (ended : SoloView E) (script : Script) (player : Player D) (b m : SinkState) (h : PlayedTo IsWhole (Shows view (setting script.setup b) player m) script.setup script.steps.items) → IsPlayedSoFar (IsShownSoFar view ended) script (state_after script.setup h.done)
 all_so_far view ended script player b m h = record {
   steps = script.steps.items;
   steps_begin = ([], append-nil script.steps.items);
@@ -80,10 +80,10 @@ all_so_far view ended script player b m h = record {
   steps_are = h.steps_are;
   whole = whole_so_far script.setup h.done h.whole;
   is = refl;
-  kept = inl (record { queue = player.queue; after = h.shows.holds.after; limits_are = h.shows.holds.limits });
+  kept = inl (record { queue = player.queue; after = h.ends.holds.after; limits_are = h.ends.holds.limits });
 }
 
-full_so_far : {D E : Type 0} (view : SoloView D) (ended : SoloView E) (script : Script) (kept : ApplierView) (b m : SinkState) (h : PlayedFull ended (setting script.setup b) script.steps.items kept m) → IsPlayedSoFar (IsShownSoFar view ended) script (state_after script.setup h.done)
+full_so_far : {D E : Type 0} (view : SoloView D) (ended : SoloView E) (script : Script) (kept : ApplierView) (b m : SinkState) (h : PlayedTo IsWhole (Ends ended (setting script.setup b) kept m) script.setup script.steps.items) → IsPlayedSoFar (IsShownSoFar view ended) script (state_after script.setup h.done)
 full_so_far view ended script kept b m h = record {
   steps = script.steps.items;
   steps_begin = ([], append-nil script.steps.items);
@@ -94,15 +94,15 @@ full_so_far view ended script kept b m h = record {
   kept = inr h.ends.kept;
 }
 
-part_so_far : {D E : Type 0} (view : SoloView D) (ended : SoloView E) (script : Script) (kept : ApplierView) (b m : SinkState) (h : PlayedPart view (setting script.setup b) script.steps.items kept m) → IsPlayedSoFar (IsShownSoFar view ended) script (state_after script.setup h.done)
+part_so_far : {D E : Type 0} (view : SoloView D) (ended : SoloView E) (script : Script) (kept : ApplierView) (b m : SinkState) (h : PlayedPart view (setting script.setup b) script.steps.items kept m) → IsPlayedSoFar (IsShownSoFar view ended) script (state_after script.setup h.played.done)
 part_so_far view ended script kept b m h = record {
   steps = h.front;
   steps_begin = h.front_begins;
-  done = h.done;
-  steps_are = h.steps_are;
-  whole = h.whole;
+  done = h.played.done;
+  steps_are = h.played.steps_are;
+  whole = h.played.whole;
   is = refl;
-  kept = inl h.stays.stood;
+  kept = inl h.played.ends.stood;
 }
 
 -- ---- failed calls
@@ -133,18 +133,18 @@ unlogged rules so_far script g b m a WriteFault played w k = fails_then b.tally 
 
 -- the log page ends the replay
 pub log_ends : {D E : Type 0} (view : SoloView D) (ended : SoloView E) (r : Result (Unit {0}) ReplayFault) (script : Script) (player : Player D) (applier : ApplierView) (b m a : SinkState) → applier ≡ player.applier → IsEnded view ended player.queue
-    → PlayedTo view (setting script.setup b) script.steps.items player m
+    → PlayedTo IsWhole (Shows view (setting script.setup b) player m) script.setup script.steps.items
     → OnOk r (Delivers m a (log_text applier.records (outcomes_of applier.table applier.records))) → IfErr r (IsLogEnd m a) → EndsPlaying (IsShown ended) (IsShownSoFar view ended) script b a (fault_in r)
 log_ends view ended (Ok x) script player applier b m a is e h ok err =
     finished view ended script player b m a e h (subst (λ (v : ApplierView). Delivers m a (log_text v.records (outcomes_of v.table v.records))) is ok)
 log_ends view ended (Err fault) script player applier b m a is e h ok err =
-    unlogged (IsShown ended) (IsShownSoFar view ended) script (state_after script.setup h.done) b m a fault (all_so_far view ended script player b m h) h.shows.printed err
+    unlogged (IsShown ended) (IsShownSoFar view ended) script (state_after script.setup h.done) b m a fault (all_so_far view ended script player b m h) h.ends.printed err
 
 fault_is : (rules so_far : Limits → Run → Type 0) (result : Result (Unit {0}) ReplayFault) (fault : ReplayFault) (script : Script) (b a : SinkState) → result ≡ Err fault → EndsPlaying rules so_far script b a (Some fault) → EndsPlaying rules so_far script b a (fault_in result)
 fault_is rules so_far result fault script b a is ends = rw is ends
 
 -- the log page after a full log ends the replay
-pub full_ends : {D E : Type 0} (view : SoloView D) (ended : SoloView E) (printed result : Result (Unit {0}) ReplayFault) (script : Script) (kept : ApplierView) (b m a : SinkState) → PlayedFull ended (setting script.setup b) script.steps.items kept m
+pub full_ends : {D E : Type 0} (view : SoloView D) (ended : SoloView E) (printed result : Result (Unit {0}) ReplayFault) (script : Script) (kept : ApplierView) (b m a : SinkState) → PlayedTo IsWhole (Ends ended (setting script.setup b) kept m) script.setup script.steps.items
     → OnOk printed (Delivers m a (log_text kept.records (outcomes_of kept.table kept.records))) → IfErr printed (IsLogEnd m a)
     → OnOk printed (result ≡ Err LogFull) → IfErr printed (λ other. result ≡ Err other) → EndsPlaying (IsShown ended) (IsShownSoFar view ended) script b a (fault_in result)
 full_ends view ended (Ok done) result script kept b m a h ok err is other = fault_is (IsShown ended) (IsShownSoFar view ended) result LogFull script b a is (finished_full ended script kept b m a h ok)
@@ -161,7 +161,7 @@ memory_ends view ended (Ok done) result script kept b m a h ok err is other =
     (inr (inr (finished_part view (IsShownSoFar view ended) script kept b m a h (part_so_far view ended script kept b m h) ok)))
 memory_ends view ended (Err fault) result script kept b m a h ok err is other =
     fault_is (IsShown ended) (IsShownSoFar view ended) result fault script b a other
-    (unlogged (IsShown ended) (IsShownSoFar view ended) script (state_after script.setup h.done) b m a fault (part_so_far view ended script kept b m h) h.stays.printed err)
+    (unlogged (IsShown ended) (IsShownSoFar view ended) script (state_after script.setup h.played.done) b m a fault (part_so_far view ended script kept b m h) h.played.ends.printed err)
 
 -- ---- the rules that the queue kept
 

@@ -1,8 +1,7 @@
 ghost use Rattle.std.specs.Prelude.{◌≡◌, ◌≢◌, length, IfOk, IfErr, OnOk};
 ghost use Rattle.gate_core.specs.Legal.{Run};
 ghost use Rattle.gate_reader.specs.Sink.{SinkState};
-ghost use Rattle.gate_replay.specs.ReplayState.{ReplayState};
-ghost use Rattle.gate_replay.specs.inner.Playing.{solo_view, Setting, Shows, IsUnderWay, Takes, Drains, StopsPreparing, StopsTaking, StopsDraining};
+ghost use Rattle.gate_replay.specs.inner.Playing.{solo_view, IsUnderWay, Takes, DrainsFrom, StopsPreparing, StopsTaking, StopsDraining};
 
 use crate::player::{Player, Stopped};
 use gate_applier::{Applier, PrepareCause, PrepareFault, Ready};
@@ -77,9 +76,7 @@ where
     // Records what is queued.
     pub(crate) fn drain(self) -> Result<Player<D>, Stopped>
         requires { (output : SinkState) × IsUnderWay (solo_view D.after D.limits) self output }
-        ensures drained { let view = solo_view D.after D.limits in
-            IfOk result (λ now. (s : Setting) (output : SinkState) (g : ReplayState)
-            → Shows view s self output g → Drains view s now output g) }
+        ensures drained { IfOk result (DrainsFrom (solo_view D.after D.limits) self) }
         ensures stopped { IfErr result (StopsDraining (solo_view D.after D.limits)
             (solo_view D.Ended.after D.Ended.limits) self) }
     {

@@ -56,28 +56,16 @@ impl From<ScriptFault> for ReplayFault {
     }
 }
 
-/// The fault that a failed read is: out of memory for what was read, or a failed input.
-pub(crate) fn read_fault(error: &io::Error) -> ReplayFault
+/// The fault that a failed call of the input or the output is: out of memory for what was read or
+/// written, or the other one.
+pub(crate) fn io_fault(error: &io::Error, other: ReplayFault) -> ReplayFault
     ensures memory { error_kind error.now ≡ ErrorKind.OutOfMemory
         → result ≡ ReplayFault.OutOfMemory }
-    ensures other { error_kind error.now ≢ ErrorKind.OutOfMemory → result ≡ ReplayFault.ReadFault }
+    ensures other { error_kind error.now ≢ ErrorKind.OutOfMemory → result ≡ other }
 {
     match error.kind() {
         ErrorKind::OutOfMemory => ReplayFault::OutOfMemory,
-        _ => ReplayFault::ReadFault,
-    }
-}
-
-/// The fault that a failed write or flush is: out of memory for what was written, or a failed
-/// output.
-pub(crate) fn write_fault(error: &io::Error) -> ReplayFault
-    ensures memory { error_kind error.now ≡ ErrorKind.OutOfMemory
-        → result ≡ ReplayFault.OutOfMemory }
-    ensures other { error_kind error.now ≢ ErrorKind.OutOfMemory → result ≡ ReplayFault.WriteFault }
-{
-    match error.kind() {
-        ErrorKind::OutOfMemory => ReplayFault::OutOfMemory,
-        _ => ReplayFault::WriteFault,
+        _ => other,
     }
 }
 

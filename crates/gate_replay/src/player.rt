@@ -1,24 +1,21 @@
 ghost use Rattle.std.specs.Prelude.{◌≡◌, ◌+◌, ◌<◌, ◌^◌, [], IfOk, IfErr, OnOk};
 ghost use Rattle.gate_core.specs.Limits.{limits_of, default_quota};
 ghost use Rattle.gate_core.specs.Legal.{Run};
-ghost use Rattle.gate_reader.specs.Sink.{Fails};
 ghost use Rattle.gate_pages.specs.StatusPage.{status_text_at};
 ghost use Rattle.gate_replay.specs.declared.script.Step.TheVariants as step;
 ghost use Rattle.gate_replay.specs.declared.setup.Setup.{Setup};
-ghost use Rattle.gate_replay.specs.ReplayState.{is_session};
-ghost use Rattle.gate_replay.specs.inner.Sessions.{queued_in};
-ghost use Rattle.gate_replay.specs.inner.Playing.{solo_view, setting, IsNew, IsReady, PlayedTo, PlayedFull, PlayedPart, IsEnded, IsWriteEnd, StopsBy, ServesFrom, StopsServing, PlaysFrom, StopsPlaying};
+ghost use Rattle.gate_replay.specs.inner.Sessions.{queued_in, PrintsAnswer};
+ghost use Rattle.gate_replay.specs.inner.Playing.{solo_view, IsNew, IsReady, IsEnded, StopsBefore, PlaysFrom, StopsPlaying, PlaysAll, StopsAll};
 
 use crate::fault::ReplayFault;
-use crate::printing::{print, print_answer};
+use crate::printing::print;
 use crate::script::Step;
-use crate::sent_packet::SentPacket;
 use crate::sessions::{only_answer, serve_line, serve_packet};
 use crate::setup::Setup;
 use gate_applier::{Applier, OpenCause, OpenFault};
-use gate_model::{Moment, Text};
+use gate_model::Moment;
 use gate_pages::{Board, status_page};
-use gate_reader::{Answer, Sink};
+use gate_reader::{Answer, Report, Sink, answer_line};
 use gate_solo::SoloQueue;
 use std::alloc::{AllocError, Global};
 
@@ -69,12 +66,6 @@ fn page_of(alloc: Global, applier: &Applier) -> Result<Vec<u8>, AllocError>
 {
     let board = Board::of(alloc, applier)?;
     status_page(alloc, &board)
-}
-
-fn opens_session(step: &Step) -> bool
-    ensures { result ≡ is_session step.now }
-{
-    matches!(step, Step::Packet(_) | Step::Line(_))
 }
 
 impl<D: SoloQueue + Drop> Player<D>
@@ -129,73 +120,31 @@ where
         self.applier
     }
 
-    // The session of a packet.
-    fn packet<W: Sink>(
-        self,
-        alloc: Global,
-        sent: &SentPacket,
-        output: &mut W,
-    ) -> Result<Player<D>, Stopped>
-        requires { IsReady (solo_view D.after D.limits) self (W.state output.old) }
-        ensures served { IfOk result (λ now. ServesFrom (solo_view D.after D.limits) self
-            (W.state output.old) (step.Packet sent.now) now (W.state output.new)) }
-        ensures none_failed { OnOk result (Fails (W.state output.old).tally
-            (W.state output.new).tally 0) }
-        ensures stopped { IfErr result (StopsServing (solo_view D.after D.limits) self
-            (W.state output.old) (W.state output.new)) }
+    // Prints the line of the session's one answer, and counts what it queued.
+    fn answer<W: Sink>(self, report: &Report, output: &mut W) -> Result<Player<D>, Stopped>
+        requires { self.queued < 2 ^ 34 }
+        ensures answered { IfOk result (λ now.
+            PrintsAnswer report.now self now (W.state output.old) (W.state output.new)) }
+        ensures stopped { IfErr result (
+            StopsBefore self.applier (W.state output.old) (W.state output.new)) }
     {
-        let (queue, report) = serve_packet(alloc, self.queue, sent, self.age, self.clock);
-        let Some(answer) = only_answer(&report) else {
+        let Some(answer) = only_answer(report) else {
             return Err(Stopped::OutOfMemory(self.applier));
         };
-        if let Err(fault) = print_answer(output, answer) {
+        let line = answer_line(answer);
+        if let Err(fault) = print(output, line.as_str().as_bytes()) {
             return Err(unwritten(self.applier, fault));
         }
         let queued = queued_after(self.queued, answer);
-        Ok(Player {
-            queue,
-            queued,
-            ..self
-        })
-    }
-
-    // The session of an operator's line.
-    fn line<W: Sink>(self, alloc: Global, text: &Text, output: &mut W) -> Result<Player<D>, Stopped>
-        requires { IsReady (solo_view D.after D.limits) self (W.state output.old) }
-        ensures served { IfOk result (λ now. ServesFrom (solo_view D.after D.limits) self
-            (W.state output.old) (step.Line text.now) now (W.state output.new)) }
-        ensures none_failed { OnOk result (Fails (W.state output.old).tally
-            (W.state output.new).tally 0) }
-        ensures stopped { IfErr result (StopsServing (solo_view D.after D.limits) self
-            (W.state output.old) (W.state output.new)) }
-    {
-        let mut written = Vec::new(alloc);
-        let (queue, report) = match serve_line(alloc, self.queue, text, self.clock, &mut written) {
-            Ok(served) => served,
-            Err(_) => return Err(Stopped::OutOfMemory(self.applier)),
-        };
-        let Some(answer) = only_answer(&report) else {
-            return Err(Stopped::OutOfMemory(self.applier));
-        };
-        if let Err(fault) = print(output, &written) {
-            return Err(unwritten(self.applier, fault));
-        }
-        let queued = queued_after(self.queued, answer);
-        Ok(Player {
-            queue,
-            queued,
-            ..self
-        })
+        Ok(Player { queued, ..self })
     }
 
     // The status page, at the clock's moment or the applier's, whichever is later.
     fn page<W: Sink>(self, alloc: Global, output: &mut W) -> Result<Player<D>, Stopped>
-        ensures served { IfOk result (λ now. ServesFrom (solo_view D.after D.limits) self
+        ensures played { IfOk result (λ now. PlaysFrom (solo_view D.after D.limits) self
             (W.state output.old) step.Page now (W.state output.new)) }
-        ensures none_failed { OnOk result (Fails (W.state output.old).tally
-            (W.state output.new).tally 0) }
-        ensures stopped { IfErr result (StopsServing (solo_view D.after D.limits) self
-            (W.state output.old) (W.state output.new)) }
+        ensures stopped { IfErr result (
+            StopsBefore self.applier (W.state output.old) (W.state output.new)) }
     {
         let mut player = self;
         player.applier.advance(player.clock);
@@ -208,33 +157,7 @@ where
         }
     }
 
-    // The step without its drain.
-    fn serve<W: Sink>(
-        self,
-        alloc: Global,
-        step: &Step,
-        output: &mut W,
-    ) -> Result<Player<D>, Stopped>
-        requires { IsReady (solo_view D.after D.limits) self (W.state output.old) }
-        ensures served { IfOk result (λ now. ServesFrom (solo_view D.after D.limits) self
-            (W.state output.old) step.now now (W.state output.new)) }
-        ensures none_failed { OnOk result (Fails (W.state output.old).tally
-            (W.state output.new).tally 0) }
-        ensures stopped { IfErr result (StopsServing (solo_view D.after D.limits) self
-            (W.state output.old) (W.state output.new)) }
-    {
-        match step {
-            Step::Clock(moment) => {
-                let mut player = self;
-                player.clock = *moment;
-                Ok(player)
-            }
-            Step::Packet(sent) => self.packet(alloc, sent, output),
-            Step::Line(text) => self.line(alloc, text, output),
-            Step::Page => self.page(alloc, output),
-        }
-    }
-
+    // Plays a step. What a session queued is recorded before the next step.
     fn step<W: Sink>(self, alloc: Global, step: &Step, output: &mut W) -> Result<Player<D>, Stopped>
         requires { IsReady (solo_view D.after D.limits) self (W.state output.old) }
         ensures played { IfOk result (λ now. PlaysFrom (solo_view D.after D.limits) self
@@ -243,15 +166,24 @@ where
             (solo_view D.Ended.after D.Ended.limits) self (W.state output.old) step.now
             (W.state output.new)) }
     {
-        match self.serve(alloc, step, output) {
-            Ok(player) => {
-                if opens_session(step) {
-                    player.drain()
-                } else {
-                    Ok(player)
-                }
+        match step {
+            Step::Clock(moment) => Ok(Player {
+                clock: *moment,
+                ..self
+            }),
+            Step::Packet(sent) => {
+                let (queue, report) = serve_packet(alloc, self.queue, sent, self.age, self.clock);
+                let player = Player { queue, ..self };
+                player.answer(&report, output)?.drain()
             }
-            Err(stop) => Err(stop),
+            Step::Line(text) => match serve_line(alloc, self.queue, text, self.clock) {
+                Ok((queue, report)) => {
+                    let player = Player { queue, ..self };
+                    player.answer(&report, output)?.drain()
+                }
+                Err(_) => Err(Stopped::OutOfMemory(self.applier)),
+            },
+            Step::Page => self.page(alloc, output),
         }
     }
 
@@ -264,16 +196,11 @@ where
         output: &mut W,
     ) -> Result<Player<D>, Stopped>
         requires { (setup : Setup) × IsNew (solo_view D.after D.limits) setup self }
-        ensures played { let view = solo_view D.after D.limits in
-            IfOk result (λ now. (setup : Setup) → IsNew view setup self → PlayedTo view
-            (setting setup (W.state output.old)) steps.now now (W.state output.new)) }
-        ensures stopped { let view = solo_view D.after D.limits in
-            let ended = solo_view D.Ended.after D.Ended.limits in
-            IfErr result (StopsBy (λ kept. (setup : Setup) → IsNew view setup self → PlayedFull
-            ended (setting setup (W.state output.old)) steps.now kept (W.state output.new)) (λ kept.
-            (setup : Setup) → IsNew view setup self → PlayedPart view
-            (setting setup (W.state output.old)) steps.now kept (W.state output.new)) (IsWriteEnd
-            (W.state output.old) (W.state output.new))) }
+        ensures played { IfOk result (λ now. PlaysAll (solo_view D.after D.limits) self
+            (W.state output.old) steps.now now (W.state output.new)) }
+        ensures stopped { IfErr result (StopsAll (solo_view D.after D.limits)
+            (solo_view D.Ended.after D.Ended.limits) self (W.state output.old) steps.now
+            (W.state output.new)) }
     {
         let mut player = self;
         for step in steps {

@@ -1,11 +1,10 @@
 ghost use Rattle.std.specs.Prelude.{◌≡◌, IfErr, OnOk};
 ghost use Rattle.std.specs.Io.KnownBytes.{Keeps};
 ghost use Rattle.gate_reader.specs.Sink.{IsDelivered, Fails, Writes};
-ghost use Rattle.gate_reader.specs.Report.{answer_line};
 ghost use Rattle.gate_replay.specs.inner.Playing.{IsWriteEnd};
 
-use crate::fault::{ReplayFault, write_fault};
-use gate_reader::{Answer, Sink, answer_line};
+use crate::fault::{ReplayFault, io_fault};
+use gate_reader::Sink;
 
 /// Writes all of a text.
 pub(crate) fn print<W: Sink>(output: &mut W, text: &[u8]) -> Result<(), ReplayFault>
@@ -14,7 +13,7 @@ pub(crate) fn print<W: Sink>(output: &mut W, text: &[u8]) -> Result<(), ReplayFa
 {
     match output.put(text) {
         Ok(()) => Ok(()),
-        Err(error) => Err(write_fault(&error)),
+        Err(error) => Err(io_fault(&error, ReplayFault::WriteFault)),
     }
 }
 
@@ -27,16 +26,6 @@ pub(crate) fn deliver<W: Sink>(output: &mut W) -> Result<(), ReplayFault>
 {
     match output.deliver() {
         Ok(()) => Ok(()),
-        Err(error) => Err(write_fault(&error)),
+        Err(error) => Err(io_fault(&error, ReplayFault::WriteFault)),
     }
-}
-
-/// Writes the line of an answer.
-pub(crate) fn print_answer<W: Sink>(output: &mut W, answer: &Answer) -> Result<(), ReplayFault>
-    ensures ok { OnOk result (Writes (W.state output.old) (W.state output.new)
-        (answer_line answer.now)) }
-    ensures err { IfErr result (IsWriteEnd (W.state output.old) (W.state output.new)) }
-{
-    let line = answer_line(answer);
-    print(output, line.as_str().as_bytes())
 }

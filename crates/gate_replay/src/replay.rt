@@ -9,7 +9,7 @@ ghost use Rattle.gate_reader.specs.Fault.{fault_in};
 ghost use Rattle.gate_replay.specs.Replay.{IsWholeInput, EndsWith, IsReplayRun};
 ghost use Rattle.gate_replay.specs.inner.Playing.{solo_view, IsShown, IsShownSoFar, IsLogEnd, EndsPlaying, IsInputFault};
 
-use crate::fault::{ReplayFault, read_fault};
+use crate::fault::{ReplayFault, io_fault};
 use crate::player::{Player, Stopped};
 use crate::printing::{deliver, print};
 use crate::script::{Script, read_script};
@@ -34,7 +34,7 @@ fn read_input<I: Read>(alloc: Global, input: &mut I) -> Result<Vec<u8>, ReplayFa
     let mut input = input.take(DOCUMENT_BYTES as u64 + 1);
     match input.read_to_end(&mut text) {
         Ok(_) => {}
-        Err(error) => return Err(read_fault(&error)),
+        Err(error) => return Err(io_fault(&error, ReplayFault::ReadFault)),
     }
     if text.len() > DOCUMENT_BYTES {
         return Err(ReplayFault::TooLong);
@@ -43,13 +43,14 @@ fn read_input<I: Read>(alloc: Global, input: &mut I) -> Result<Vec<u8>, ReplayFa
 }
 
 // Prints the log page, and flushes, also where there is no memory for the page.
-fn print_log<W: Sink>(alloc: Global, applier: &Applier, output: &mut W) -> Result<(), ReplayFault>
+fn print_log<W: Sink>(alloc: Global, applier: Applier, output: &mut W) -> Result<(), ReplayFault>
     ensures ok { OnOk result (Delivers (W.state output.old) (W.state output.new) (log_text
-        applier.now.records (outcomes_of applier.now.table applier.now.records))) }
-    ensures few { length applier.now.records ≤ applier.now.limit }
+        applier.records (outcomes_of applier.table applier.records))) }
     ensures err { IfErr result (IsLogEnd (W.state output.old) (W.state output.new)) }
 {
-    match log_page(alloc, applier.records(), applier.outcomes()) {
+    let page = log_page(alloc, applier.records(), applier.outcomes());
+    drop(applier);
+    match page {
         Ok(page) => {
             print(output, &page)?;
             deliver(output)
@@ -59,21 +60,6 @@ fn print_log<W: Sink>(alloc: Global, applier: &Applier, output: &mut W) -> Resul
             Err(ReplayFault::OutOfMemory)
         }
     }
-}
-
-// The same of an applier that nothing uses after it, which is dropped here alone.
-fn print_last_log<W: Sink>(
-    alloc: Global,
-    applier: Applier,
-    output: &mut W,
-) -> Result<(), ReplayFault>
-    ensures ok { OnOk result (Delivers (W.state output.old) (W.state output.new) (log_text
-        applier.records (outcomes_of applier.table applier.records))) }
-    ensures err { IfErr result (IsLogEnd (W.state output.old) (W.state output.new)) }
-{
-    let printed = print_log(alloc, &applier, output);
-    drop(applier);
-    printed
 }
 
 // The fault after which the log was printed, unless printing it failed.
@@ -108,14 +94,14 @@ where
     match player.play(alloc, &steps, output) {
         Ok(player) => {
             let applier = player.end();
-            print_last_log(alloc, applier, output)
+            print_log(alloc, applier, output)
         }
         Err(Stopped::Full(applier)) => {
-            let printed = print_last_log(alloc, applier, output);
+            let printed = print_log(alloc, applier, output);
             fault_after(printed, ReplayFault::LogFull)
         }
         Err(Stopped::OutOfMemory(applier)) => {
-            let printed = print_last_log(alloc, applier, output);
+            let printed = print_log(alloc, applier, output);
             fault_after(printed, ReplayFault::OutOfMemory)
         }
         Err(Stopped::Unwritten(fault)) => Err(fault),

@@ -5,7 +5,6 @@ ghost use Rattle.std.specs.Prelude.{◌≡◌, ◌∷◌, ◌++◌, [], ℕ, IfO
 ghost use Rattle.gate_core.specs.Legal.{Run};
 ghost use Rattle.gate_grammar.specs.Parsing.{text_before};
 ghost use Rattle.gate_reader.specs.declared.report.Answer.{Answer};
-ghost use Rattle.gate_reader.specs.Report.{answer_line};
 ghost use Rattle.gate_reader.specs.Session.{client_view};
 ghost use Rattle.gate_reader.specs.Lines.{operator_view};
 ghost use Rattle.gate_replay.specs.ReplayState.{body_of_line};
@@ -107,20 +106,17 @@ fn packet_session<S: Submit>(
     }
 }
 
-// Serves an operator's line at this moment, as one session, which writes its answer's line.
+// Serves an operator's line at this moment, as one session. Nobody reads what it writes.
 fn line_session<O: Operator>(
     alloc: Global,
     text: &[u8],
     now: Moment,
     operator: &mut O,
-    written: &mut Vec<u8>,
 ) -> Result<Report, AllocError>
     ensures answered { let view = operator_view O.Submit O.Operator.own (O.named operator.old) in
         IfOk result (λ report. (answer : Answer) → HasOnly report answer
         → CarriesOut view now operator.old
         (body_of_line (text_before 10 (text.now ++ 10 ∷ []))) answer operator.new) }
-    ensures written { IfOk result (λ report. (answer : Answer) → HasOnly report answer
-        → written.new.items ≡ written.old.items ++ answer_line answer) }
     ensures named { O.named operator.new ≡ O.named operator.old }
     ensures keeps { O.keeps operator.old operator.new }
 {
@@ -129,8 +125,16 @@ fn line_session<O: Operator>(
     input.extend_from_slice(text)?;
     input.push(b'\n')?;
     let mut reader = input.as_slice();
+    let mut written = Vec::new(alloc);
     let mut clock = FixedClock(now);
-    Ok(serve_lines(alloc, &mut reader, written, &mut clock, operator, LIMITS))
+    Ok(serve_lines(
+        alloc,
+        &mut reader,
+        &mut written,
+        &mut clock,
+        operator,
+        LIMITS,
+    ))
 }
 
 /// Serves a packet at this moment.
@@ -151,22 +155,19 @@ pub(crate) fn serve_packet<D: SoloQueue>(
     (client, report)
 }
 
-/// Serves an operator's line at this moment. The line of its answer is written.
+/// Serves an operator's line at this moment.
 pub(crate) fn serve_line<D: SoloQueue + Drop>(
     alloc: Global,
     queue: D,
     text: &Text,
     now: Moment,
-    written: &mut Vec<u8>,
 ) -> Result<(D, Report), AllocError>
     requires { (run : Run) × D.after queue run }
     ensures answered { IfOk result (λ served. (answer : Answer) → HasOnly served.1 answer
         → (age : ℕ) → AnswersStep (solo_view D.after D.limits) queue age now served.0
         (step.Line text.now) answer) }
-    ensures written { IfOk result (λ served. (answer : Answer) → HasOnly served.1 answer
-        → written.new.items ≡ written.old.items ++ answer_line answer) }
 {
     let mut client = queue.turn_to(LINE_CLIENT);
-    let report = line_session(alloc, text.bytes(), now, &mut client, written)?;
+    let report = line_session(alloc, text.bytes(), now, &mut client)?;
     Ok((client, report))
 }

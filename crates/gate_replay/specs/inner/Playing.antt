@@ -21,7 +21,7 @@ use Rattle.gate_replay.specs.declared.player.Stopped.TheVariants as stopped
 use Rattle.gate_replay.specs.declared.script.Step.{Step}
 use Rattle.gate_replay.specs.declared.setup.Setup.{Setup}
 use Rattle.gate_replay.specs.declared.script.Script.{Script}
-use Rattle.gate_replay.specs.ReplayState.{ReplayState, Heard, number_queued, serves, drains, plays, state_after, steps_of, Finishes, IsWholeStep, IsWhole, IsPlayed, BeginsDrain, IsBegunStep, IsWholeSoFar, IsPlayedSoFar}
+use Rattle.gate_replay.specs.ReplayState.{ReplayState, Heard, number_queued, drains, plays, state_after, steps_of, Finishes, IsWholeStep, IsWhole, IsPlayed, BeginsDrain, IsBegunStep, IsWholeSoFar, IsPlayedSoFar}
 use Rattle.gate_replay.specs.Replay.{IsTooLong, printed_by, PrintsSoFar}
 
 -- ---- a queue
@@ -148,22 +148,6 @@ pub record IsReady {D : Type 0} (view : SoloView D) (player : Player D) (output 
   pub under_way : IsUnderWay view player output
   pub few : player.queued < 2 ^ 34
 
--- ---- what a step did
-
--- the step was served, without its drain
-pub record Serves {D : Type 0} (view : SoloView D) (s : Setting) (player : Player D) (output : SinkState)
-    (step : Step) (g : ReplayState) : Type 0 where
-  pub heard : Heard
-  pub shows : (takes : List (Option Numbered))
-      → Shows view s player output (serves s.setup step (record heard { takes = takes }) g)
-
--- a drain from this state came to an end
-pub record Drains {D : Type 0} (view : SoloView D) (s : Setting) (player : Player D) (output : SinkState)
-    (g : ReplayState) : Type 0 where
-  pub takes : List (Option Numbered)
-  pub finishes : Finishes s.setup.limit takes g
-  pub shows : Shows view s player output (drains takes g)
-
 -- the log was full with an item left, and the queue has ended
 pub record Ends {E : Type 0} (ended : SoloView E) (s : Setting) (applier : ApplierView) (output : SinkState)
     (g : ReplayState) : Type 0 where
@@ -172,66 +156,36 @@ pub record Ends {E : Type 0} (ended : SoloView E) (s : Setting) (applier : Appli
   pub printed : Writes s.base output g.printed
   pub full : g.full ≡ true
 
--- a drain from this state met a full log with an item left
-pub record DrainsFull {E : Type 0} (ended : SoloView E) (s : Setting) (applier : ApplierView) (output : SinkState)
-    (g : ReplayState) : Type 0 where
+-- ---- what was done
+
+-- a drain from this state, whose takes are so, led to a state that is so
+pub record DrainsTo (AreWhole : ℕ → List (Option Numbered) → ReplayState → Type 0) (IsEnd : ReplayState → Type 0)
+    (limit : ℕ) (g : ReplayState) : Type 0 where
   pub takes : List (Option Numbered)
-  pub finishes : Finishes s.setup.limit takes g
-  pub ends : Ends ended s applier output (drains takes g)
+  pub whole : AreWhole limit takes g
+  pub ends : IsEnd (drains takes g)
 
--- memory ran out amid a drain from this state
-pub record DrainsPart {D : Type 0} (view : SoloView D) (s : Setting) (applier : ApplierView) (output : SinkState)
-    (g : ReplayState) : Type 0 where
-  pub takes : List (Option Numbered)
-  pub begins : BeginsDrain s.setup.limit takes g
-  pub stays : Stays view s applier output (drains takes g)
-
--- the step was played
-pub record Plays {D : Type 0} (view : SoloView D) (s : Setting) (player : Player D) (output : SinkState)
-    (step : Step) (g : ReplayState) : Type 0 where
+-- a step from this state, whose drain is so, led to a state that is so
+pub record PlaysTo (AreWhole : Setup → Step → Heard → ReplayState → Type 0) (IsEnd : ReplayState → Type 0)
+    (setup : Setup) (step : Step) (g : ReplayState) : Type 0 where
   pub heard : Heard
-  pub whole : IsWholeStep s.setup step heard g
-  pub shows : Shows view s player output (plays s.setup step heard g)
+  pub whole : AreWhole setup step heard g
+  pub ends : IsEnd (plays setup step heard g)
 
--- the step was played, and the log was full with an item left
-pub record PlaysFull {E : Type 0} (ended : SoloView E) (s : Setting) (applier : ApplierView) (output : SinkState)
-    (step : Step) (g : ReplayState) : Type 0 where
-  pub heard : Heard
-  pub whole : IsWholeStep s.setup step heard g
-  pub ends : Ends ended s applier output (plays s.setup step heard g)
-
--- memory ran out amid the drain of the step
-pub record PlaysPart {D : Type 0} (view : SoloView D) (s : Setting) (applier : ApplierView) (output : SinkState)
-    (step : Step) (g : ReplayState) : Type 0 where
-  pub heard : Heard
-  pub begins : IsBegunStep s.setup step heard g
-  pub stays : Stays view s applier output (plays s.setup step heard g)
-
--- the steps so far were played
-pub record PlayedTo {D : Type 0} (view : SoloView D) (s : Setting) (steps : List Step) (player : Player D)
-    (output : SinkState) : Type 0 where
+-- the steps, whose drains are so, led to a state that is so
+pub record PlayedTo (AreWhole : Setup → List (Step × Heard) → Type 0) (IsEnd : ReplayState → Type 0) (setup : Setup)
+    (steps : List Step) : Type 0 where
   pub done : List (Step × Heard)
   pub steps_are : steps_of done ≡ reverse steps
-  pub whole : IsWhole s.setup done
-  pub shows : Shows view s player output (state_after s.setup done)
-
--- the steps were played, and at one of them the log was full with an item left
-pub record PlayedFull {E : Type 0} (ended : SoloView E) (s : Setting) (steps : List Step) (applier : ApplierView)
-    (output : SinkState) : Type 0 where
-  pub done : List (Step × Heard)
-  pub steps_are : steps_of done ≡ reverse steps
-  pub whole : IsWhole s.setup done
-  pub ends : Ends ended s applier output (state_after s.setup done)
+  pub whole : AreWhole setup done
+  pub ends : IsEnd (state_after setup done)
 
 -- the first steps were played, and then memory ran out
 pub record PlayedPart {D : Type 0} (view : SoloView D) (s : Setting) (steps : List Step) (applier : ApplierView)
     (output : SinkState) : Type 0 where
   pub front : List Step
   pub front_begins : IsPrefix front steps
-  pub done : List (Step × Heard)
-  pub steps_are : steps_of done ≡ reverse front
-  pub whole : IsWholeSoFar s.setup done
-  pub stays : Stays view s applier output (state_after s.setup done)
+  pub played : PlayedTo IsWholeSoFar (Stays view s applier output) s.setup front
 
 -- ---- ends
 
@@ -260,29 +214,42 @@ StopsBy P Q R (stopped.Full applier) = P applier
 StopsBy P Q R (stopped.OutOfMemory applier) = Q applier
 StopsBy P Q R (stopped.Unwritten fault) = R fault
 
--- the player, from whatever state of the gateway it had come to, served the step without its drain
-abbrev pub ServesFrom : {D : Type 0} → SoloView D → Player D → SinkState → Step → Player D → SinkState → Type 0
-ServesFrom view was before step now after =
-    (s : Setting) (g : ReplayState) → Shows view s was before g → Serves view s now after step g
-
--- the player stopped before the step was printed, and no item found the log full: memory ran out, or a write failed
-abbrev pub StopsServing : {D : Type 0} → SoloView D → Player D → SinkState → SinkState → Stopped → Type 0
-StopsServing view was before after = StopsBy (λ _. ⊥)
-    (λ kept. (s : Setting) (g : ReplayState) → Shows view s was before g → Stays view s kept after g)
+-- the player stopped before it printed, and no item found the log full: memory ran out, where the applier has the
+-- records that it had, or a write failed
+abbrev pub StopsBefore : ApplierView → SinkState → SinkState → Stopped → Type 0
+StopsBefore applier before after = StopsBy (λ _. ⊥)
+    (λ kept. (kept ≡ record applier { moment = kept.moment; room = kept.room }) × (after ≡ before))
     (IsWriteEnd before after)
 
 -- the player, from whatever state of the gateway it had come to, played the step
 abbrev pub PlaysFrom : {D : Type 0} → SoloView D → Player D → SinkState → Step → Player D → SinkState → Type 0
 PlaysFrom view was before step now after =
-    (s : Setting) (g : ReplayState) → Shows view s was before g → Plays view s now after step g
+    (s : Setting) (g : ReplayState) → Shows view s was before g
+    → PlaysTo IsWholeStep (Shows view s now after) s.setup step g
 
 -- the player stopped at the step: an item found the log full; memory ran out before or amid it; or a write failed
 abbrev pub StopsPlaying : {D E : Type 0} → SoloView D → SoloView E → Player D → SinkState → Step → SinkState
     → Stopped → Type 0
 StopsPlaying view ended was before step after = StopsBy
-    (λ kept. (s : Setting) (g : ReplayState) → Shows view s was before g → PlaysFull ended s kept after step g)
     (λ kept. (s : Setting) (g : ReplayState) → Shows view s was before g
-    → Stays view s kept after g ⊎ PlaysPart view s kept after step g)
+    → PlaysTo IsWholeStep (Ends ended s kept after) s.setup step g)
+    (λ kept. (s : Setting) (g : ReplayState) → Shows view s was before g
+    → Stays view s kept after g ⊎ PlaysTo IsBegunStep (Stays view s kept after) s.setup step g)
+    (IsWriteEnd before after)
+
+-- the player, which was new, played the steps
+abbrev pub PlaysAll : {D : Type 0} → SoloView D → Player D → SinkState → List Step → Player D → SinkState → Type 0
+PlaysAll view was before steps now after =
+    (setup : Setup) → IsNew view setup was
+    → PlayedTo IsWhole (Shows view (setting setup before) now after) setup steps
+
+-- the player, which was new, stopped at one of the steps
+abbrev pub StopsAll : {D E : Type 0} → SoloView D → SoloView E → Player D → SinkState → List Step → SinkState
+    → Stopped → Type 0
+StopsAll view ended was before steps after = StopsBy
+    (λ kept. (setup : Setup) → IsNew view setup was
+    → PlayedTo IsWhole (Ends ended (setting setup before) kept after) setup steps)
+    (λ kept. (setup : Setup) → IsNew view setup was → PlayedPart view (setting setup before) steps kept after)
     (IsWriteEnd before after)
 
 -- an applier had no room for a record: its log is full, or memory ran out while it is not
@@ -298,13 +265,19 @@ StopsTaking view ended player = StopsBy (FindsFull view ended player)
     (λ kept. (kept ≡ player.applier) × (length player.applier.records ≢ player.applier.limit))
     (λ _. ⊥)
 
+-- the player, from whatever state of the gateway it had come to, recorded what was queued
+abbrev pub DrainsFrom : {D : Type 0} → SoloView D → Player D → Player D → Type 0
+DrainsFrom view was now =
+    (s : Setting) (output : SinkState) (g : ReplayState) → Shows view s was output g
+    → DrainsTo Finishes (Shows view s now output) s.setup.limit g
+
 -- the drain stopped: the log was full with an item left, or memory ran out amid it
 abbrev pub StopsDraining : {D E : Type 0} → SoloView D → SoloView E → Player D → Stopped → Type 0
 StopsDraining view ended was = StopsBy
     (λ kept. (s : Setting) (output : SinkState) (g : ReplayState) → Shows view s was output g
-    → DrainsFull ended s kept output g)
+    → DrainsTo Finishes (Ends ended s kept output) s.setup.limit g)
     (λ kept. (s : Setting) (output : SinkState) (g : ReplayState) → Shows view s was output g
-    → DrainsPart view s kept output g)
+    → DrainsTo BeginsDrain (Stays view s kept output) s.setup.limit g)
     (λ _. ⊥)
 
 -- a script was played, to a full log or to its end, and what it prints was delivered

@@ -18,8 +18,10 @@ use Rattle.gate_reader.specs.declared.report.Stop.{Stop}
 use Rattle.gate_reader.specs.declared.report.Stop.TheVariants.{End, Truncated, Shutdown}
 use Rattle.gate_reader.specs.Report.{answer_to, answer_line}
 use Rattle.gate_reader.specs.Session.{ClientView, Submits}
+use Rattle.gate_reader.specs.Sink.{SinkState, Writes}
 use Rattle.gate_reader.specs.Lines.{OperatorView, Closes, first_close}
 use Rattle.gate_replay.specs.declared.script.Step.{Step}
+use Rattle.gate_replay.specs.declared.player.Player.{Player}
 use Rattle.gate_replay.specs.declared.setup.Setup.{Setup}
 use Rattle.gate_replay.specs.ReplayState.{ReplayState, Heard, prints, asks, is_shutdown, number_queued, serves}
 use Rattle.gate_replay.specs.inner.Playing.{SoloView, HoldsRun}
@@ -70,6 +72,13 @@ CarriesOut view now old (Ok body) answer new =
 abbrev pub queued_in : Answer → ℕ
 queued_in (Queued number) = 1
 queued_in _ = 0
+
+-- the session's one answer was printed, and what it queued counted
+pub record PrintsAnswer {D : Type 0} (report : Report) (was now : Player D) (before after : SinkState) : Type 0 where
+  pub answer : Answer
+  pub only : HasOnly report answer
+  pub same : now ≡ record was { queued = was.queued + queued_in answer }
+  pub printed : Writes before after (answer_line answer)
 
 -- a step is a session that asks this queue so much and prints this answer
 pub record Answers {D : Type 0} (view : SoloView D) (setup : Setup) (queue : D) (step : Step) (answer : Answer)
