@@ -1,7 +1,6 @@
 -- The steps of a replay.
-use Rattle.std.proofs.Common.{◌≡◌, ◌⊎◌, inl, inr, ⊎_elim, ℕ, ◌+◌, ◌^◌, ◌<◌, List, [], ◌∷◌, ◌++◌, length, take, drop, get_or, Option, Some, None, Result, Ok, Err, Bool, true, false, cond, refl, sym, ap, ◌∙◌, subst, arith, append_assoc}
+use Rattle.std.proofs.Common.{◌≡◌, ◌⊎◌, inl, inr, ℕ, ◌+◌, ◌^◌, ◌<◌, List, [], ◌∷◌, ◌++◌, length, take, drop, get_or, Option, Some, None, Result, Ok, Err, Bool, true, false, cond, refl, sym, ap, ◌∙◌, subst, arith, append_assoc}
 use Rattle.std.specs.Prelude.{IfOk, IfErr, reverse}
-use Rattle.std.proofs.lemmas.Bool.{true≢false}
 use Rattle.std.proofs.lemmas.List.{reverse-append, take-append-drop, take_more}
 use Rattle.gate_model.specs.declared.record.Moment.{Moment}
 use Rattle.gate_model.specs.declared.submission.Numbered.{Numbered}
@@ -28,9 +27,9 @@ use Rattle.gate_replay.specs.declared.script.Step.TheVariants as step
 use Rattle.gate_replay.specs.declared.setup.Setup.{Setup}
 use Rattle.gate_replay.specs.ReplayState.{ReplayState, Heard, prints, asks, body_of_line, carries_out, is_session, serves, drains, plays, state_after, steps_of, records_item, Finishes, IsWholeStep, IsWhole, BeginsDrain, IsBegunStep, IsWholeSoFar}
 use Rattle.gate_replay.specs.inner.Sessions.{queued_in, HasOnly, PrintsAnswer, Answers, AnswersStep}
-use Rattle.gate_replay.specs.inner.Playing.{SoloView, Setting, setting, ShowsRecords, Shows, IsNew, IsUnderWay, IsReady, Ends, Stays, DrainsTo, PlaysTo, PlayedTo, PlayedPart, IsWriteEnd, StopsBy, StopsBefore, PlaysFrom, StopsPlaying, StopsAll, DrainsFrom, StopsDraining}
+use Rattle.gate_replay.specs.inner.Playing.{SoloView, Setting, setting, ShowsRecords, Shows, IsNew, IsUnderWay, IsReady, Ends, Stays, DrainsTo, PlaysTo, PlayedTo, PlayedPart, IsWriteEnd, StopsBefore, PlaysFrom, StopsPlaying, StopsAll, DrainsFrom, StopsDraining}
 use Rattle.gate_reader.proofs.Outputs.{fails_then, writes_none, writes_on}
-use Rattle.gate_replay.proofs.SoloSteps.{queued_few, holds_same}
+use Rattle.gate_replay.proofs.SoloSteps.{queued_few}
 
 abbrev nothing_heard : List (Option Numbered) → Heard
 nothing_heard takes = record { reply = Ok 0; closed = None; takes = takes }

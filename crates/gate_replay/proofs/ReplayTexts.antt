@@ -1,5 +1,5 @@
 -- What was read of the input, and how a replay of it ends.
-use Rattle.std.proofs.Common.{◌≡◌, ◌⊎◌, inl, inr, ⊎_elim, ℕ, ◌<◌, ◌≤◌, ◌++◌, List, [], length, take, Option, Some, None, refl, ap, ◌∙◌, arith, take_all}
+use Rattle.std.proofs.Common.{◌≡◌, ◌⊎◌, inl, inr, ⊎_elim, ℕ, ◌<◌, ◌≤◌, ◌++◌, List, [], length, take, Option, Some, None, ap, ◌∙◌, arith, take_all}
 use Rattle.std.specs.Prelude.{IfSome, option_map}
 use Rattle.std.proofs.lemmas.List.{length-take}
 use Rattle.gate_core.specs.Limits.{Limits}
@@ -7,13 +7,10 @@ use Rattle.gate_core.specs.Legal.{Run}
 use Rattle.gate_replay.specs.declared.fault.ReplayFault.{ReplayFault}
 use Rattle.gate_replay.specs.declared.fault.ReplayFault.TheVariants.{TooLong, Line, LogFull, OutOfMemory, ReadFault, WriteFault}
 use Rattle.gate_replay.specs.declared.script.Script.{Script}
-use Rattle.gate_replay.specs.declared.script.ScriptFault.{ScriptFault}
-use Rattle.gate_replay.specs.declared.script.ScriptFault.TheVariants as script
-use Rattle.gate_replay.specs.Script.{parsed_script_lines, IsScript, IsFaultOf}
+use Rattle.gate_replay.specs.Script.{parsed_script_lines, IsScript}
 use Rattle.gate_reader.specs.Sink.{SinkState, FailsOnce}
-use Rattle.gate_replay.specs.Fault.{replay_fault}
 use Rattle.gate_replay.specs.Replay.{IsWholeInput, EndsWith}
-use Rattle.gate_replay.specs.inner.Playing.{IsPrintedSoFar, EndsPlaying, IsInputFault}
+use Rattle.gate_replay.specs.inner.Playing.{IsPrintedSoFar, EndsPlaying}
 
 -- what was read is all, where it is less than the most
 pub whole_text : (known : Option (List ℕ)) (front items : List ℕ) (most : ℕ) → front ≡ [] → IfSome (option_map (take most) known) (λ xs. items ≡ front ++ xs) → length items < most → IsWholeInput known items

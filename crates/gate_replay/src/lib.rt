@@ -11,7 +11,6 @@ mod fault;
 mod laws;
 mod lines;
 mod player;
-mod printing;
 mod replay;
 mod script;
 mod script_line;

@@ -1,14 +1,14 @@
 ghost use Rattle.std.specs.Prelude.{◌≡◌, ◌+◌, ◌<◌, ◌^◌, [], IfOk, IfErr, OnOk};
 ghost use Rattle.gate_core.specs.Limits.{limits_of, default_quota};
 ghost use Rattle.gate_core.specs.Legal.{Run};
+ghost use Rattle.gate_reader.specs.Sink.{Writes};
 ghost use Rattle.gate_pages.specs.StatusPage.{status_text_at};
 ghost use Rattle.gate_replay.specs.declared.script.Step.TheVariants as step;
 ghost use Rattle.gate_replay.specs.declared.setup.Setup.{Setup};
 ghost use Rattle.gate_replay.specs.inner.Sessions.{queued_in, PrintsAnswer};
-ghost use Rattle.gate_replay.specs.inner.Playing.{solo_view, IsNew, IsReady, IsEnded, StopsBefore, PlaysFrom, StopsPlaying, PlaysAll, StopsAll};
+ghost use Rattle.gate_replay.specs.inner.Playing.{solo_view, IsNew, IsReady, IsEnded, IsWriteEnd, StopsBefore, PlaysFrom, StopsPlaying, PlaysAll, StopsAll};
 
-use crate::fault::ReplayFault;
-use crate::printing::print;
+use crate::fault::{ReplayFault, io_fault};
 use crate::script::Step;
 use crate::sessions::{only_answer, serve_line, serve_packet};
 use crate::setup::Setup;
@@ -49,6 +49,17 @@ fn queued_after(queued: u64, answer: &Answer) -> u64
     match answer {
         Answer::Queued(_) => queued + 1,
         _ => queued,
+    }
+}
+
+// Writes all of a text.
+fn print<W: Sink>(output: &mut W, text: &[u8]) -> Result<(), ReplayFault>
+    ensures ok { OnOk result (Writes (W.state output.old) (W.state output.new) text.now) }
+    ensures err { IfErr result (IsWriteEnd (W.state output.old) (W.state output.new)) }
+{
+    match output.put(text) {
+        Ok(()) => Ok(()),
+        Err(error) => Err(io_fault(&error, ReplayFault::WriteFault)),
     }
 }
 

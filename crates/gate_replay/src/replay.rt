@@ -11,7 +11,6 @@ ghost use Rattle.gate_replay.specs.inner.Playing.{solo_view, IsShown, IsShownSoF
 
 use crate::fault::{ReplayFault, io_fault};
 use crate::player::{Player, Stopped};
-use crate::printing::{deliver, print};
 use crate::script::{Script, read_script};
 use crate::setup::Setup;
 use gate_applier::Applier;
@@ -19,7 +18,7 @@ use gate_core::{LocalClient, OpenFault, World};
 use gate_model::DOCUMENT_BYTES;
 use gate_pages::log_page;
 use gate_queue::open;
-use gate_reader::{Sink, end_with};
+use gate_reader::{Sink, end_with, put_last};
 use gate_solo::{SoloGate, SoloQueue};
 use std::alloc::Global;
 use std::io::Read;
@@ -51,14 +50,14 @@ fn print_log<W: Sink>(alloc: Global, applier: Applier, output: &mut W) -> Result
     let page = log_page(alloc, applier.records(), applier.outcomes());
     drop(applier);
     match page {
-        Ok(page) => {
-            print(output, &page)?;
-            deliver(output)
-        }
-        Err(_) => {
-            deliver(output)?;
-            Err(ReplayFault::OutOfMemory)
-        }
+        Ok(page) => match put_last(output, &page) {
+            Ok(()) => Ok(()),
+            Err(error) => Err(io_fault(&error, ReplayFault::WriteFault)),
+        },
+        Err(_) => match output.deliver() {
+            Ok(()) => Err(ReplayFault::OutOfMemory),
+            Err(error) => Err(io_fault(&error, ReplayFault::WriteFault)),
+        },
     }
 }
 

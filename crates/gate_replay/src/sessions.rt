@@ -61,7 +61,6 @@ fn stream_session<S: Submit>(
     ensures answered { let view = client_view S.Submit (S.named client.old) in
         (packet : Content) (answer : Answer) → BeginsWith bytes.now packet → HasOnly result answer
         → AnswersPacket view greatest_age packet now client.old answer client.new }
-    ensures named { S.named client.new ≡ S.named client.old }
     ensures keeps { S.keeps client.old client.new }
 {
     one_reading();
@@ -90,7 +89,6 @@ fn packet_session<S: Submit>(
     ensures answered { let view = client_view S.Submit (S.named client.old) in
         (answer : Answer) → HasOnly result answer → AnswersPacket view greatest_age
         (received sent.now) now client.old answer client.new }
-    ensures named { S.named client.new ≡ S.named client.old }
     ensures keeps { S.keeps client.old client.new }
 {
     let packet = sent.packet();
@@ -117,7 +115,6 @@ fn line_session<O: Operator>(
         IfOk result (λ report. (answer : Answer) → HasOnly report answer
         → CarriesOut view now operator.old
         (body_of_line (text_before 10 (text.now ++ 10 ∷ []))) answer operator.new) }
-    ensures named { O.named operator.new ≡ O.named operator.old }
     ensures keeps { O.keeps operator.old operator.new }
 {
     round_trip();
