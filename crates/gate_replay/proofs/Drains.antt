@@ -13,6 +13,7 @@ use Rattle.gate_replay.specs.declared.player.Player.{Player}
 use Rattle.gate_replay.specs.declared.player.Stopped.{Stopped}
 use Rattle.gate_replay.specs.declared.player.Stopped.TheVariants as stopped
 use Rattle.gate_replay.specs.ReplayState.{ReplayState, records_item, drains, number_queued, Finishes, BeginsDrain}
+use Rattle.gate_replay.proofs.SoloSteps.{records_on}
 use Rattle.gate_replay.specs.inner.Playing.{SoloView, Extends, IsEnded, Setting, Shows, FindsFull, Takes, TakesItem, TakesNothing, DrainsTo, DrainsFrom, Stays, Ends, StopsPreparing, StopsTaking, StopsDraining}
 
 -- whatever is so of a drain from g is so of one from start
@@ -84,12 +85,7 @@ drains_full {D} view ended was now kept some found on s output g h =
       whole = more.1;
       ends = subst (λ (x : ReplayState). Ends ended s kept output x) (sym (more.2 ∙ same)) (record {
         kept = record { queue = found.is_ended.rest; after = found.is_ended.after r.g.run r.shows.holds.after; limits_are = found.is_ended.limits_are ∙ r.shows.holds.limits };
-        shown = record {
-          table = ap (λ (a : ApplierView). a.table) found.applier ∙ r.shows.applier.table;
-          opening = ap (λ (a : ApplierView). a.opening) found.applier ∙ r.shows.applier.opening;
-          limit = ap (λ (a : ApplierView). a.limit) found.applier ∙ r.shows.applier.limit;
-          records = ap (λ (a : ApplierView). a.records) found.applier ∙ r.shows.applier.records;
-        };
+        shown = records_on s.setup now.applier kept r.g (record r.g { full = true }) (subst (λ (v : ApplierView). v ≡ record now.applier { moment = v.moment; room = v.room }) (sym found.applier) refl) refl r.shows.applier;
         printed = r.shows.printed;
         full = refl;
       });
@@ -230,12 +226,7 @@ drains_part {D} view was now kept is few room on s output g h =
       whole = more.1;
       ends = subst (λ (x : ReplayState). Stays view s kept output x) (sym more.2) (record {
         stood = record { queue = now.queue; after = r.shows.holds.after; limits_are = r.shows.holds.limits };
-        shown = record {
-          table = ap (λ (a : ApplierView). a.table) is ∙ r.shows.applier.table;
-          opening = ap (λ (a : ApplierView). a.opening) is ∙ r.shows.applier.opening;
-          limit = ap (λ (a : ApplierView). a.limit) is ∙ r.shows.applier.limit;
-          records = ap (λ (a : ApplierView). a.records) is ∙ r.shows.applier.records;
-        };
+        shown = records_on s.setup now.applier kept r.g (drains [] r.g) (subst (λ (v : ApplierView). v ≡ record now.applier { moment = v.moment; room = v.room }) (sym is) refl) refl r.shows.applier;
         printed = r.shows.printed;
         room = λ _. below_limit view s now output r.g r.shows few room;
       });

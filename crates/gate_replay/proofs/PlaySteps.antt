@@ -27,9 +27,9 @@ use Rattle.gate_replay.specs.declared.script.Step.TheVariants as step
 use Rattle.gate_replay.specs.declared.setup.Setup.{Setup}
 use Rattle.gate_replay.specs.ReplayState.{ReplayState, Heard, prints, asks, body_of_line, carries_out, is_session, serves, drains, plays, state_after, steps_of, records_item, Finishes, IsWholeStep, IsWhole, BeginsDrain, IsBegunStep, IsWholeSoFar}
 use Rattle.gate_replay.specs.inner.Sessions.{queued_in, HasOnly, PrintsAnswer, Answers, AnswersStep}
-use Rattle.gate_replay.specs.inner.Playing.{SoloView, Setting, setting, ShowsRecords, Shows, IsNew, IsUnderWay, IsReady, Ends, Stays, DrainsTo, PlaysTo, PlayedTo, PlayedPart, IsWriteEnd, StopsBefore, PlaysFrom, StopsPlaying, StopsAll, DrainsFrom, StopsDraining}
+use Rattle.gate_replay.specs.inner.Playing.{SoloView, Setting, setting, Shows, IsNew, IsUnderWay, IsReady, Ends, Stays, DrainsTo, PlaysTo, PlayedTo, PlayedPart, IsWriteEnd, StopsBefore, PlaysFrom, StopsPlaying, StopsAll, DrainsFrom, StopsDraining}
 use Rattle.gate_reader.proofs.Outputs.{fails_then, writes_none, writes_on}
-use Rattle.gate_replay.proofs.SoloSteps.{queued_few}
+use Rattle.gate_replay.proofs.SoloSteps.{queued_few, records_on}
 
 abbrev nothing_heard : List (Option Numbered) → Heard
 nothing_heard takes = record { reply = Ok 0; closed = None; takes = takes }
@@ -44,15 +44,6 @@ pub record Serves {D : Type 0} (view : SoloView D) (s : Setting) (player : Playe
 -- the player, from whatever state of the gateway it had come to, served the step
 abbrev pub ServesFrom : {D : Type 0} → SoloView D → Player D → SinkState → Step → Player D → SinkState → Type 0
 ServesFrom view was before step now after = (s : Setting) (g : ReplayState) → Shows view s was before g → Serves view s now after step g
-
--- an applier that has the same records shows those of a gateway that has the same
-records_on : (setup : Setup) (applier kept : ApplierView) (g h : ReplayState) → kept ≡ record applier { moment = kept.moment; room = kept.room } → h.records ≡ g.records → ShowsRecords setup applier g → ShowsRecords setup kept h
-records_on setup applier kept g h is same shown = record {
-  table = ap (λ (v : ApplierView). v.table) is ∙ shown.table;
-  opening = ap (λ (v : ApplierView). v.opening) is ∙ shown.opening;
-  limit = ap (λ (v : ApplierView). v.limit) is ∙ shown.limit;
-  records = ap (λ (v : ApplierView). v.records) is ∙ shown.records ∙ sym same;
-}
 
 serves_clock : {D : Type 0} (view : SoloView D) (was : Player D) (clock : Moment) (output : SinkState) → ServesFrom view was output (step.Clock clock) (record was { clock = clock }) output
 serves_clock {D} view was clock output s g h = record {

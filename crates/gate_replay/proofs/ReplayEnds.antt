@@ -5,19 +5,20 @@ use Rattle.std.proofs.lemmas.List.{append-nil}
 use Rattle.gate_model.specs.declared.object.ObjectLine.{ObjectLine}
 use Rattle.gate_model.specs.declared.record.Record.{Record}
 use Rattle.gate_model.specs.Meaning.{outcomes_of}
-use Rattle.gate_core.specs.Limits.{Limits}
+use Rattle.gate_core.specs.Limits.{Limits, limits_of, default_quota}
 use Rattle.gate_core.specs.Legal.{Run}
 use Rattle.gate_solo.specs.Ending.{with_ends}
 use Rattle.gate_applier.specs.Applier.{ApplierView}
 use Rattle.gate_pages.specs.LogPage.{log_text}
-use Rattle.gate_reader.specs.Sink.{SinkState, Fails, Writes, Delivers, FailsOnce}
+use Rattle.gate_reader.specs.Sink.{SinkState, Writes, Delivers, FailsOnce}
 use Rattle.gate_replay.specs.declared.fault.ReplayFault.{ReplayFault}
 use Rattle.gate_replay.specs.declared.fault.ReplayFault.TheVariants.{TooLong, Line, LogFull, OutOfMemory, ReadFault, WriteFault}
 use Rattle.gate_replay.specs.declared.player.Player.{Player}
 use Rattle.gate_replay.specs.declared.script.Script.{Script}
+use Rattle.gate_replay.specs.Replay.{printed_by}
 use Rattle.gate_replay.specs.ReplayState.{ReplayState, state_after, IsWhole, IsPlayedSoFar}
 use Rattle.gate_reader.specs.Fault.{fault_in}
-use Rattle.gate_replay.specs.inner.Playing.{SoloView, setting, Shows, Ends, IsShown, IsShownSoFar, IsEnded, PlayedTo, PlayedPart, IsWriteEnd, IsLogEnd, IsPrinted, IsPrintedSoFar, EndsPlaying}
+use Rattle.gate_replay.specs.inner.Playing.{SoloView, setting, ShowsRecords, Shows, Ends, IsShown, IsShownSoFar, IsEnded, PlayedTo, PlayedPart, IsLogEnd, IsPrinted, IsPrintedSoFar, EndsPlaying}
 use Rattle.gate_reader.proofs.Outputs.{fails_then, delivers_on}
 use Rattle.gate_replay.proofs.PlaySteps.{whole_so_far}
 
@@ -25,77 +26,36 @@ page_again : (table other : List ObjectLine) (records more : List Record) → re
 page_again table other records more e f = rw (e, f) refl
 
 -- the log page is delivered after the answers and the status pages
-finished : {D E : Type 0} (view : SoloView D) (ended : SoloView E) (script : Script) (player : Player D) (b m a : SinkState) → IsEnded view ended player.queue → PlayedTo IsWhole (Shows view (setting script.setup b) player m) script.setup script.steps.items → Delivers m a (log_text player.applier.records (outcomes_of player.applier.table player.applier.records)) → IsPrinted (IsShown ended) script b a false
-finished {D} view ended script player b m a e h printed =
-    let g : ReplayState = state_after script.setup h.done in
-    let page = page_again player.applier.table script.setup.table player.applier.records g.records h.ends.applier.records h.ends.applier.table in
-    record {
-      replayed = g;
-      played = record {
-        done = h.done;
-        steps_are = h.steps_are;
-        whole = h.whole;
-        is = refl;
-        kept = record { queue = e.rest; after = e.after g.run h.ends.holds.after; limits_are = e.limits_are ∙ h.ends.holds.limits };
-      };
-      full_is = h.ends.running;
-      printed = delivers_on b m a g.printed _ h.ends.printed (subst (λ (t : List ℕ). Delivers m a t) page printed);
-    }
+page_on : (script : Script) (applier : ApplierView) (g : ReplayState) (b m a : SinkState) → ShowsRecords script.setup applier g → Writes b m g.printed → Delivers m a (log_text applier.records (outcomes_of applier.table applier.records)) → Delivers b a (printed_by script g)
+page_on script applier g b m a shown written page =
+    delivers_on b m a g.printed _ written (subst (λ (t : List ℕ). Delivers m a t) (page_again applier.table script.setup.table applier.records g.records shown.records shown.table) page)
 
-finished_full : {E : Type 0} (ended : SoloView E) (script : Script) (kept : ApplierView) (b m a : SinkState) → PlayedTo IsWhole (Ends ended (setting script.setup b) kept m) script.setup script.steps.items → Delivers m a (log_text kept.records (outcomes_of kept.table kept.records)) → IsPrinted (IsShown ended) script b a true
-finished_full {E} ended script kept b m a h printed =
-    let g : ReplayState = state_after script.setup h.done in
-    let page = page_again kept.table script.setup.table kept.records g.records h.ends.shown.records h.ends.shown.table in
-    record {
-      replayed = g;
-      played = record {
-        done = h.done;
-        steps_are = h.steps_are;
-        whole = h.whole;
-        is = refl;
-        kept = h.ends.kept;
-      };
-      full_is = h.ends.full;
-      printed = delivers_on b m a g.printed _ h.ends.printed (subst (λ (t : List ℕ). Delivers m a t) page printed);
-    }
+-- all steps were played, and what they print was delivered
+whole_printed : (rules : Limits → Run → Type 0) (script : Script) (full : Bool) (applier : ApplierView) (b m a : SinkState) (IsEnd : ReplayState → Type 0) (h : PlayedTo IsWhole IsEnd script.setup script.steps.items)
+    → rules (limits_of 2 default_quota script.setup.capacity) (with_ends (state_after script.setup h.done).run) → (state_after script.setup h.done).full ≡ full
+    → ShowsRecords script.setup applier (state_after script.setup h.done) → Writes b m (state_after script.setup h.done).printed → Delivers m a (log_text applier.records (outcomes_of applier.table applier.records)) → IsPrinted rules script b a full
+whole_printed rules script full applier b m a IsEnd h kept full_is shown written page = record {
+  replayed = state_after script.setup h.done;
+  played = record { done = h.done; steps_are = h.steps_are; whole = h.whole; is = refl; kept = kept };
+  full_is = full_is;
+  printed = page_on script applier (state_after script.setup h.done) b m a shown written page;
+}
 
-finished_part : {D : Type 0} (view : SoloView D) (so_far : Limits → Run → Type 0) (script : Script) (kept : ApplierView) (b m a : SinkState) (h : PlayedPart view (setting script.setup b) script.steps.items kept m) → IsPlayedSoFar so_far script (state_after script.setup h.played.done)
-    → Delivers m a (log_text kept.records (outcomes_of kept.table kept.records)) → IsPrintedSoFar so_far script b a
-finished_part {D} view so_far script kept b m a h played printed =
-    let g : ReplayState = state_after script.setup h.played.done in
-    let page = page_again kept.table script.setup.table kept.records g.records h.played.ends.shown.records h.played.ends.shown.table in
-    record {
-      replayed = g;
-      played = played;
-      printed = inr (h.played.ends.room, delivers_on b m a g.printed _ h.played.ends.printed (subst (λ (t : List ℕ). Delivers m a t) page printed));
-    }
-
--- ---- what was played so far
-
-all_so_far : {D E : Type 0} (view : SoloView D) (ended : SoloView E) (script : Script) (player : Player D) (b m : SinkState) (h : PlayedTo IsWhole (Shows view (setting script.setup b) player m) script.setup script.steps.items) → IsPlayedSoFar (IsShownSoFar view ended) script (state_after script.setup h.done)
-all_so_far view ended script player b m h = record {
+-- all steps are the first steps too
+whole_played : (rules : Limits → Run → Type 0) (script : Script) (IsEnd : ReplayState → Type 0) (h : PlayedTo IsWhole IsEnd script.setup script.steps.items)
+    → rules (limits_of 2 default_quota script.setup.capacity) (state_after script.setup h.done).run → IsPlayedSoFar rules script (state_after script.setup h.done)
+whole_played rules script IsEnd h kept = record {
   steps = script.steps.items;
   steps_begin = ([], append-nil script.steps.items);
   done = h.done;
   steps_are = h.steps_are;
   whole = whole_so_far script.setup h.done h.whole;
   is = refl;
-  kept = inl (record { queue = player.queue; after = h.ends.holds.after; limits_are = h.ends.holds.limits });
+  kept = kept;
 }
 
-full_so_far : {D E : Type 0} (view : SoloView D) (ended : SoloView E) (script : Script) (kept : ApplierView) (b m : SinkState) (h : PlayedTo IsWhole (Ends ended (setting script.setup b) kept m) script.setup script.steps.items) → IsPlayedSoFar (IsShownSoFar view ended) script (state_after script.setup h.done)
-full_so_far view ended script kept b m h = record {
-  steps = script.steps.items;
-  steps_begin = ([], append-nil script.steps.items);
-  done = h.done;
-  steps_are = h.steps_are;
-  whole = whole_so_far script.setup h.done h.whole;
-  is = refl;
-  kept = inr h.ends.kept;
-}
-
-part_so_far : {D E : Type 0} (view : SoloView D) (ended : SoloView E) (script : Script) (kept : ApplierView) (b m : SinkState) (h : PlayedPart view (setting script.setup b) script.steps.items kept m) → IsPlayedSoFar (IsShownSoFar view ended) script (state_after script.setup h.played.done)
-part_so_far view ended script kept b m h = record {
+part_played : {D E : Type 0} (view : SoloView D) (ended : SoloView E) (script : Script) (kept : ApplierView) (b m : SinkState) (h : PlayedPart view (setting script.setup b) script.steps.items kept m) → IsPlayedSoFar (IsShownSoFar view ended) script (state_after script.setup h.played.done)
+part_played view ended script kept b m h = record {
   steps = h.front;
   steps_begin = h.front_begins;
   done = h.played.done;
@@ -106,15 +66,6 @@ part_so_far view ended script kept b m h = record {
 }
 
 -- ---- failed calls
-
--- a write ends the replay, after calls of which none failed
-pub unwritten : (rules so_far : Limits → Run → Type 0) (script : Script) (b m a : SinkState) (fault : ReplayFault) → Fails b.tally m.tally 0 → IsWriteEnd m a fault → EndsPlaying rules so_far script b a (Some fault)
-unwritten rules so_far script b m a TooLong h k = k
-unwritten rules so_far script b m a (Line number) h k = k
-unwritten rules so_far script b m a LogFull h k = absurd k
-unwritten rules so_far script b m a OutOfMemory h k = inr (inl (fails_then b.tally m.tally a.tally 1 h k))
-unwritten rules so_far script b m a ReadFault h k = k
-unwritten rules so_far script b m a WriteFault h k = fails_then b.tally m.tally a.tally 1 h k
 
 -- the log page wasn't delivered
 unlogged : (rules so_far : Limits → Run → Type 0) (script : Script) (g : ReplayState) (b m a : SinkState) (fault : ReplayFault) → IsPlayedSoFar so_far script g → Writes b m g.printed → IsLogEnd m a fault → EndsPlaying rules so_far script b a (Some fault)
@@ -136,9 +87,12 @@ pub log_ends : {D E : Type 0} (view : SoloView D) (ended : SoloView E) (r : Resu
     → PlayedTo IsWhole (Shows view (setting script.setup b) player m) script.setup script.steps.items
     → OnOk r (Delivers m a (log_text applier.records (outcomes_of applier.table applier.records))) → IfErr r (IsLogEnd m a) → EndsPlaying (IsShown ended) (IsShownSoFar view ended) script b a (fault_in r)
 log_ends view ended (Ok x) script player applier b m a is e h ok err =
-    finished view ended script player b m a e h (subst (λ (v : ApplierView). Delivers m a (log_text v.records (outcomes_of v.table v.records))) is ok)
+    whole_printed (IsShown ended) script false player.applier b m a (Shows view (setting script.setup b) player m) h
+    (record { queue = e.rest; after = e.after (state_after script.setup h.done).run h.ends.holds.after; limits_are = e.limits_are ∙ h.ends.holds.limits })
+    h.ends.running h.ends.applier h.ends.printed (subst (λ (v : ApplierView). Delivers m a (log_text v.records (outcomes_of v.table v.records))) is ok)
 log_ends view ended (Err fault) script player applier b m a is e h ok err =
-    unlogged (IsShown ended) (IsShownSoFar view ended) script (state_after script.setup h.done) b m a fault (all_so_far view ended script player b m h) h.ends.printed err
+    unlogged (IsShown ended) (IsShownSoFar view ended) script (state_after script.setup h.done) b m a fault
+    (whole_played (IsShownSoFar view ended) script (Shows view (setting script.setup b) player m) h (inl (record { queue = player.queue; after = h.ends.holds.after; limits_are = h.ends.holds.limits }))) h.ends.printed err
 
 fault_is : (rules so_far : Limits → Run → Type 0) (result : Result (Unit {0}) ReplayFault) (fault : ReplayFault) (script : Script) (b a : SinkState) → result ≡ Err fault → EndsPlaying rules so_far script b a (Some fault) → EndsPlaying rules so_far script b a (fault_in result)
 fault_is rules so_far result fault script b a is ends = rw is ends
@@ -147,21 +101,25 @@ fault_is rules so_far result fault script b a is ends = rw is ends
 pub full_ends : {D E : Type 0} (view : SoloView D) (ended : SoloView E) (printed result : Result (Unit {0}) ReplayFault) (script : Script) (kept : ApplierView) (b m a : SinkState) → PlayedTo IsWhole (Ends ended (setting script.setup b) kept m) script.setup script.steps.items
     → OnOk printed (Delivers m a (log_text kept.records (outcomes_of kept.table kept.records))) → IfErr printed (IsLogEnd m a)
     → OnOk printed (result ≡ Err LogFull) → IfErr printed (λ other. result ≡ Err other) → EndsPlaying (IsShown ended) (IsShownSoFar view ended) script b a (fault_in result)
-full_ends view ended (Ok done) result script kept b m a h ok err is other = fault_is (IsShown ended) (IsShownSoFar view ended) result LogFull script b a is (finished_full ended script kept b m a h ok)
+full_ends view ended (Ok done) result script kept b m a h ok err is other =
+    fault_is (IsShown ended) (IsShownSoFar view ended) result LogFull script b a is
+    (whole_printed (IsShown ended) script true kept b m a (Ends ended (setting script.setup b) kept m) h h.ends.kept h.ends.full h.ends.shown h.ends.printed ok)
 full_ends view ended (Err fault) result script kept b m a h ok err is other =
     fault_is (IsShown ended) (IsShownSoFar view ended) result fault script b a other
-    (unlogged (IsShown ended) (IsShownSoFar view ended) script (state_after script.setup h.done) b m a fault (full_so_far view ended script kept b m h) h.ends.printed err)
+    (unlogged (IsShown ended) (IsShownSoFar view ended) script (state_after script.setup h.done) b m a fault (whole_played (IsShownSoFar view ended) script (Ends ended (setting script.setup b) kept m) h (inr h.ends.kept)) h.ends.printed err)
 
 -- the log page after memory ran out ends the replay
 pub memory_ends : {D E : Type 0} (view : SoloView D) (ended : SoloView E) (printed result : Result (Unit {0}) ReplayFault) (script : Script) (kept : ApplierView) (b m a : SinkState) → PlayedPart view (setting script.setup b) script.steps.items kept m
     → OnOk printed (Delivers m a (log_text kept.records (outcomes_of kept.table kept.records))) → IfErr printed (IsLogEnd m a)
     → OnOk printed (result ≡ Err OutOfMemory) → IfErr printed (λ other. result ≡ Err other) → EndsPlaying (IsShown ended) (IsShownSoFar view ended) script b a (fault_in result)
 memory_ends view ended (Ok done) result script kept b m a h ok err is other =
+    let g = state_after script.setup h.played.done in
+    let ends = h.played.ends in
     fault_is (IsShown ended) (IsShownSoFar view ended) result OutOfMemory script b a is
-    (inr (inr (finished_part view (IsShownSoFar view ended) script kept b m a h (part_so_far view ended script kept b m h) ok)))
+    (inr (inr (record { replayed = g; played = part_played view ended script kept b m h; printed = inr (ends.room, page_on script kept g b m a ends.shown ends.printed ok) })))
 memory_ends view ended (Err fault) result script kept b m a h ok err is other =
     fault_is (IsShown ended) (IsShownSoFar view ended) result fault script b a other
-    (unlogged (IsShown ended) (IsShownSoFar view ended) script (state_after script.setup h.played.done) b m a fault (part_so_far view ended script kept b m h) h.played.ends.printed err)
+    (unlogged (IsShown ended) (IsShownSoFar view ended) script (state_after script.setup h.played.done) b m a fault (part_played view ended script kept b m h) h.played.ends.printed err)
 
 -- ---- the rules that the queue kept
 

@@ -33,7 +33,8 @@ use Rattle.gate_replay.specs.declared.script.Step.{Step}
 use Rattle.gate_replay.specs.declared.script.Step.TheVariants as step
 use Rattle.gate_replay.specs.declared.setup.Setup.{Setup}
 use Rattle.gate_replay.specs.ReplayState.{ReplayState, Heard, prints, submits, shuts_down, body_of_line, is_shutdown, carries_out, number_queued, serves}
-use Rattle.gate_replay.specs.inner.Playing.{SoloView, HoldsRun}
+use Rattle.gate_applier.specs.Applier.{ApplierView}
+use Rattle.gate_replay.specs.inner.Playing.{SoloView, HoldsRun, ShowsRecords}
 use Rattle.gate_replay.specs.inner.Sessions.{AnswersPacket, SubmitsBody, ShutsDown, CarriesOut, queued_in, Answers, AnswersStep}
 
 -- ---- counts
@@ -75,8 +76,14 @@ abbrev pub AddsCloses : {D : Type 0} → SoloView D → OperatorView D → D →
 AddsCloses {D} view operator old new =
     (moment : Moment) (r : Result Moment CloseFault) (run : Run) → operator.closes old moment r new → view.after old run → view.after new (closed_by moment r ++ run)
 
-pub holds_same : {D : Type 0} (view : SoloView D) (setup : Setup) (old new : D) (run : Run) → new ≡ old → HoldsRun view setup old run → HoldsRun view setup new run
-holds_same {D} view setup old new run is h = subst (λ (d : D). HoldsRun view setup d run) (sym is) h
+-- an applier that has the same records shows those of a gateway that has the same
+pub records_on : (setup : Setup) (applier kept : ApplierView) (g h : ReplayState) → kept ≡ record applier { moment = kept.moment; room = kept.room } → h.records ≡ g.records → ShowsRecords setup applier g → ShowsRecords setup kept h
+records_on setup applier kept g h is same shown = record {
+  table = ap (λ (v : ApplierView). v.table) is ∙ shown.table;
+  opening = ap (λ (v : ApplierView). v.opening) is ∙ shown.opening;
+  limit = ap (λ (v : ApplierView). v.limit) is ∙ shown.limit;
+  records = ap (λ (v : ApplierView). v.records) is ∙ shown.records ∙ sym same;
+}
 
 -- a queue that shows whatever run another one did
 holds_turned : {D : Type 0} (view : SoloView D) (setup : Setup) (old new : D) (run : Run) → ((more : Run) → view.after old more → view.after new more) → view.limits new ≡ view.limits old → HoldsRun view setup old run → HoldsRun view setup new run
@@ -86,11 +93,11 @@ holds_turned view setup old new run turned limits h = record { after = turned ru
 
 -- a session that only prints
 prints_alone : {D : Type 0} (view : SoloView D) (setup : Setup) (old new : D) (step : Step) (a : Answer) (g : ReplayState) → new ≡ old → queued_in a ≡ 0 → ((heard : Heard) → serves setup step heard g ≡ prints (answer_line a) g) → HoldsRun view setup old g.run → Answers view setup new step a g
-prints_alone view setup old new step a g same none does h = record {
+prints_alone {D} view setup old new step a g same none does h = record {
   heard = record { reply = Ok 0; closed = None; takes = [] };
   pairs = [];
   does = λ takes. does (record { reply = Ok 0; closed = None; takes = takes });
-  holds = holds_same view setup old new g.run same h;
+  holds = subst (λ (d : D). HoldsRun view setup d g.run) (sym same) h;
   counted = omega (arith, none);
 }
 

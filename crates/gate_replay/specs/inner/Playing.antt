@@ -14,7 +14,7 @@ use Rattle.gate_solo.specs.Ending.{with_ends}
 use Rattle.gate_applier.specs.Applier.{ApplierView, opened}
 use Rattle.gate_reader.specs.Sink.{SinkState, FailsOnce, Writes, Delivers}
 use Rattle.gate_replay.specs.declared.fault.ReplayFault.{ReplayFault}
-use Rattle.gate_replay.specs.declared.fault.ReplayFault.TheVariants.{TooLong, Line, LogFull, OutOfMemory, ReadFault, WriteFault}
+use Rattle.gate_replay.specs.declared.fault.ReplayFault.TheVariants.{TooLong, LogFull, OutOfMemory, ReadFault, WriteFault}
 use Rattle.gate_replay.specs.declared.player.Player.{Player}
 use Rattle.gate_replay.specs.declared.player.Stopped.{Stopped}
 use Rattle.gate_replay.specs.declared.player.Stopped.TheVariants as stopped
@@ -191,21 +191,15 @@ pub record PlayedPart {D : Type 0} (view : SoloView D) (s : Setting) (steps : Li
 
 -- a call failed, and no other
 abbrev pub IsWriteEnd : SinkState → SinkState → ReplayFault → Type 0
-IsWriteEnd before after TooLong = ⊥
-IsWriteEnd before after (Line number) = ⊥
-IsWriteEnd before after LogFull = ⊥
 IsWriteEnd before after OutOfMemory = FailsOnce before after
-IsWriteEnd before after ReadFault = ⊥
 IsWriteEnd before after WriteFault = FailsOnce before after
+IsWriteEnd before after _ = ⊥
 
 -- the log page wasn't delivered: a call failed, or there was no memory for the page and nothing is held back
 abbrev pub IsLogEnd : SinkState → SinkState → ReplayFault → Type 0
-IsLogEnd before after TooLong = ⊥
-IsLogEnd before after (Line number) = ⊥
-IsLogEnd before after LogFull = ⊥
 IsLogEnd before after OutOfMemory = FailsOnce before after ⊎ Delivers before after []
-IsLogEnd before after ReadFault = ⊥
 IsLogEnd before after WriteFault = FailsOnce before after
+IsLogEnd before after _ = ⊥
 
 -- a player stopped: with a full log, where the first fact holds of the applier; out of memory, where the
 -- second does; or at a write, where the third holds of the fault
@@ -298,19 +292,15 @@ pub record IsPrintedSoFar (rules : Limits → Run → Type 0) (script : Script) 
 abbrev pub EndsPlaying : (rules so_far : Limits → Run → Type 0) → Script → SinkState → SinkState → Option ReplayFault
     → Type 0
 EndsPlaying rules so_far script before after None = IsPrinted rules script before after false
-EndsPlaying rules so_far script before after (Some TooLong) = ⊥
-EndsPlaying rules so_far script before after (Some (Line number)) = ⊥
 EndsPlaying rules so_far script before after (Some LogFull) = IsPrinted rules script before after true
 EndsPlaying rules so_far script before after (Some OutOfMemory) =
     (after ≡ before) ⊎ FailsOnce before after ⊎ IsPrintedSoFar so_far script before after
-EndsPlaying rules so_far script before after (Some ReadFault) = ⊥
 EndsPlaying rules so_far script before after (Some WriteFault) = FailsOnce before after
+EndsPlaying rules so_far script before after (Some _) = ⊥
 
 -- why an input wasn't read: it is too long, memory ran out, or a read failed
 abbrev pub IsInputFault : Option (List ℕ) → ReplayFault → Type 0
 IsInputFault input TooLong = IsTooLong input
-IsInputFault input (Line number) = ⊥
-IsInputFault input LogFull = ⊥
 IsInputFault input OutOfMemory = Unit {0}
 IsInputFault input ReadFault = Unit {0}
-IsInputFault input WriteFault = ⊥
+IsInputFault input _ = ⊥
