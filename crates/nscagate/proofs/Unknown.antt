@@ -30,4 +30,4 @@ pub unknown_serve : (path : List ℕ) (output errors errors_after : SinkState) (
 unknown_serve path output errors errors_after status words_fault.BadArguments made asked same refused is k = let e = refused refl in absurd (cc)
 unknown_serve path output errors errors_after status words_fault.OutOfMemory made asked same refused is k =
     let r = subst (λ (f : ProgramFault). IsRefusal f errors errors_after status) same k in
-    record { queued = []; fault = Some fault.OutOfMemory; status_is = r.status_is; ended = inl refl; reported = r.reported }
+    record { reports = []; fault = Some fault.OutOfMemory; status_is = r.status_is; ended = inl refl; reported = r.reported }
