@@ -3,4 +3,5 @@ pub mod Applying
 pub mod Boards
 pub mod Faults
 pub mod Served
+pub mod Showing
 pub mod inner

@@ -1,9 +1,11 @@
-ghost use Rattle.std.specs.Prelude.{◌≡◌, IsSome};
+ghost use Rattle.std.specs.Prelude.{◌≡◌, IfOk, IsSome, is_some};
+ghost use Rattle.gate_daemon.specs.Showing.{ShowsBoard};
+ghost use Rattle.gate_daemon.specs.inner.Publishing.{IsMadeOf};
 
 use gate_applier::Applier;
 use gate_model::Moment;
 use gate_pages::{Board, publish, status_page};
-use gate_reader::Sink;
+use gate_reader::{Sink, put_last};
 use gate_worker::times::MEMORY_TRIES;
 use gate_worker::{Connections, Wake, pause};
 use std::alloc::{AllocError, Global};
@@ -16,7 +18,9 @@ fn page_of<R: Wait>(
     rt: &R,
     alloc: Global,
     board: &Mutex<Board>,
-) -> (Result<Vec<u8>, AllocError>, bool) {
+) -> (Result<Vec<u8>, AllocError>, bool)
+    ensures { IsMadeOf result.0 result.1 }
+{
     let shown = board.lock(rt);
     (status_page(alloc, &shown), shown.closes_at().is_some())
 }
@@ -26,7 +30,9 @@ fn next_page<R: Wait + Clock>(
     rt: &R,
     alloc: Global,
     board: &Mutex<Board>,
-) -> (Result<Vec<u8>, AllocError>, bool) {
+) -> (Result<Vec<u8>, AllocError>, bool)
+    ensures { IsMadeOf result.0 result.1 }
+{
     for _ in 1..MEMORY_TRIES {
         let (page, is_last) = page_of(rt, alloc, board);
         if page.is_ok() {
@@ -37,11 +43,21 @@ fn next_page<R: Wait + Clock>(
     page_of(rt, alloc, board)
 }
 
-// Writes a page. A reader that has gone doesn't get it.
-fn write_page<O: Sink>(output: &mut O, page: &[u8]) {
-    if output.put(page).is_ok() {
-        let _ = output.deliver();
+// Writes the page of the board that stands there to a reader, who doesn't get it where it has gone, or
+// where memory for it is missing after a second. Whether it was the last one.
+fn show_page<R: Wait + Clock, O: Sink>(
+    rt: &R,
+    alloc: Global,
+    board: &Mutex<Board>,
+    output: &mut O,
+) -> bool
+    ensures { ShowsBoard (O.state output.old) (O.state output.new) result }
+{
+    let (page, is_last) = next_page(rt, alloc, board);
+    if let Ok(page) = page {
+        let _ = put_last(output, &page);
     }
+    is_last
 }
 
 // A board that is marked closing was published, or there was no memory for it.
@@ -96,10 +112,7 @@ pub fn run_pages<R: Wait + Clock, C: Connections + Drop>(
         let Some((input, mut output)) = connections.next() else {
             break;
         };
-        let (page, is_last) = next_page(rt, alloc, board);
-        if let Ok(page) = page {
-            write_page(&mut output, &page);
-        }
+        let is_last = show_page(rt, alloc, board, &mut output);
         connections.part(input, output);
         if is_last {
             break;

@@ -1,5 +1,7 @@
--- Only proofs and private functions use this: the board that was tried last.
-use Rattle.std.specs.Prelude.{◌≡◌, length}
+-- Only proofs and private functions use this: the board that was tried last, and the page of one.
+use Rattle.std.specs.Prelude.{◌≡◌, ℕ, Bool, length, is_some, Result, IfOk, Vec}
+use Rattle.std.specs.declared.alloc.AllocError.{AllocError}
+use Rattle.gate_pages.specs.StatusPage.{BoardView, status_text}
 use Rattle.gate_applier.specs.Applier.{ApplierView}
 use Rattle.gate_daemon.specs.declared.boards.LastBoard.{LastBoard}
 
@@ -8,3 +10,9 @@ pub record IsTried (applier : ApplierView) (board : LastBoard) : Type 0 where
   pub records : board.records ≡ length applier.records
   pub moment : board.moment ≡ applier.moment
   pub pauses : board.pauses_left ≡ 25
+
+-- a page, if there was memory for it, and whether it is the last one, are those of some board
+pub record IsMadeOf {Allocator : Type 0} (page : Result (Vec ℕ Allocator) AllocError) (is_last : Bool) : Type 0 where
+  pub board : BoardView
+  pub text : IfOk page (λ bytes. bytes.items ≡ status_text board)
+  pub last : is_last ≡ is_some board.closing
