@@ -163,10 +163,10 @@ class Tags(html.parser.HTMLParser):
 def page_of(host, service, output, author, text, now):
     return b'\n'.join([
         b'status %d' % now,
-        b'object;%s;;DOWN;%d;stale;normal;2;%s' % (host, now - 40, output),
+        b'object;%s;;DOWN;%d;stale;normal;1;%s' % (host, now - 40, output),
         b'object;%s;%s;CRITICAL;%d;fresh;-;0;%s' % (host, service, now - 5, output),
         b'comment;1;%s;%s;user;1;%d;%s;%s' % (host, service, now - 9, author, text),
-        b'downtime;2;%s;;fixed;0;%d;%d;0;-;%s;%s' % (host, now, now + 60, author, text),
+        b'downtime;2;%s;;fixed;0;%d;%d;0;%d;%s;%s' % (host, now - 60, now + 60, now - 60, author, text),
         b'']) 
 
 
@@ -184,8 +184,10 @@ def test_texts(now):
     }
     plain = None
     for name, text in [('plain', b'plain'), *texts.items()]:
-        name_text = text.replace(b';', b',')
-        gateway = shows(page_of(name_text, name_text, text + b';' + text, name_text, text, now))
+        author = text.replace(b';', b',')
+        # What a name may hold: of the host the first bytes, of the service the last.
+        name_text = bytes(byte for byte in author if byte >= 32 and byte != 127).strip()
+        gateway = shows(page_of(name_text[:63], name_text[-127:], text + b';' + text, author, text, now))
         with Web(('east', gateway.port)) as web:
             response, page = web.ask('/?host=' + urllib.parse.quote_from_bytes(text[:3]))
             found = Tags(web.text('/'))
@@ -298,7 +300,7 @@ def test_sharing(now):
 def test_slow_browsers(now):
     """Connections that send nothing, a byte a second, or read nothing, hold others for less than 10 s."""
     large = b'status %d\n' % now + b''.join(
-        b'object;host%d;;UP;%d;fresh;-;0;%s\n' % (number, now, b"x" * 3000) for number in range(2000))
+        b'object;host%d;;UP;%d;fresh;-;0;%s\n' % (number, now, b"x" * 6000) for number in range(1000))
     with Web(('east', shows(large).port)) as web:
         deaf = []
         for _ in range(8):
@@ -323,9 +325,9 @@ def test_slow_browsers(now):
         for connection in slow:
             threading.Thread(target=drip, args=(connection,), daemon=True).start()
         time.sleep(0.5)
-        page = web.text('/?host=host1999')
+        page = web.text('/?host=host999')
         took = time.time() - began
-        test('slow browsers hold nobody for more than 10 s', took < 10 and b'host1999' in page, took)
+        test('slow browsers hold nobody for more than 10 s', took < 10 and b'host999' in page, took)
         silent[0].settimeout(30)
         test('a silent connection ends without an answer', silent[0].recv(10) == b'')
         while len(ends) < len(slow) and time.time() < began + 20:

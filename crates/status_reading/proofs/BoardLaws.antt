@@ -21,6 +21,7 @@ use Rattle.status_reading.specs.declared.rows.ShownAcknowledgement.TheVariants.{
 use Rattle.status_reading.specs.Rows.{page_view}
 use Rattle.status_reading.specs.Page.{shown_acknowledgement, shown_source, object_line, comment_line, downtime_line, closing_line, status_line, page_text}
 use Rattle.status_reading.specs.Readable.{IsReadable, IsReadableObject, IsReadableComment, IsReadableDowntime}
+use Rattle.status_reading.specs.RowFaults.{IsSound}
 use Rattle.status_reading.specs.Board.{acknowledgement_shown, source_shown, shown_object, shown_comment, shown_downtime, shown_board, IsPlainObject, IsPlainComment, IsPlainDowntime, IsPlainBoard}
 use Rattle.status_reading.proofs.SamePages.{Reading, reads_page}
 use Rattle.status_reading.proofs.BoardFields.{text_in_line, text_field, service_field, number_field, optional_field, state_field, freshness_field, persistence_field, plan_field, acknowledgement_field, source_field, fields_apart}
@@ -179,6 +180,7 @@ board_readable board plain = record {
 }
 
 -- the page of a board is read as what the board shows
-pub reads_board : (text : List ℕ) (result : Result StatusPage ReadFault) → Reading text result → (board : BoardView) → IsPlainBoard board → text ≡ status_text board
+pub reads_board : (text : List ℕ) (result : Result StatusPage ReadFault) → Reading text result → (board : BoardView) → IsPlainBoard board → IsSound (shown_board board)
+    → text ≡ status_text board
     → MatchResult result (λ found. page_view found ≡ shown_board board) (λ fault. fault ≡ OutOfMemory)
-reads_board text result reading board plain is = reads_page text result reading (shown_board board) (board_readable board plain) (is ∙ sym (board_text board))
+reads_board text result reading board plain sound is = reads_page text result reading (shown_board board) (board_readable board plain) sound (is ∙ sym (board_text board))

@@ -11,6 +11,7 @@ use Rattle.status_reading.specs.Rows.{PageView}
 use Rattle.status_reading.specs.Page.{object_fields, comment_fields, downtime_fields, status_line, page_text}
 use Rattle.status_reading.specs.Readable.{Fits, MayFit, IsReadable, IsReadableObject, IsReadableComment, IsReadableDowntime}
 use Rattle.status_reading.specs.Faults.{IsFirstBad}
+use Rattle.status_reading.specs.inner.Reading.{IsPageOf}
 use Rattle.status_reading.specs.inner.Rows.{RowView, Object, Comment, Downtime, Closing, content, row_line, IsReadableRow, rank, follows, has_none, may_go_on, closing_rows, rows_of, IsEnded}
 use Rattle.status_reading.proofs.CutSteps.{never_holds, same_cut, none_together}
 use Rattle.status_reading.proofs.PageSteps.{page_rows, IsSoFar}
@@ -194,6 +195,9 @@ none_left [] is = refl
 none_left (byte ∷ rest) is = absurd (omega arith)
 
 pub all_read : (text : List ℕ) (page : PageView) (rest : List ℕ) (number : ℕ) → IsSoFar text page rest number → true ≡ (length rest == 0)
-    → (text ≡ page_text page) × IsReadable page
-all_read text page rest number so is =
-    (so.whole ∙ ap (λ back. page_text page ++ back) (none_left rest (eqb-true (length rest) 0 (sym is))) ∙ append-nil (page_text page), so.readable)
+    → IsPageOf text page
+all_read text page rest number so is = record {
+  whole = so.whole ∙ ap (λ back. page_text page ++ back) (none_left rest (eqb-true (length rest) 0 (sym is))) ∙ append-nil (page_text page);
+  readable = so.readable;
+  short = omega (arith, so.count, so.room);
+}

@@ -28,6 +28,7 @@ use Rattle.status_reading.specs.Board.{HoldsNone, shown_board, IsPlainObject, Is
 use Rattle.status_reading.specs.Gateway.{IsOfSubmission, GatewayView, published_board, IsGateway}
 use Rattle.status_reading.proofs.SamePages.{Reading}
 use Rattle.status_reading.proofs.BoardLaws.{reads_board}
+use Rattle.status_reading.proofs.SoundLaws.{gateway_sound}
 use Rattle.status_reading.proofs.EachSteps.{each_weaker, each_reverse, each_filter, each_at, each_map}
 use Rattle.status_reading.proofs.SubmissionSteps.{HasPlainPlan, IsPlainBody, plain_body}
 use Rattle.status_reading.proofs.TableSteps.{IsPlainLine, plain_lines, plain_host, plain_service}
@@ -220,4 +221,4 @@ pub reads_gateway : (text : List ℕ) (result : Result StatusPage ReadFault) →
     → MatchResult result (λ found. page_view found ≡ shown_board (published_board gateway))
     (λ fault. fault ≡ OutOfMemory)
 reads_gateway text result reading gateway is =
-    reads_board text result reading (published_board gateway) (plain_board gateway is)
+    reads_board text result reading (published_board gateway) (plain_board gateway is) (gateway_sound gateway is)

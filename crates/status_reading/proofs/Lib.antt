@@ -6,12 +6,19 @@ pub mod OrderSteps
 pub mod FaultSteps
 pub mod SameRows
 pub mod SamePages
+pub mod SoundSteps
 pub mod BoardFields
 pub mod BoardLaws
 pub mod EachSteps
 pub mod SubmissionSteps
 pub mod TableSteps
 pub mod EventSteps
-pub mod GatewayLaws
 pub mod PlainLaws
+pub mod BareSteps
+pub mod IdSteps
+pub mod PlacedSteps
+pub mod DepthSteps
+pub mod RowSteps
+pub mod SoundLaws
+pub mod GatewayLaws
 mod GatewayExamples

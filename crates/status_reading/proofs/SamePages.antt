@@ -1,16 +1,23 @@
 -- Pages whose texts are the same are the same.
-use Rattle.std.proofs.Common.{◌≡◌, ℕ, ◌⊎◌, inl, inr, List, [], ◌∷◌, ◌++◌, map, Option, Some, None, Result, Ok, Err, refl, sym, ap, ◌∙◌, append-nil}
+use Rattle.std.proofs.Common.{◌≡◌, ℕ, ◌⊎◌, inl, inr, List, [], ◌∷◌, ◌++◌, map, Option, Some, None, Result, Ok, Err, refl, sym, ap, ◌∙◌, append-nil, subst, arith}
 use Rattle.std.specs.Prelude.{codes, MatchResult}
 use Rattle.std.specs.List.{flat_map}
 use Rattle.std.specs.Fmt.{decimal}
 use Rattle.std.proofs.lemmas.List.{append_cancel_left}
+use Rattle.gate_model.specs.declared.object.ObjectLine.{ObjectLine}
+use Rattle.gate_model.specs.declared.table.TableFault.{TableFault}
+use Rattle.gate_model.specs.declared.table.TableFault.TheVariants as table
+use Rattle.gate_model.specs.Table.{IsFaultless, IsOverfull, IsFirstFault, IsFaultOf as IsTableFault}
+use Rattle.status_reading.specs.declared.row_faults.RowFault.{RowFault}
 use Rattle.status_reading.specs.declared.page.StatusPage.{StatusPage}
 use Rattle.status_reading.specs.declared.page.ReadFault.{ReadFault}
-use Rattle.status_reading.specs.declared.page.ReadFault.TheVariants.{NoStatus, BadLine, OutOfMemory}
+use Rattle.status_reading.specs.declared.page.ReadFault.TheVariants.{NoStatus, BadLine, BadRow, OutOfMemory}
 use Rattle.status_reading.specs.Rows.{ObjectView, CommentView, DowntimeView, PageView, page_view}
 use Rattle.status_reading.specs.Page.{page_text}
 use Rattle.status_reading.specs.Readable.{IsReadable}
+use Rattle.status_reading.specs.RowFaults.{table_of, table_fault, IsSound, IsUnsound}
 use Rattle.status_reading.specs.Faults.{IsCutOff, IsForeign, IsFaultOf}
+use Rattle.status_reading.specs.inner.Reading.{IsPageOf}
 use Rattle.status_reading.specs.inner.Rows.{RowView, Object, Comment, Downtime, Closing, row_line, closing_rows, rows_of}
 use Rattle.status_reading.proofs.PageSteps.{page_rows}
 use Rattle.status_reading.proofs.FaultSteps.{rows_readable, same_start, none_cut_off}
@@ -142,17 +149,54 @@ none_bad text before page readable all is (inl cut) =
     (same_start before page cut.line readable all (sym is ∙ cut.whole)).1
 none_bad text before page readable all is (inr foreign) = foreign.none page foreign.rest all (sym is ∙ foreign.whole)
 
-faultless : (text : List ℕ) (fault : ReadFault) (page : PageView) → IsFaultOf text fault → IsReadable page → text ≡ page_text page → fault ≡ OutOfMemory
-faultless text NoStatus page fault all is = absurd (fault page.moment (flat_map row_line (rows_of page)) all.moment (is ∙ page_rows page))
-faultless text (BadLine number) page fault all is = absurd (none_bad text fault.before page fault.readable all is fault.bad)
-faultless text OutOfMemory page fault all is = refl
+-- ---- a page whose rows have no fault
+
+no_some : {A : Type 0} (one : A) → ◌≡◌ {A = Option A} None (Some one) → ⊥
+no_some one is = cc
+
+no_fault : (lines : List ObjectLine) (cause : TableFault) → IsFaultless lines → IsOverfull lines cause ⊎ IsFirstFault lines cause → ⊥
+no_fault lines cause good (inl many) = omega (arith, good.few, many.many)
+no_fault lines cause good (inr first) = no_some cause (sym (good.each first.index) ∙ first.here)
+
+no_table : (lines : List ObjectLine) (line : ℕ) (fault : RowFault) (cause : TableFault) → IsFaultless lines → IsTableFault lines cause
+    → BadRow line fault ≡ table_fault cause → ⊥
+no_table lines line fault (table.BadName number) good here is = no_fault lines (table.BadName number) good here
+no_table lines line fault (table.NoSuchHost number) good here is = no_fault lines (table.NoSuchHost number) good here
+no_table lines line fault (table.DuplicateHost number) good here is = no_fault lines (table.DuplicateHost number) good here
+no_table lines line fault (table.DuplicateService number) good here is = no_fault lines (table.DuplicateService number) good here
+no_table lines line fault (table.TooMany number) good here is = no_fault lines (table.TooMany number) good here
+no_table lines line fault table.OutOfMemory good here is = cc
+
+never_both : (page : PageView) (fault : ReadFault) → IsSound page → IsUnsound page fault → fault ≡ OutOfMemory
+never_both page NoStatus sound fault = absurd fault
+never_both page (BadLine number) sound fault = absurd fault
+never_both page (BadRow line fault) sound (inl none) = absurd (no_table (table_of page) line fault none.cause sound.table none.here none.fault_is)
+never_both page (BadRow line fault) sound (inr first) = absurd (no_some (line, fault) (sym sound.rows ∙ first.here))
+never_both page OutOfMemory sound fault = refl
+
+faultless : (text : List ℕ) (fault : ReadFault) (page : PageView) → IsFaultOf text fault → IsReadable page → IsSound page → text ≡ page_text page
+    → fault ≡ OutOfMemory
+faultless text NoStatus page fault all sound is = absurd (fault page.moment (flat_map row_line (rows_of page)) all.moment (is ∙ page_rows page))
+faultless text (BadLine number) page fault all sound is = absurd (none_bad text fault.before page fault.readable all is fault.bad)
+faultless text (BadRow line why) page fault all sound is =
+    let same = same_page fault.page page fault.readable all (sym fault.whole ∙ is) in
+    never_both page (BadRow line why) sound (subst (λ (found : PageView). IsUnsound found (BadRow line why)) same fault.unsound)
+faultless text OutOfMemory page fault all sound is = refl
+
+-- a page with an unsound row has this fault
+pub unsound_fault : (text : List ℕ) (page : PageView) (fault : ReadFault) → IsPageOf text page → IsUnsound page fault → IsFaultOf text fault
+unsound_fault text page NoStatus of fault = absurd fault
+unsound_fault text page (BadLine number) of fault = absurd fault
+unsound_fault text page (BadRow line why) of fault = record { page = page; readable = of.readable; whole = of.whole; unsound = fault }
+unsound_fault text page OutOfMemory of fault = tt
 
 -- what reading ensures
 abbrev pub Reading : List ℕ → Result StatusPage ReadFault → Type 0
-Reading text result = MatchResult result (λ page. (text ≡ page_text (page_view page)) × IsReadable (page_view page)) (IsFaultOf text)
+Reading text result = MatchResult result (λ page. IsPageOf text (page_view page) × IsSound (page_view page)) (IsFaultOf text)
 
 -- the page of rows is read as them
-pub reads_page : (text : List ℕ) (result : Result StatusPage ReadFault) → Reading text result → (page : PageView) → IsReadable page → text ≡ page_text page
+pub reads_page : (text : List ℕ) (result : Result StatusPage ReadFault) → Reading text result → (page : PageView) → IsReadable page → IsSound page
+    → text ≡ page_text page
     → MatchResult result (λ found. page_view found ≡ page) (λ fault. fault ≡ OutOfMemory)
-reads_page text (Ok found) reading page all is = same_page (page_view found) page reading.1 all (sym reading.0 ∙ is)
-reads_page text (Err fault) reading page all is = faultless text fault page reading all is
+reads_page text (Ok found) reading page all sound is = same_page (page_view found) page reading.0.readable all (sym reading.0.whole ∙ is)
+reads_page text (Err fault) reading page all sound is = faultless text fault page reading all sound is

@@ -2,10 +2,11 @@
 use Rattle.std.specs.Prelude.{◌≡◌, ℕ, ◌+◌, ◌<◌, ◌⊎◌, List, ◌∷◌, ◌++◌, length, false, Option, Some, None}
 use Rattle.gate_grammar.specs.Spelling.{holds}
 use Rattle.status_reading.specs.declared.page.ReadFault.{ReadFault}
-use Rattle.status_reading.specs.declared.page.ReadFault.TheVariants.{NoStatus, BadLine, OutOfMemory}
+use Rattle.status_reading.specs.declared.page.ReadFault.TheVariants.{NoStatus, BadLine, BadRow, OutOfMemory}
 use Rattle.status_reading.specs.Rows.{PageView}
 use Rattle.status_reading.specs.Page.{status_line, page_text}
 use Rattle.status_reading.specs.Readable.{Fits, IsReadable}
+use Rattle.status_reading.specs.RowFaults.{IsUnsound}
 
 -- how many lines the close takes
 abbrev pub closing_lines : Option ℕ → ℕ
@@ -39,8 +40,16 @@ pub record IsFirstBad (text : List ℕ) (number : ℕ) : Type 0 where
   pub after : number ≡ line_count before + 1
   pub bad : IsCutOff text (page_text before) ⊎ IsForeign text (page_text before)
 
+-- each line of the text is one of a page, and a row of this page has this fault
+pub record IsPageWith (text : List ℕ) (fault : ReadFault) : Type 0 where
+  pub page : PageView
+  pub readable : IsReadable page
+  pub whole : text ≡ page_text page
+  pub unsound : IsUnsound page fault
+
 -- why this text can't be read; memory may run out at any
 abbrev pub IsFaultOf : List ℕ → ReadFault → Type 0
 IsFaultOf text NoStatus = (moment : ℕ) (rest : List ℕ) → Fits moment → text ≡ status_line moment ++ rest → ⊥
 IsFaultOf text (BadLine number) = IsFirstBad text number
+IsFaultOf text (BadRow line fault) = IsPageWith text (BadRow line fault)
 IsFaultOf text OutOfMemory = Unit {0}

@@ -1,8 +1,9 @@
 pub mod Rows
 pub mod Page
 pub mod Readable
+pub mod Plain
+pub mod RowFaults
 pub mod Faults
 pub mod Board
 pub mod Gateway
-pub mod Plain
 pub mod inner

@@ -1,11 +1,13 @@
 //! Reads the text of a gateway's status page into rows. What is read, written again, is the page
-//! byte for byte; any other text is refused whole, with the number of its first bad line.
+//! byte for byte; any other text is refused whole, with the number of its first bad line, and so is
+//! a page with a row that no gateway writes.
 #![tactic(auto)]
 
 mod cuts;
 mod lines;
 mod page;
 mod plain;
+mod row_faults;
 mod rows;
 mod words;
 
@@ -13,5 +15,6 @@ pub use gate_model::State;
 pub use gate_pages::{plan_name, state_name};
 pub use page::{ReadFault, StatusPage, read_status_page};
 pub use plain::plain_bytes;
+pub use row_faults::{RowFault, row_fault_words};
 pub use rows::{ShownAcknowledgement, ShownComment, ShownDowntime, ShownObject, ShownSource};
 pub use words::source_word;

@@ -3,13 +3,16 @@ ghost use Rattle.gate_pages.specs.StatusPage.{BoardView, status_text};
 ghost use Rattle.status_reading.specs.Rows.{PageView, page_view};
 ghost use Rattle.status_reading.specs.Page.{status_line, page_text};
 ghost use Rattle.status_reading.specs.Readable.{Fits, IsReadable};
+ghost use Rattle.status_reading.specs.RowFaults.{IsSound};
 ghost use Rattle.status_reading.specs.Faults.{IsFaultOf};
 ghost use Rattle.status_reading.specs.Board.{IsPlainBoard, shown_board};
 ghost use Rattle.status_reading.specs.Gateway.{GatewayView, IsGateway, published_board};
+ghost use Rattle.status_reading.specs.inner.Reading.{IsPageOf};
 ghost use Rattle.status_reading.specs.inner.Rows.{row_view, content, IsReadableRow, may_go_on, with_row, IsEnded};
 
 use crate::cuts::cut;
 use crate::lines::{Row, read_row};
+use crate::row_faults::{RowFault, check_rows};
 use crate::rows::{ShownComment, ShownDowntime, ShownObject};
 use crate::words;
 use std::alloc::{AllocError, AllocFailed, Global};
@@ -35,6 +38,9 @@ pub enum ReadFault {
     /// The line of this number, from 1, may not follow the lines before it, or has no LF.
     #[error("line {0} is no line of a status page, or is cut off")]
     BadLine(usize),
+    /// Each line is one of a status page, but no gateway writes the line of this number, from 1.
+    #[error("line {0} is none that a gateway writes there: {1}")]
+    BadRow(usize, RowFault),
     #[error("out of memory")]
     OutOfMemory,
 }
@@ -135,7 +141,7 @@ fn next_row<'a>(page: &StatusPage<'a>, text: &'a [u8]) -> Option<(Row<'a>, &'a [
 /// Reads the lines of a page, or finds the first that is none.
 fn read_lines<'a>(alloc: Global, text: &'a [u8]) -> Result<StatusPage<'a>, ReadFault>
     ensures { MatchResult result
-        (λ page. (text.now ≡ page_text (page_view page)) × IsReadable (page_view page))
+        (λ page. IsPageOf text.now (page_view page))
         (IsFaultOf text.now) }
 {
     let Some((moment, lines)) = status_line(text) else {
@@ -161,26 +167,44 @@ fn read_lines<'a>(alloc: Global, text: &'a [u8]) -> Result<StatusPage<'a>, ReadF
     Ok(page)
 }
 
-/// Reads a status page into rows. A page that was cut off is refused whole.
+// Reads the rows of a page, or finds the first line or the first row that is bad.
+fn read_rows<'a>(alloc: Global, text: &'a [u8]) -> Result<StatusPage<'a>, ReadFault>
+    ensures { MatchResult result
+        (λ page. IsPageOf text.now (page_view page) × IsSound (page_view page))
+        (IsFaultOf text.now) }
+{
+    let page = read_lines(alloc, text)?;
+    check_rows(alloc, &page)?;
+    Ok(page)
+}
+
+/// Reads a status page into rows. A page that is cut within a line is refused whole, and so is one
+/// that no gateway writes, as where the cut takes away an active downtime entry. A page that is cut
+/// between two lines can be the page of its first rows: nothing of the text shows the cut then.
 ///
 /// `BadLine` names the first line that no page has after the lines before it, or that has no LF.
+/// Where each line is one of a page, `BadRow` names the first row that no gateway writes.
 /// `OutOfMemory` may come in the place of any other answer.
 ///
-/// Own rule: the lines of a status page.
+/// Own rule: the lines of a status page, and the faults of its rows.
 pub fn read_status_page<'a>(alloc: Global, text: &'a [u8]) -> Result<StatusPage<'a>, ReadFault>
     // What is read, written again, is the text.
     ensures written { IfOk result (λ page. text.now ≡ page_text (page_view page)) }
 
-    // The page of any rows is read as these rows, where no field holds an LF, and none but the last of
-    // a line a semicolon.
-    ensures read { (page : PageView) → IsReadable page → text.now ≡ page_text page
+    // It is a page whose fields can be read, and no row of it has a fault.
+    ensures page { IfOk result (λ page. IsReadable (page_view page) × IsSound (page_view page)) }
+
+    // The page of any rows without a fault is read as these rows, where no field holds an LF, and none
+    // but the last of a line a semicolon.
+    ensures read { (page : PageView) → IsReadable page → IsSound page → text.now ≡ page_text page
         → MatchResult result
         (λ found. page_view found ≡ page)
         (λ fault. fault ≡ ReadFault.OutOfMemory) }
     ensures fault { IfErr result (IsFaultOf text.now) }
 
     // So is the page of a board, where its names and authors hold no semicolon.
-    ensures board { (board : BoardView) → IsPlainBoard board → text.now ≡ status_text board
+    ensures board { (board : BoardView) → IsPlainBoard board → IsSound (shown_board board)
+        → text.now ≡ status_text board
         → MatchResult result
         (λ found. page_view found ≡ shown_board board)
         (λ fault. fault ≡ ReadFault.OutOfMemory) }
@@ -192,5 +216,5 @@ pub fn read_status_page<'a>(alloc: Global, text: &'a [u8]) -> Result<StatusPage<
         (λ found. page_view found ≡ shown_board (published_board gateway))
         (λ fault. fault ≡ ReadFault.OutOfMemory) }
 {
-    read_lines(alloc, text)
+    read_rows(alloc, text)
 }

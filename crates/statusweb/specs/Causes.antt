@@ -4,6 +4,7 @@ use Rattle.std.specs.Prelude.{ℕ, List, ◌++◌, codes}
 use Rattle.std.specs.Fmt.{decimal}
 use Rattle.status_reading.specs.declared.page.ReadFault.{ReadFault}
 use Rattle.status_reading.specs.declared.page.ReadFault.TheVariants as text
+use Rattle.status_reading.specs.RowFaults.{row_fault_words}
 use Rattle.statusweb.specs.declared.fetching.FetchFault.{FetchFault}
 use Rattle.statusweb.specs.declared.fetching.FetchFault.TheVariants.{Unreachable, TooSlow, TooLong, Broken, OutOfMemory}
 
@@ -19,4 +20,6 @@ fetch_cause OutOfMemory = codes "out of memory"
 abbrev pub read_cause : ReadFault → List ℕ
 read_cause text.NoStatus = codes "it does not show a status page"
 read_cause (text.BadLine number) = codes "its page is damaged or cut off at line " ++ decimal number
+read_cause (text.BadRow number fault) =
+    codes "its page is damaged or cut off at line " ++ decimal number ++ codes ": " ++ row_fault_words fault
 read_cause text.OutOfMemory = codes "out of memory"

@@ -6,8 +6,10 @@ use Rattle.std.specs.List.{flat_map}
 use Rattle.form_urlencoded.specs.Form.{raw_pairs}
 use Rattle.status_reading.specs.declared.page.StatusPage.{StatusPage}
 use Rattle.status_reading.specs.declared.page.ReadFault.{ReadFault}
-use Rattle.status_reading.specs.Rows.{page_view}
+use Rattle.status_reading.specs.Rows.{PageView, page_view}
 use Rattle.status_reading.specs.Page.{page_text}
+use Rattle.status_reading.specs.Readable.{IsReadable}
+use Rattle.status_reading.specs.RowFaults.{IsSound}
 use Rattle.status_reading.specs.Faults.{IsFaultOf}
 use Rattle.status_merge.specs.declared.gateway.Gateway.{Gateway}
 use Rattle.status_merge.specs.declared.gateway.MergedObject.{MergedObject}
@@ -34,9 +36,15 @@ abbrev pub text_of : Result (Vec ℕ Global) FetchFault → Result (List ℕ) Fe
 text_of (Ok text) = Ok text.items
 text_of (Err fault) = Err fault
 
+-- the text is that of this page, whose fields can be read and no row of which has a fault
+pub record IsTextOf (text : List ℕ) (page : PageView) : Type 0 where
+  pub written : text ≡ page_text page
+  pub readable : IsReadable page
+  pub sound : IsSound page
+
 -- a text is read as this page, or this is the cause why it is none
 abbrev pub IsReadAs : List ℕ → Result StatusPage (String Global) → Type 0
-IsReadAs text (Ok page) = text ≡ page_text (page_view page)
+IsReadAs text (Ok page) = IsTextOf text (page_view page)
 IsReadAs text (Err cause) = (fault : ReadFault) × IsFaultOf text fault × (string_bytes cause ≡ read_cause fault)
 
 -- a fetch gave this text, or this fault, and this is the page or the cause why there is none

@@ -1,10 +1,11 @@
 //! Why a gateway shows no status, in the words of its alarm.
 
-ghost use Rattle.std.specs.Prelude.{◌≡◌, IfOk, string_bytes};
+ghost use Rattle.std.specs.Prelude.{◌≡◌, ◌++◌, IfOk, codes, string_bytes};
+ghost use Rattle.std.specs.Fmt.{decimal};
 ghost use Rattle.statusweb.specs.Causes.{fetch_cause, read_cause};
 
 use crate::fetching::FetchFault;
-use status_reading::ReadFault;
+use status_reading::{ReadFault, row_fault_words};
 use std::alloc::{AllocError, Global};
 
 fn fetch_words(fault: FetchFault) -> &'static str
@@ -26,15 +27,31 @@ pub fn fetch_cause(alloc: Global, fault: FetchFault) -> Result<String, AllocErro
     String::from_str(alloc, fetch_words(fault))
 }
 
+fn bad_line(alloc: Global, number: usize) -> Result<String, AllocError>
+    ensures { IfOk result (λ cause. string_bytes cause
+        ≡ codes "its page is damaged or cut off at line " ++ decimal number) }
+{
+    format!(in alloc; "its page is damaged or cut off at line {number}")
+}
+
+fn bad_row(alloc: Global, number: usize, words: &str) -> Result<String, AllocError>
+    ensures { IfOk result (λ cause. string_bytes cause
+        ≡ codes "its page is damaged or cut off at line " ++ decimal number ++ codes ": " ++ words.now) }
+{
+    let mut cause = bad_line(alloc, number)?;
+    cause.push_str(": ")?;
+    cause.push_str(words)?;
+    Ok(cause)
+}
+
 /// The cause where a text is no page. The only error is out of memory.
 pub fn read_cause(alloc: Global, fault: ReadFault) -> Result<String, AllocError>
     ensures { IfOk result (λ cause. string_bytes cause ≡ read_cause fault) }
 {
     match fault {
         ReadFault::NoStatus => String::from_str(alloc, "it does not show a status page"),
-        ReadFault::BadLine(number) => {
-            format!(in alloc; "its page is damaged or cut off at line {number}")
-        }
+        ReadFault::BadLine(number) => bad_line(alloc, number),
+        ReadFault::BadRow(number, fault) => bad_row(alloc, number, row_fault_words(fault)),
         ReadFault::OutOfMemory => String::from_str(alloc, "out of memory"),
     }
 }

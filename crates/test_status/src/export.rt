@@ -5,7 +5,9 @@ use std::alloc::Global;
 use std::test::Fail;
 
 const PAGE: &[u8] = b"status 1260\n\
+object;web1;;PENDING;-;fresh;-;0;\n\
 object;web1;HTTP;CRITICAL;1250;fresh;sticky;1;a \"b\"\\x0a\\\\c; 10s\n\
+object;db1;;PENDING;-;fresh;-;0;\n\
 comment;1;web1;;user;1;1100;ann;rack 4\n\
 downtime;1;web1;HTTP;flexible;0;1200;1300;50;1250;bob;reboot\n\
 downtime;2;db1;;fixed;0;1200;1300;100;-;bob;disk\n";
@@ -13,9 +15,16 @@ downtime;2;db1;;fixed;0;1200;1300;100;-;bob;disk\n";
 const JSON: &[u8] = b"{\"gateways\":[\
 {\"name\":\"e\\\"\",\"reachable\":true,\"moment\":1260,\"closing\":null},\
 {\"name\":\"west\",\"reachable\":false,\"fault\":\"it can't be reached\"}],\
-\"objects\":[{\"gateway\":\"e\\\"\",\"host\":\"web1\",\"service\":\"HTTP\",\"state\":\"CRITICAL\",\
+\"objects\":[{\"gateway\":\"e\\\"\",\"host\":\"web1\",\
+\"service\":null,\"state\":\"PENDING\",\"last\":null,\
+\"stale\":false,\"acknowledgement\":\"none\",\"depth\":0,\"unhandled\":false,\"output\":\"\"},\
+{\"gateway\":\"e\\\"\",\"host\":\"web1\",\
+\"service\":\"HTTP\",\"state\":\"CRITICAL\",\
 \"last\":1250,\"stale\":false,\"acknowledgement\":\"sticky\",\"depth\":1,\"unhandled\":false,\
-\"output\":\"a \\\"b\\\"\\n\\\\c; 10s\"}],\
+\"output\":\"a \\\"b\\\"\\n\\\\c; 10s\"},\
+{\"gateway\":\"e\\\"\",\"host\":\"db1\",\
+\"service\":null,\"state\":\"PENDING\",\"last\":null,\
+\"stale\":false,\"acknowledgement\":\"none\",\"depth\":0,\"unhandled\":false,\"output\":\"\"}],\
 \"comments\":[{\"gateway\":\"e\\\"\",\"id\":1,\"host\":\"web1\",\"service\":null,\"source\":\"user\",\
 \"persistent\":true,\"moment\":1100,\"author\":\"ann\",\"text\":\"rack 4\"}],\
 \"downtimes\":[{\"gateway\":\"e\\\"\",\"id\":1,\"host\":\"web1\",\"service\":\"HTTP\",\"fixed\":false,\
@@ -34,7 +43,7 @@ nscagate_page_seconds{gateway=\"e\\\"\"} 1260\n\
 nscagate_closing{gateway=\"e\\\"\"} 0\n\
 # HELP nscagate_page_objects Objects on the gateway's page.\n\
 # TYPE nscagate_page_objects gauge\n\
-nscagate_page_objects{gateway=\"e\\\"\"} 1\n\
+nscagate_page_objects{gateway=\"e\\\"\"} 3\n\
 # HELP nscagate_comments Comments on the gateway's page.\n\
 # TYPE nscagate_comments gauge\n\
 nscagate_comments{gateway=\"e\\\"\"} 1\n\
@@ -46,7 +55,7 @@ nscagate_downtimes{gateway=\"e\\\"\"} 2\n\
 nscagate_objects{kind=\"host\",state=\"UP\"} 0\n\
 nscagate_objects{kind=\"host\",state=\"DOWN\"} 0\n\
 nscagate_objects{kind=\"host\",state=\"UNREACHABLE\"} 0\n\
-nscagate_objects{kind=\"host\",state=\"PENDING\"} 0\n\
+nscagate_objects{kind=\"host\",state=\"PENDING\"} 2\n\
 nscagate_objects{kind=\"service\",state=\"OK\"} 0\n\
 nscagate_objects{kind=\"service\",state=\"WARNING\"} 0\n\
 nscagate_objects{kind=\"service\",state=\"CRITICAL\"} 1\n\

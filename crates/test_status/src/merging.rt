@@ -7,10 +7,10 @@ use std::alloc::{AllocError, Global};
 use std::test::Fail;
 
 const EAST: &[u8] =
-    b"status 20\nobject;web1;;UP;5;fresh;-;0;up\nobject;web1;HTTP;CRITICAL;7;stale;-;0;timeout\ncomment;1;web1;;user;1;3;ann;rack 4\ndowntime;1;web1;;fixed;0;10;30;20;10;bob;reboot\n";
+    b"status 20\nobject;web1;;UP;5;fresh;-;1;up\nobject;web1;HTTP;CRITICAL;7;stale;-;0;timeout\ncomment;1;web1;;user;1;3;ann;rack 4\ndowntime;1;web1;;fixed;0;10;30;20;10;bob;reboot\n";
 
 const WEST: &[u8] =
-    b"status 21\nobject;web1;HTTP;OK;9;fresh;-;0;fine\nobject;db1;;DOWN;8;fresh;-;0;gone\ncomment;4;web1;;user;1;3;ann;rack 4\ncomment;5;web1;;user;1;3;ann;rack 5\ndowntime;2;web1;;fixed;0;10;30;20;10;bob;reboot\n";
+    b"status 21\nobject;web1;;PENDING;-;fresh;-;1;\nobject;web1;HTTP;OK;9;fresh;-;0;fine\nobject;db1;;DOWN;8;fresh;-;0;gone\ncomment;4;web1;;user;1;3;ann;rack 4\ncomment;5;web1;;user;1;3;ann;rack 5\ndowntime;2;web1;;fixed;0;10;30;20;10;bob;reboot\n";
 
 fn gateways(alloc: Global) -> Result<[Gateway<'static>; 3], ReadFault> {
     Ok([

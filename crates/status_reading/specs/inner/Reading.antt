@@ -1,7 +1,11 @@
 -- For proofs and private functions alone: what is read from a text.
-use Rattle.std.specs.Prelude.{◌≡◌, ℕ, List, ◌∷◌, map, MatchOption, Option}
+use Rattle.std.specs.Prelude.{◌≡◌, ◌≤◌, ℕ, List, ◌∷◌, length, map, MatchOption, Option}
 use Rattle.std.specs.Borrow.{Bor}
 use Rattle.gate_grammar.specs.Spelling.{joined, IsSplit}
+use Rattle.status_reading.specs.Rows.{PageView}
+use Rattle.status_reading.specs.Page.{page_text}
+use Rattle.status_reading.specs.Readable.{IsReadable}
+use Rattle.status_reading.specs.Faults.{line_count}
 
 -- what was found is written so; where nothing was found, nothing that can be read is
 abbrev pub Reads : {A : Type 0} → (A → Type 0) → (A → List ℕ) → List ℕ → Option A → Type 0
@@ -23,3 +27,9 @@ ReadsFields readable fields text found = Reads readable (λ x. joined (fields x)
 -- the texts that these references point to
 abbrev pub texts_of : List (Bor (List ℕ)) → List (List ℕ)
 texts_of references = map (λ (reference : Bor (List ℕ)). reference.now) references
+
+-- the text is that of this page, which can be read and has no more lines than the text has bytes
+pub record IsPageOf (text : List ℕ) (page : PageView) : Type 0 where
+  pub whole : text ≡ page_text page
+  pub readable : IsReadable page
+  pub short : line_count page ≤ length text

@@ -1,0 +1,306 @@
+-- Comments and downtime entries are of objects of the table, and results leave states of their objects' kinds.
+use Rattle.std.proofs.Common.{◌≡◌, ℕ, ◌+◌, ◌<◌, ◌==◌, Bool, true, false, List, [], ◌∷◌, map, length, Option, Some, None, refl, sym, ap, subst, ◌∙◌, arith}
+use Rattle.std.specs.Prelude.{ℤ, pos, negsuc, option_map, slice_get, IfSome, if◌then◌else◌}
+use Rattle.std.specs.List.{AllByRecursion, enumerate_from, list_any}
+use Rattle.std.proofs.lemmas.Bool.{eqb-true}
+use Rattle.std.proofs.lemmas.List.Elements.{recursion_from_All}
+use Rattle.gate_model.specs.declared.record.Moment.{Moment}
+use Rattle.gate_model.specs.declared.object.Kind.{Kind}
+use Rattle.gate_model.specs.declared.object.Kind.TheVariants.{Host, Service}
+use Rattle.gate_model.specs.declared.object.ObjectId.{ObjectId}
+use Rattle.gate_model.specs.declared.object.ObjectLine.{ObjectLine}
+use Rattle.gate_model.specs.declared.state.State.{State}
+use Rattle.gate_model.specs.declared.state.State.TheVariants as states
+use Rattle.gate_model.specs.declared.submission.Body.{Body}
+use Rattle.gate_model.specs.declared.submission.Body.TheVariants as bodies
+use Rattle.gate_model.specs.declared.status.ObjectEvent.{ObjectEvent}
+use Rattle.gate_model.specs.declared.status.ObjectEvent.TheVariants as object
+use Rattle.gate_model.specs.declared.status.CheckResult.{CheckResult}
+use Rattle.gate_model.specs.declared.comments.Source.{Source}
+use Rattle.gate_model.specs.declared.comments.Source.TheVariants as source
+use Rattle.gate_model.specs.declared.comments.Comment.{Comment}
+use Rattle.gate_model.specs.declared.comments.CommentEvent.{CommentEvent}
+use Rattle.gate_model.specs.declared.comments.CommentEvent.TheVariants.{Add, Delete, DeleteAll, Clear, Gone}
+use Rattle.gate_model.specs.declared.downtime.Scheduled.{Scheduled}
+use Rattle.gate_model.specs.declared.downtime.DowntimeEvent.{DowntimeEvent}
+use Rattle.gate_model.specs.declared.downtime.DowntimeEvent.TheVariants as downtime
+use Rattle.gate_model.specs.Record.{is_accepted}
+use Rattle.gate_model.specs.State.{state_of_code}
+use Rattle.gate_model.specs.Status.{newest, check_result_of, results_of, last_result, state_left_by, is_transition, is_clearing}
+use Rattle.gate_model.specs.Comments.{removes, unless_removed, comment_made, comments_left}
+use Rattle.gate_model.specs.Downtime.{scheduled_in}
+use Rattle.gate_model.specs.Table.{is_line_of, object_kind, object_at, object_of, place_of, services_of}
+use Rattle.gate_model.specs.Meaning.{Judged, is_persistent, is_sticky, object_event_of, object_event, object_events, transition_by, plan_of, clearing_by, addition_for, addition_of_entry, next_entry, downtime_events_of_body, downtime_events_of_record, downtime_events, comment_events_of_body, comment_events_of_record, comment_events}
+use Rattle.gate_model.proofs.Lists.{position_from-within}
+use Rattle.gate_model.proofs.ServiceSteps.{services-within}
+use Rattle.gate_pages.specs.StatusPage.{last_moment}
+use Rattle.status_reading.specs.RowFaults.{is_state_of}
+use Rattle.status_reading.proofs.EachSteps.{each_append, each_reverse, each_map, each_filter_map, each_option, some_if, some_map}
+use Rattle.status_reading.proofs.BareSteps.{found_line}
+
+made_of : {A B : Type 0} (P : A → Type 0) (Q : B → Type 0) (made : A → B) → ((one : A) → P one → Q (made one)) → (found : Option A)
+    → IfSome found P → IfSome (option_map made found) Q
+made_of P Q made step None here = tt
+made_of P Q made step (Some one) here = step one here
+
+all_if : {A : Type 0} (P : A → Type 0) (test : Bool) (list : List A) → AllByRecursion P list → AllByRecursion P (if test then list else [])
+all_if P true list all = all
+all_if P false list all = tt
+
+module _ (table : List ObjectLine) where
+  -- the object is one of the table
+  abbrev pub IsPlaced : ObjectId → Type 0
+  IsPlaced found = found.place < length table
+
+  placed : (host : List ℕ) (service : Option (List ℕ)) (found : Option ℕ) → place_of table host service ≡ found
+      → IfSome (option_map (object_at (object_kind service)) found) IsPlaced
+  placed host service None is = tt
+  placed host service (Some place) is = let within = position_from-within (is_line_of host service) 0 table place is in omega (arith, within.1)
+
+  object_placed : (host : List ℕ) (service : Option (List ℕ)) → IfSome (object_of table host service) IsPlaced
+  object_placed host service = placed host service (place_of table host service) refl
+
+  services_placed : (host : List ℕ) → AllByRecursion IsPlaced (services_of table host)
+  services_placed host = recursion_from_All IsPlaced (services_of table host) (services-within table host)
+
+  -- ---- comments
+
+  -- what is added is of an object of the table
+  abbrev AddsPlaced : CommentEvent → Type 0
+  AddsPlaced (Add found from persistent log_index) = IsPlaced found
+  AddsPlaced _ = Unit {0}
+
+  cleared : (before : List ObjectEvent) (event : Option ObjectEvent) → IfSome (clearing_by before event) AddsPlaced
+  cleared before None = tt
+  cleared before (Some (object.Result place state moment log_index)) =
+      some_if AddsPlaced (is_clearing place (object.Result place state moment log_index) before) (Clear place) tt
+  cleared before (Some (object.Acknowledge place sticky log_index)) = tt
+  cleared before (Some (object.RemoveAck place)) = some_if AddsPlaced (is_clearing place (object.RemoveAck place) before) (Clear place) tt
+  cleared before (Some (object.Passive place on)) = tt
+
+  added : (host : List ℕ) (service : Option (List ℕ)) (from : Source) (persistent : Bool) (log_index : ℕ)
+      → IfSome (addition_for table host service from persistent log_index) AddsPlaced
+  added host service from persistent log_index =
+      made_of IsPlaced AddsPlaced (λ found. Add found from persistent log_index) (λ found here. here) (object_of table host service) (object_placed host service)
+
+  added_each : (log_index entry : ℕ) (services : List ObjectId) → AllByRecursion IsPlaced services
+      → AllByRecursion AddsPlaced (map (addition_of_entry log_index) (enumerate_from entry services))
+  added_each log_index entry [] all = tt
+  added_each log_index entry (one ∷ services) all = (all.0, added_each log_index (entry + 1) services all.1)
+
+  body_adds : (before : List ObjectEvent) (entry : ℕ) (moment : Moment) (log_index : ℕ) (body : Body)
+      → AllByRecursion AddsPlaced (comment_events_of_body table before entry moment log_index body)
+  body_adds before entry moment log_index (bodies.Result host service code output) =
+      let event = object_event_of table moment log_index (bodies.Result host service code output) in
+      each_option AddsPlaced (clearing_by before event) (cleared before event)
+  body_adds before entry moment log_index (bodies.AddComment host service persistent author text) =
+      each_option AddsPlaced _ (added host service source.User (is_persistent persistent) log_index)
+  body_adds before entry moment log_index (bodies.DelComment kind id) = (tt, tt)
+  body_adds before entry moment log_index (bodies.DelAllComments host service) =
+      each_option AddsPlaced _ (some_map AddsPlaced (λ place. DeleteAll place) (λ place. tt) (place_of table host service))
+  body_adds before entry moment log_index (bodies.Acknowledge host service sticky notify persistent author text) =
+      each_option AddsPlaced _ (added host service source.Ack (is_persistent persistent) log_index)
+  body_adds before entry moment log_index (bodies.RemoveAck host service) =
+      let event = object_event_of table moment log_index (bodies.RemoveAck host service) in
+      each_option AddsPlaced (clearing_by before event) (cleared before event)
+  body_adds before entry moment log_index (bodies.Schedule host service starts ends fixed trigger lasts author text) =
+      each_option AddsPlaced _ (added host service (source.Downtime entry) false log_index)
+  body_adds before entry moment log_index (bodies.DelDowntime kind id) = tt
+  body_adds before entry moment log_index (bodies.Passive host service on) = tt
+  body_adds before entry moment log_index (bodies.ScheduleServices host starts ends fixed trigger lasts author text) =
+      each_reverse AddsPlaced _ (added_each log_index entry (services_of table host) (services_placed host))
+  body_adds before entry moment log_index bodies.Shutdown = tt
+
+  events_add : (judgements : List Judged) → AllByRecursion AddsPlaced (comment_events table judgements)
+  events_add [] = tt
+  events_add (judgement ∷ before) =
+      let body = judgement.applied.item.body in
+      each_append AddsPlaced (comment_events_of_record table before judgement) (comment_events table before)
+      (all_if AddsPlaced (is_accepted judgement.outcome) _
+      (body_adds (object_events table before) (next_entry table before) judgement.applied.moment judgement.log_index body))
+      (events_add before)
+
+  kept_placed : (removed : Bool) (comment : Comment) → IsPlaced comment.object
+      → AllByRecursion (λ (one : Comment). IsPlaced one.object) (if removed then [] else comment ∷ [])
+  kept_placed true comment here = tt
+  kept_placed false comment here = (here, tt)
+
+  left_placed : (first : ℕ) (later history : List CommentEvent) → AllByRecursion AddsPlaced history
+      → AllByRecursion (λ (one : Comment). IsPlaced one.object) (comments_left first later history)
+  left_placed first later [] all = tt
+  left_placed first later (Add found from persistent log_index ∷ before) all =
+      let comment = comment_made first before found from persistent log_index in
+      let more = Add found from persistent log_index ∷ later in
+      each_append (λ (one : Comment). IsPlaced one.object) (comments_left first more before) (unless_removed later comment)
+      (left_placed first more before all.1)
+      (kept_placed (list_any (λ event. removes event comment) later) comment all.0)
+  left_placed first later (Delete id ∷ before) all = left_placed first (Delete id ∷ later) before all.1
+  left_placed first later (DeleteAll place ∷ before) all = left_placed first (DeleteAll place ∷ later) before all.1
+  left_placed first later (Clear place ∷ before) all = left_placed first (Clear place ∷ later) before all.1
+  left_placed first later (Gone id ∷ before) all = left_placed first (Gone id ∷ later) before all.1
+
+  pub comments_placed : (judgements : List Judged)
+      → AllByRecursion (λ (one : Comment). IsPlaced one.object) (comments_left 1 [] (comment_events table judgements))
+  comments_placed judgements = left_placed 1 [] (comment_events table judgements) (events_add judgements)
+
+  -- ---- downtime entries
+
+  -- what is scheduled is of an object of the table
+  abbrev SchedulesPlaced : DowntimeEvent → Type 0
+  SchedulesPlaced (downtime.Schedule moment found plan) = IsPlaced found
+  SchedulesPlaced _ = Unit {0}
+
+  transition_made : (before : List ObjectEvent) (event : Option ObjectEvent) → IfSome (transition_by before event) SchedulesPlaced
+  transition_made before None = tt
+  transition_made before (Some (object.Result place state moment log_index)) =
+      some_if SchedulesPlaced (is_transition place (object.Result place state moment log_index) before) (downtime.Transition moment place) tt
+  transition_made before (Some (object.Acknowledge place sticky log_index)) = tt
+  transition_made before (Some (object.RemoveAck place)) = tt
+  transition_made before (Some (object.Passive place on)) = tt
+
+  body_schedules : (before : List ObjectEvent) (moment : Moment) (log_index : ℕ) (body : Body)
+      → AllByRecursion SchedulesPlaced (downtime_events_of_body table before moment log_index body)
+  body_schedules before moment log_index (bodies.Result host service code output) =
+      let event = object_event_of table moment log_index (bodies.Result host service code output) in
+      each_option SchedulesPlaced (transition_by before event) (transition_made before event)
+  body_schedules before moment log_index (bodies.AddComment host service persistent author text) = tt
+  body_schedules before moment log_index (bodies.DelComment kind id) = tt
+  body_schedules before moment log_index (bodies.DelAllComments host service) = tt
+  body_schedules before moment log_index (bodies.Acknowledge host service sticky notify persistent author text) = tt
+  body_schedules before moment log_index (bodies.RemoveAck host service) = tt
+  body_schedules before moment log_index (bodies.Schedule host service starts ends fixed trigger lasts author text) =
+      let plan = plan_of starts ends fixed trigger lasts log_index in
+      each_option SchedulesPlaced _
+      (made_of IsPlaced SchedulesPlaced (λ found. downtime.Schedule moment found plan) (λ found here. here) (object_of table host service) (object_placed host service))
+  body_schedules before moment log_index (bodies.DelDowntime kind id) = (tt, tt)
+  body_schedules before moment log_index (bodies.Passive host service on) = tt
+  body_schedules before moment log_index (bodies.ScheduleServices host starts ends fixed trigger lasts author text) =
+      let plan = plan_of starts ends fixed trigger lasts log_index in
+      each_reverse SchedulesPlaced _
+      (each_map IsPlaced SchedulesPlaced (λ service. downtime.Schedule moment service plan) (λ service here. here) (services_of table host) (services_placed host))
+  body_schedules before moment log_index bodies.Shutdown = tt
+
+  events_schedule : (judgements : List Judged) → AllByRecursion SchedulesPlaced (downtime_events table judgements)
+  events_schedule [] = tt
+  events_schedule (judgement ∷ before) =
+      let body = judgement.applied.item.body in
+      each_append SchedulesPlaced (downtime_events_of_record table before judgement) (downtime_events table before)
+      (all_if SchedulesPlaced (is_accepted judgement.outcome) _
+      (body_schedules (object_events table before) judgement.applied.moment judgement.log_index body))
+      (events_schedule before)
+
+  in_placed : (events : List DowntimeEvent) → AllByRecursion SchedulesPlaced events
+      → AllByRecursion (λ (one : Scheduled). IsPlaced one.object) (scheduled_in 1 events)
+  in_placed [] all = tt
+  in_placed (downtime.Schedule moment found plan ∷ before) all = (all.0, in_placed before all.1)
+  in_placed (downtime.Delete moment id ∷ before) all = in_placed before all.1
+  in_placed (downtime.Transition moment place ∷ before) all = in_placed before all.1
+
+  pub scheduled_placed : (judgements : List Judged)
+      → AllByRecursion (λ (one : Scheduled). IsPlaced one.object) (scheduled_in 1 (downtime_events table judgements))
+  scheduled_placed judgements = in_placed (downtime_events table judgements) (events_schedule judgements)
+
+  -- ---- states
+
+  service_fits : (zero one two : Bool) (last : ℕ)
+      → is_state_of (Some last) Service (if zero then states.Ok else (if one then states.Warning else (if two then states.Critical else states.Unknown))) ≡ true
+  service_fits true one two last = refl
+  service_fits false true two last = refl
+  service_fits false false true last = refl
+  service_fits false false false last = refl
+
+  host_fits : (zero one two : Bool) (last : ℕ)
+      → is_state_of (Some last) Host (if zero then states.Up else (if one then states.Down else (if two then states.Unreachable else states.Down))) ≡ true
+  host_fits true one two last = refl
+  host_fits false true two last = refl
+  host_fits false false true last = refl
+  host_fits false false false last = refl
+
+  code_state : (kind : Kind) (code : ℤ) (last : ℕ) → is_state_of (Some last) kind (state_of_code kind code) ≡ true
+  code_state Host (pos code) last = host_fits (code == 0) (code == 1) (code == 2) last
+  code_state Host (negsuc below) last = refl
+  code_state Service (pos code) last = service_fits (code == 0) (code == 1) (code == 2) last
+  code_state Service (negsuc below) last = refl
+
+  -- the state is one of the kind of the object at this place
+  abbrev HasKind : ℕ → State → Type 0
+  HasKind place state = (line : ObjectLine) → slice_get table place ≡ Some line
+      → (last : ℕ) → is_state_of (Some last) (object_kind line.service) state ≡ true
+
+  -- a result leaves such a state
+  abbrev LeavesKind : ObjectEvent → Type 0
+  LeavesKind (object.Result place state moment log_index) = HasKind place state
+  LeavesKind _ = Unit {0}
+
+  result_kind : (moment : Moment) (log_index : ℕ) (host : List ℕ) (service : Option (List ℕ)) (code : ℤ) (found : Option ℕ)
+      → place_of table host service ≡ found
+      → IfSome (option_map (λ place. object.Result place (state_of_code (object_kind service) code) moment log_index) found) LeavesKind
+  result_kind moment log_index host service code None is = tt
+  result_kind moment log_index host service code (Some place) is = λ line here last.
+      let found = found_line table host service place is in
+      let same : found.0 ≡ line = same_line found.0 line (sym found.1 ∙ here) in
+      let services : line.service ≡ service = sym (ap (λ (one : ObjectLine). one.service) same) ∙ found.2 in
+      ap (λ name. is_state_of (Some last) (object_kind name) (state_of_code (object_kind service) code)) services
+      ∙ code_state (object_kind service) code last
+    where
+      same_line : (one other : ObjectLine) → ◌≡◌ {A = Option ObjectLine} (Some one) (Some other) → one ≡ other
+      same_line one other is = cc
+
+  event_kind : (moment : Moment) (log_index : ℕ) (body : Body) → IfSome (object_event_of table moment log_index body) LeavesKind
+  event_kind moment log_index (bodies.Result host service code output) =
+      result_kind moment log_index host service code (place_of table host service) refl
+  event_kind moment log_index (bodies.AddComment host service persistent author text) = tt
+  event_kind moment log_index (bodies.DelComment kind id) = tt
+  event_kind moment log_index (bodies.DelAllComments host service) = tt
+  event_kind moment log_index (bodies.Acknowledge host service sticky notify persistent author text) =
+      some_map LeavesKind (λ place. object.Acknowledge place (is_sticky sticky) log_index) (λ place. tt) (place_of table host service)
+  event_kind moment log_index (bodies.RemoveAck host service) =
+      some_map LeavesKind (λ place. object.RemoveAck place) (λ place. tt) (place_of table host service)
+  event_kind moment log_index (bodies.Schedule host service starts ends fixed trigger lasts author text) = tt
+  event_kind moment log_index (bodies.DelDowntime kind id) = tt
+  event_kind moment log_index (bodies.Passive host service on) =
+      some_map LeavesKind (λ place. object.Passive place on) (λ place. tt) (place_of table host service)
+  event_kind moment log_index (bodies.ScheduleServices host starts ends fixed trigger lasts author text) = tt
+  event_kind moment log_index bodies.Shutdown = tt
+
+  accepted_kind : (accepted : Bool) (event : Option ObjectEvent) → IfSome event LeavesKind → IfSome (if accepted then event else None) LeavesKind
+  accepted_kind true event kind = kind
+  accepted_kind false event kind = tt
+
+  none_needed : (judgements : List Judged) → AllByRecursion (λ (judgement : Judged). Unit {0}) judgements
+  none_needed [] = tt
+  none_needed (judgement ∷ judgements) = (tt, none_needed judgements)
+
+  events_kind : (judgements : List Judged) → AllByRecursion LeavesKind (object_events table judgements)
+  events_kind judgements =
+      each_filter_map (λ (judgement : Judged). Unit {0}) LeavesKind (object_event table)
+      (λ judgement none.
+      accepted_kind (is_accepted judgement.outcome) _ (event_kind judgement.applied.moment judgement.log_index judgement.applied.item.body))
+      judgements (none_needed judgements)
+
+  made_here : (place other : ℕ) (state : State) (moment : Moment) (log_index : ℕ) (here : Bool) → (other == place) ≡ here → HasKind other state
+      → IfSome (if here then Some (record { state = state; moment = moment; log_index = log_index }) else None)
+      (λ (last : CheckResult). HasKind place last.state)
+  made_here place other state moment log_index true is kind = subst (λ (at : ℕ). HasKind at state) (eqb-true other place is) kind
+  made_here place other state moment log_index false is kind = tt
+
+  last_kind : (place : ℕ) (event : ObjectEvent) → LeavesKind event → IfSome (check_result_of place event) (λ (last : CheckResult). HasKind place last.state)
+  last_kind place (object.Result other state moment log_index) kind = made_here place other state moment log_index (other == place) refl kind
+  last_kind place (object.Acknowledge other sticky log_index) kind = tt
+  last_kind place (object.RemoveAck other) kind = tt
+  last_kind place (object.Passive other on) kind = tt
+
+  newest_kind : (place : ℕ) (line : ObjectLine) (results : List CheckResult) → slice_get table place ≡ Some line
+      → AllByRecursion (λ (last : CheckResult). HasKind place last.state) results
+      → is_state_of (last_moment (newest results)) (object_kind line.service) (state_left_by (newest results)) ≡ true
+  newest_kind place line [] here all = refl
+  newest_kind place line (last ∷ results) here all = all.0 line here last.moment.0
+
+  -- an object has a state of its kind
+  pub state_fits : (place : ℕ) (line : ObjectLine) (judgements : List Judged) → slice_get table place ≡ Some line
+      → is_state_of (last_moment (last_result place (object_events table judgements))) (object_kind line.service)
+      (state_left_by (last_result place (object_events table judgements))) ≡ true
+  state_fits place line judgements here =
+      newest_kind place line (results_of place (object_events table judgements)) here
+      (each_filter_map LeavesKind (λ (last : CheckResult). HasKind place last.state) (check_result_of place) (last_kind place)
+      (object_events table judgements) (events_kind judgements))
