@@ -90,7 +90,7 @@ class Web:
 
     def __init__(self, *gateways, words=(), limits='', port=None):
         self.port = port or free_port()
-        words = [PROGRAM, '--listen', f'127.0.0.1:{self.port}', *words]
+        words = [PROGRAM, '--listen', f'127.0.0.1:{self.port}', '--every', '1', *words]
         for name, port in gateways:
             words += ['--gateway', f'{name}=127.0.0.1:{port}']
         if limits:
@@ -262,6 +262,10 @@ def test_faults(now):
         took = time.time() - began
         test('pages over bad gateways take at most 8 s', took < 8, took)
         test('all three come of one fetch', mute.count == 1, mute.count)
+        began = time.time()
+        web.text('/')
+        took = time.time() - began
+        test('a page over bad gateways that were fetched takes less than a second', took < 1, took)
         for name, cause in [('down', "it can&#39;t be reached"), ('mute', 'its page takes too long'),
                             ('endless', 'its page is too long'), ('dripping', 'its page takes too long'),
                             ('cut', 'damaged or cut off at line 4'), ('http', 'does not show a status page'),
@@ -292,9 +296,59 @@ def test_sharing(now):
         began = time.time()
         pages = at_once(*[lambda: web.text('/')] * 100)
         took = time.time() - began
-        test('browsers within a second share a fetch', gateway.count - before <= took + 1,
-             (gateway.count - before, took))
+        test('browsers share the fetches', gateway.count - before <= took + 1, (gateway.count - before, took))
         test('each has the page', all(b'web1' in page for page in pages))
+
+
+def soon(found, seconds=5):
+    """What this function returns, as soon as it is true, or else after these seconds."""
+    ends = time.time() + seconds
+    while not (value := found()) and time.time() < ends:
+        time.sleep(0.2)
+    return value
+
+
+def test_old(now):
+    """The last page of a gateway that can't be reached stays, marked as old; one that shows fewer objects is an alarm."""
+    text = [east(now)]
+    gateway = shows(lambda: text[0])
+    with Web(('east', gateway.port)) as web:
+        fresh = web.json()
+        test('a new page', fresh['gateways'] == [dict(name='east', reachable=True, moment=now, closing=None)]
+             and not any(row['stale'] for row in fresh['objects']), fresh)
+        before = samples_of(web.text('/metrics'))
+        text[0] = b'HTTP/1.1 400 Bad Request\r\n\r\n'
+        old = soon(lambda: (read := web.json())['gateways'][0].get('age') and read)
+        test('JSON names the age of an old page and why there is no newer one', old and {
+            **old['gateways'][0], 'age': 1} == dict(
+                name='east', reachable=False, fault='it does not show a status page', moment=now, closing=None, age=1), old)
+        test('the objects of an old page stay, and are stale', old and sorted(old['objects'], key=str) == sorted(
+            ({**row, 'stale': True} for row in fresh['objects']), key=str), old)
+        samples = samples_of(web.text('/metrics'))
+        label = (('gateway', 'east'),)
+        test('an old page is not up, and has its age', before['nscagate_up', label] == 1
+             and before['nscagate_page_age_seconds', label] == 0 and samples['nscagate_up', label] == 0
+             and samples['nscagate_page_age_seconds', label] > 0, samples)
+        problems = {key: number for key, number in before.items() if key[0] == 'nscagate_problem'}
+        test('its problems are named', len(problems) == 2 and problems.items() <= samples.items(), samples)
+        kept = ['nscagate_problems_unhandled', 'nscagate_objects_acknowledged']
+        test('its problems are counted', all(samples[name, ()] == before[name, ()] > 0 for name in kept)
+             and samples['nscagate_objects_stale', ()] == 3, samples)
+        page = html.unescape(Tags(web.text('/')).text)
+        test('its alarm', re.search('Gateway east shows no new page: it does not show a status page. The one of '
+                                    '[0-9]+ s ago is shown, and its objects are stale.\n', page), page)
+        test('a mark and its age at each row', len(re.findall(r'\n(?:DOWN|UP|CRITICAL) .* stale .*s ago', page)) == 3, page)
+        text[0] = east(now)
+        again = soon(lambda: (read := web.json())['gateways'][0]['reachable'] and read)
+        test('a page that is read again is new', again == fresh, again)
+        text[0] = east(now).rpartition(b'object;')[0]
+        alarm = soon(lambda: (page := Tags(web.text('/')).text) if 'has shown' in Tags(web.text('/')).text else '')
+        test('a page with fewer objects is an alarm', 'Gateway east shows 2 objects, and has shown 3. '
+             'Its page may be cut off.\n' in alarm, alarm)
+        gateway.listener.shutdown(socket.SHUT_RDWR)
+        gone = soon(lambda: (read := web.json())['gateways'][0].get('fault') and read)
+        test('a gateway that is down', gone and gone['gateways'][0]['fault'] == "it can't be reached"
+             and len(gone['objects']) == 2, gone)
 
 
 def test_slow_browsers(now):
@@ -459,6 +513,7 @@ def test_words():
     for words in [[], ['--gateway'], ['--gateway', 'x'], ['--gateway', 'a=1.2.3.4'], ['--listen', here],
                   ['--gateway', here, '--listen', 'nowhere'], ['--gateway', here, '--refresh', '1'],
                   ['--gateway', here, '--refresh', '3601'], ['--gateway', here, '--refresh', 'x'],
+                  ['--gateway', here, '--every', '0'], ['--gateway', here, '--every', '31'],
                   ['--gateway', 'a=' + here, '--gateway', 'a=' + here], ['--gateway', here, 'more'],
                   ['--gateway', here, '--help']]:
         run = subprocess.run([PROGRAM, *words], capture_output=True, timeout=10)
@@ -533,7 +588,7 @@ def scraped(port, folder):
             except OSError:
                 pass
         return {(row['metric']['__name__'], tuple(sorted(
-            (name, value) for name, value in row['metric'].items() if name in ('gateway', 'kind', 'state')))):
+            (name, value) for name, value in row['metric'].items() if name not in ('__name__', 'instance', 'job')))):
             int(row['value'][1]) for row in found}
     finally:
         process.kill()
@@ -569,7 +624,10 @@ def test_names():
         if shutil.which('prometheus'):
             with tempfile.TemporaryDirectory() as folder:
                 scrape = scraped(web.port, folder)
-            test('Prometheus reads the same samples', scrape == found, scrape)
+            # To Prometheus an empty label is none, and labels have no order.
+            test('Prometheus reads the same samples', scrape == {
+                (name, tuple(sorted(label for label in labels if label[1]))): number
+                for (name, labels), number in found.items()}, scrape)
         else:
             print('Prometheus ... skipped: it is not installed')
 
@@ -604,7 +662,7 @@ def main():
     now = int(time.time())
     at_once(*[lambda check=check: run(check) for check in [test_words, test_pages, test_names]], *[
         lambda check=check: run(check, now) for check in [
-            test_texts, test_faults, test_sharing, test_descriptors, test_ends, test_requests, test_browser]])
+            test_texts, test_faults, test_old, test_sharing, test_descriptors, test_ends, test_requests, test_browser]])
     # What takes the processors for itself.
     run(test_slow_browsers, int(time.time()))
     run(test_memory, int(time.time()))

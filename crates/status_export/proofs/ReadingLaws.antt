@@ -9,10 +9,11 @@ use Rattle.status_reading.specs.declared.rows.ShownComment.{ShownComment}
 use Rattle.status_reading.specs.declared.rows.ShownDowntime.{ShownDowntime}
 use Rattle.status_reading.specs.declared.page.StatusPage.{StatusPage}
 use Rattle.status_merge.specs.declared.gateway.Gateway.{Gateway}
+use Rattle.status_merge.specs.declared.gateway.Old.{Old}
 use Rattle.status_merge.specs.declared.gateway.MergedObject.{MergedObject}
 use Rattle.status_merge.specs.declared.entries.Entry.{Entry}
 use Rattle.status_merge.specs.Entries.{comments_on, downtimes_on}
-use Rattle.status_export.specs.Document.{optional_json, service_json, items_of, reachable_json, unreachable_json, gateway_json, object_json, comment_json, downtime_json, status_document}
+use Rattle.status_export.specs.Document.{optional_json, service_json, items_of, reachable_json, unreachable_json, old_json, page_json, gateway_json, object_json, comment_json, downtime_json, status_document}
 
 -- the text of these tokens is read as their value
 pub read_tokens : (j : Json) (text : List ℕ) → tokens text ≡ json_tokens j → depth j ≤ max_depth → document text ≡ Some j
@@ -33,13 +34,20 @@ flat_service (byte ∷ rest) = refl
 shallow_page : (name : List ℕ) (page : StatusPage) → depth (reachable_json name page) ≤ 1
 shallow_page name page = rw (flat_optional page.closing) (lit≤ tt)
 
+shallow_old : (name : List ℕ) (page : StatusPage) (cause : List ℕ) (age : ℕ) → depth (old_json name page cause age) ≤ 1
+shallow_old name page cause age = rw (flat_optional page.closing) (lit≤ tt)
+
+shallow_shown : (name : List ℕ) (page : StatusPage) (old : Option Old) → depth (page_json name page old) ≤ 1
+shallow_shown name page None = shallow_page name page
+shallow_shown name page (Some old) = shallow_old name page (string_bytes old.cause) old.age
+
 shallow_gateway : (gateway : Gateway) → depth (gateway_json gateway) ≤ 1
 shallow_gateway gateway =
     elim gateway.page as (λ page. depth (elim page [
-      | Ok page ↦ reachable_json gateway.name.now page
+      | Ok page ↦ page_json gateway.name.now page gateway.old
       | Err cause ↦ unreachable_json gateway.name.now (string_bytes cause)
     ]) ≤ 1) [
-      | Ok page ↦ shallow_page gateway.name.now page
+      | Ok page ↦ shallow_shown gateway.name.now page gateway.old
       | Err fault ↦ lit≤ tt
     ]
 

@@ -16,6 +16,7 @@ use Rattle.status_reading.specs.declared.page.StatusPage.{StatusPage}
 use Rattle.status_reading.specs.Page.{shown_source}
 use Rattle.status_reading.specs.Plain.{plain_bytes}
 use Rattle.status_merge.specs.declared.gateway.Gateway.{Gateway}
+use Rattle.status_merge.specs.declared.gateway.Old.{Old}
 use Rattle.status_merge.specs.declared.gateway.MergedObject.{MergedObject}
 use Rattle.status_merge.specs.Ranks.{is_unhandled}
 use Rattle.status_merge.specs.declared.entries.Entry.{Entry}
@@ -69,7 +70,7 @@ acknowledgement_word Sticky = codes "sticky"
 
 -- ---- rows
 
--- a gateway whose page was read
+-- a gateway whose page is new
 abbrev pub reachable_json : List ℕ → StatusPage → Json
 reachable_json name page =
     object (members_of (
@@ -90,9 +91,27 @@ unreachable_json name cause =
     ∷ []
     ))
 
+-- a gateway whose page is old, and for this cause there is no newer one
+abbrev pub old_json : List ℕ → StatusPage → List ℕ → ℕ → Json
+old_json name page cause age =
+    object (members_of (
+    (codes "name", string name)
+    ∷ (codes "reachable", boolean false)
+    ∷ (codes "fault", string cause)
+    ∷ (codes "moment", number_json page.moment)
+    ∷ (codes "closing", optional_json page.closing)
+    ∷ (codes "age", number_json age)
+    ∷ []
+    ))
+
+-- a gateway with a page, which may be old
+abbrev pub page_json : List ℕ → StatusPage → Option Old → Json
+page_json name page None = reachable_json name page
+page_json name page (Some old) = old_json name page (string_bytes old.cause) old.age
+
 abbrev pub gateway_json : Gateway → Json
 gateway_json gateway = elim gateway.page [
-  | Ok page ↦ reachable_json gateway.name.now page
+  | Ok page ↦ page_json gateway.name.now page gateway.old
   | Err cause ↦ unreachable_json gateway.name.now (string_bytes cause)
 ]
 

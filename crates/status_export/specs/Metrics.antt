@@ -1,17 +1,20 @@
 -- The metrics of gateways and of their objects: `metrics_page` is the text. Own rules: the names, the help texts, the
 -- labels and their order.
-use Rattle.std.specs.Prelude.{ℕ, List, [], ◌∷◌, ◌++◌, length, map, Ok, Err, is_some, is_ok, codes}
+use Rattle.std.specs.Prelude.{ℕ, Bool, ◌&&◌, nat_lt, if◌then◌else◌, List, [], ◌∷◌, ◌++◌, length, map, Ok, Err, is_some, is_none, is_ok, codes}
 use Rattle.std.specs.List.{flat_map}
 use Rattle.std.specs.Int.{from_bool}
 use Rattle.gate_model.specs.declared.state.State.{State}
 use Rattle.gate_model.specs.declared.state.State.TheVariants as state
+use Rattle.gate_model.specs.State.{is_problem}
 use Rattle.gate_pages.specs.StatusPage.{state_name}
 use Rattle.status_reading.specs.declared.page.StatusPage.{StatusPage}
 use Rattle.status_merge.specs.declared.gateway.Gateway.{Gateway}
 use Rattle.status_merge.specs.declared.gateway.MergedObject.{MergedObject}
 use Rattle.status_merge.specs.declared.counts.Counts.{Counts}
-use Rattle.status_merge.specs.Ranks.{counts_of}
+use Rattle.status_merge.specs.Ranks.{is_made, counts_of}
+use Rattle.status_merge.specs.Objects.{age_of}
 use Rattle.status_export.specs.Gauges.{Sample, Gauge, gauge_text}
+use Rattle.status_export.specs.Document.{plain_text}
 
 -- ---- gateways
 
@@ -19,9 +22,27 @@ use Rattle.status_export.specs.Gauges.{Sample, Gauge, gauge_text}
 abbrev pub gateway_sample : List ℕ → ℕ → Sample
 gateway_sample name number = record { labels = (codes "gateway", name) ∷ []; number = number }
 
--- 1 where the gateway's page was read, else 0
+-- whether the gateway's page was read and is new
+abbrev pub is_up : Gateway → Bool
+is_up gateway = is_ok gateway.page && is_none gateway.old
+
+-- 1 where it is, else 0
 abbrev pub up_sample : Gateway → Sample
-up_sample gateway = gateway_sample gateway.name.now (from_bool (is_ok gateway.page))
+up_sample gateway = gateway_sample gateway.name.now (from_bool (is_up gateway))
+
+-- how many seconds ago the gateway's page was fetched, 0 where it is new; none where there is no page
+abbrev pub age_samples : Gateway → List Sample
+age_samples gateway = elim gateway.page [
+  | Ok page ↦ gateway_sample gateway.name.now (age_of gateway) ∷ []
+  | Err fault ↦ []
+]
+
+abbrev pub age_gauge : List Gateway → Gauge
+age_gauge gateways = record {
+  name = codes "nscagate_page_age_seconds";
+  help = codes "How long ago the gateway's page was fetched, where it is old.";
+  samples = flat_map age_samples gateways;
+}
 
 -- a number of the gateway's page; none where there is no page
 abbrev pub page_samples : (StatusPage → ℕ) → Gateway → List Sample
@@ -49,6 +70,7 @@ up_gauge gateways = record {
 abbrev pub gateway_gauges : List Gateway → List Gauge
 gateway_gauges gateways =
     up_gauge gateways
+    ∷ age_gauge gateways
     ∷ page_gauge (codes "nscagate_page_seconds") (codes "The moment of the gateway's page.")
     (λ page. page.moment) gateways
     ∷ page_gauge (codes "nscagate_closing") (codes "Whether the gateway is closing.")
@@ -115,8 +137,49 @@ object_gauges counts =
     ∷ number_gauge (codes "nscagate_objects_in_downtime") (codes "Objects in active downtime.") counts.in_downtime
     ∷ []
 
+-- ---- problems
+
+abbrev pub flag_word : Bool → List ℕ
+flag_word flag = if flag then codes "true" else codes "false"
+
+-- the sample of these labels
+abbrev pub labelled : List ℕ → List ℕ → List ℕ → List ℕ → List ℕ → List ℕ → Sample
+labelled gateway host service state acknowledged downtime = record {
+  labels = (codes "gateway", gateway)
+      ∷ (codes "host", host)
+      ∷ (codes "service", service)
+      ∷ (codes "state", state)
+      ∷ (codes "acknowledged", acknowledged)
+      ∷ (codes "downtime", downtime)
+      ∷ [];
+  number = 1;
+}
+
+-- the sample of a problem; a host has the service empty
+abbrev pub problem_sample : MergedObject → Sample
+problem_sample object =
+    labelled object.gateway.now
+    (plain_text object.row.host.now)
+    (plain_text object.row.service.now)
+    (state_name object.row.state)
+    (flag_word (is_made object.row.acknowledgement))
+    (flag_word (nat_lt 0 object.row.depth))
+
+-- none where the object has no problem
+abbrev pub problem_samples : MergedObject → List Sample
+problem_samples object = if is_problem object.row.state then problem_sample object ∷ [] else []
+
+abbrev pub problem_gauge : List MergedObject → Gauge
+problem_gauge objects = record {
+  name = codes "nscagate_problem";
+  help = codes "Objects with a problem.";
+  samples = flat_map problem_samples objects;
+}
+
 -- ---- the text
 
 abbrev pub metrics_page : List Gateway → List MergedObject → List ℕ
 metrics_page gateways objects =
-    flat_map gauge_text (gateway_gauges gateways) ++ flat_map gauge_text (object_gauges (counts_of objects))
+    flat_map gauge_text (gateway_gauges gateways)
+    ++ flat_map gauge_text (object_gauges (counts_of objects))
+    ++ gauge_text (problem_gauge objects)

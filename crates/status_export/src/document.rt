@@ -5,13 +5,13 @@ ghost use Rattle.std.specs.Str.{IsUtf8};
 ghost use Rattle.json.specs.Json.{array, document};
 ghost use Rattle.json.specs.Tree.{json_tokens};
 ghost use Rattle.gate_model.specs.Escaping.{escaped};
-ghost use Rattle.status_export.specs.Document.{plain_text, acknowledgement_word, reachable_json, unreachable_json, gateway_json, object_json, items_of, compact_text, status_document};
+ghost use Rattle.status_export.specs.Document.{plain_text, acknowledgement_word, reachable_json, unreachable_json, old_json, page_json, gateway_json, object_json, items_of, compact_text, status_document};
 ghost use Rattle.status_export.specs.inner.Writing.{Adds, member_tokens};
 
 use crate::entries::{push_comments, push_downtimes};
 use crate::members;
 use json::Writer;
-use status_merge::{Gateway, MergedObject, Query, is_unhandled};
+use status_merge::{Gateway, MergedObject, Old, Query, is_unhandled};
 use status_reading::{ShownAcknowledgement, StatusPage, state_name};
 use std::alloc::{AllocError, Global};
 
@@ -48,12 +48,47 @@ fn push_unreachable(writer: &mut Writer, name: &str, cause: &str) -> Result<(), 
     writer.end_object()
 }
 
+fn push_old(
+    writer: &mut Writer,
+    name: &str,
+    page: &StatusPage<'_>,
+    cause: &str,
+    age: u32,
+) -> Result<(), AllocError>
+    ensures { OnOk result
+        (Adds writer.old writer.new (json_tokens (old_json name.now page.now cause.now age))) }
+{
+    writer.begin_object()?;
+    members::text(writer, "name", name)?;
+    members::flag(writer, "reachable", false)?;
+    members::text(writer, "fault", cause)?;
+    members::number(writer, "moment", page.moment)?;
+    members::optional(writer, "closing", page.closing)?;
+    members::number(writer, "age", age)?;
+    writer.end_object()
+}
+
+fn push_page(
+    writer: &mut Writer,
+    name: &str,
+    page: &StatusPage<'_>,
+    old: &Option<Old>,
+) -> Result<(), AllocError>
+    ensures { OnOk result
+        (Adds writer.old writer.new (json_tokens (page_json name.now page.now old.now))) }
+{
+    match old {
+        Some(old) => push_old(writer, name, page, old.cause.as_str(), old.age),
+        None => push_reachable(writer, name, page),
+    }
+}
+
 fn push_gateway(writer: &mut Writer, gateway: &Gateway<'_>) -> Result<(), AllocError>
     ensures { OnOk result
         (Adds writer.old writer.new (json_tokens (gateway_json gateway.now))) }
 {
     match &gateway.page {
-        Ok(page) => push_reachable(writer, gateway.name, page),
+        Ok(page) => push_page(writer, gateway.name, page, &gateway.old),
         Err(cause) => push_unreachable(writer, gateway.name, cause.as_str()),
     }
 }

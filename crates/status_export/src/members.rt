@@ -1,8 +1,8 @@
 //! Members of JSON objects: a name and a value of one kind each.
 
-ghost use Rattle.std.specs.Prelude.{OnOk};
+ghost use Rattle.std.specs.Prelude.{◌≡◌, OnOk, IfOk, string_bytes};
 ghost use Rattle.json.specs.Json.{string, boolean};
-ghost use Rattle.status_export.specs.Document.{number_json, optional_json, field_json, service_json};
+ghost use Rattle.status_export.specs.Document.{number_json, optional_json, plain_text, field_json, service_json};
 ghost use Rattle.status_export.specs.inner.Writing.{Adds, member_tokens};
 
 use json::Writer;
@@ -44,12 +44,19 @@ pub fn optional(writer: &mut Writer, name: &str, number: Option<u32>) -> Result<
 }
 
 /// The text that a field of a page stands for. Bytes that are no UTF-8 become U+FFFD.
+pub fn plain_text(alloc: Global, field: &[u8]) -> Result<String, AllocError>
+    ensures { IfOk result (λ text. string_bytes text ≡ plain_text field.now) }
+{
+    let bytes = plain_bytes(alloc, field)?;
+    String::from_utf8_lossy(alloc, bytes.as_slice())
+}
+
+/// The same as a member.
 pub fn field(alloc: Global, writer: &mut Writer, name: &str, field: &[u8]) -> Result<(), AllocError>
     ensures { OnOk result
         (Adds writer.old writer.new (member_tokens name.now (field_json field.now))) }
 {
-    let bytes = plain_bytes(alloc, field)?;
-    let plain = String::from_utf8_lossy(alloc, bytes.as_slice())?;
+    let plain = plain_text(alloc, field)?;
     text(writer, name, plain.as_str())
 }
 

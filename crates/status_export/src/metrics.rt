@@ -4,12 +4,13 @@ ghost use Rattle.std.specs.Prelude.{◌≡◌, ◌∷◌, ◌++◌, ℕ, List, S
 ghost use Rattle.std.specs.List.{flat_map, list_any};
 ghost use Rattle.status_merge.specs.Ranks.{counts_of};
 ghost use Rattle.status_export.specs.Gauges.{sample_text, gauge_text, value_text, read_value};
-ghost use Rattle.status_export.specs.Metrics.{gateway_sample, page_samples, up_gauge, page_gauge, gateway_gauges, state_sample, state_gauge, number_gauge, object_gauges, metrics_page};
+ghost use Rattle.status_export.specs.Metrics.{gateway_sample, is_up, page_samples, age_samples, up_gauge, age_gauge, page_gauge, gateway_gauges, state_sample, state_gauge, number_gauge, object_gauges, flag_word, labelled, problem_sample, problem_samples, problem_gauge, metrics_page};
 ghost use Rattle.status_export.specs.inner.Labels.{page_number};
 ghost use Rattle.status_export.specs.inner.Writing.{Appends};
 
 use crate::gauges::{push_head, push_sample};
-use status_merge::{Counts, Gateway, MergedObject, count};
+use crate::members::plain_text;
+use status_merge::{Counts, Gateway, MergedObject, age_of, count, is_made};
 use status_reading::{State, StatusPage, state_name};
 use std::alloc::{AllocError, Global};
 
@@ -48,6 +49,13 @@ fn push_gateway_sample(
     push_sample(out, name, &[("gateway", gateway)], number)
 }
 
+// Whether the gateway's page was read and is new.
+fn is_up(gateway: &Gateway<'_>) -> bool
+    ensures { result ≡ is_up gateway.now }
+{
+    gateway.page.is_ok() && gateway.old.is_none()
+}
+
 fn push_up_gauge(out: &mut Vec<u8>, gateways: &[Gateway<'_>]) -> Result<(), AllocError>
     ensures { OnOk result
         (Appends out.old.items out.new.items (gauge_text (up_gauge gateways.now))) }
@@ -58,12 +66,37 @@ fn push_up_gauge(out: &mut Vec<u8>, gateways: &[Gateway<'_>]) -> Result<(), Allo
         "Whether the gateway's status page was read.",
     )?;
     for gateway in gateways {
-        push_gateway_sample(
+        push_gateway_sample(out, "nscagate_up", gateway.name, u64::from(is_up(gateway)))?;
+    }
+    Ok(())
+}
+
+fn push_age_samples(out: &mut Vec<u8>, gateway: &Gateway<'_>) -> Result<(), AllocError>
+    ensures { OnOk result (Appends out.old.items out.new.items
+        (flat_map (sample_text (codes "nscagate_page_age_seconds")) (age_samples gateway.now))) }
+{
+    match &gateway.page {
+        Ok(_) => push_gateway_sample(
             out,
-            "nscagate_up",
+            "nscagate_page_age_seconds",
             gateway.name,
-            u64::from(gateway.page.is_ok()),
-        )?;
+            u64::from(age_of(gateway)),
+        ),
+        Err(_) => Ok(()),
+    }
+}
+
+fn push_age_gauge(out: &mut Vec<u8>, gateways: &[Gateway<'_>]) -> Result<(), AllocError>
+    ensures { OnOk result
+        (Appends out.old.items out.new.items (gauge_text (age_gauge gateways.now))) }
+{
+    push_head(
+        out,
+        "nscagate_page_age_seconds",
+        "How long ago the gateway's page was fetched, where it is old.",
+    )?;
+    for gateway in gateways {
+        push_age_samples(out, gateway)?;
     }
     Ok(())
 }
@@ -107,6 +140,7 @@ fn push_gateway_gauges(out: &mut Vec<u8>, gateways: &[Gateway<'_>]) -> Result<()
         (flat_map gauge_text (gateway_gauges gateways.now))) }
 {
     push_up_gauge(out, gateways)?;
+    push_age_gauge(out, gateways)?;
     push_page_gauge(
         out,
         "nscagate_page_seconds",
@@ -219,6 +253,90 @@ fn push_object_gauges(out: &mut Vec<u8>, counts: &Counts) -> Result<(), AllocErr
     )
 }
 
+fn flag_word(flag: bool) -> &'static str
+    ensures { result.now ≡ flag_word flag }
+{
+    if flag { "true" } else { "false" }
+}
+
+// The sample of these labels.
+fn push_labelled<'a>(
+    out: &mut Vec<u8>,
+    gateway: &'a str,
+    host: &'a str,
+    service: &'a str,
+    state: &'a str,
+    acknowledged: &'a str,
+    downtime: &'a str,
+) -> Result<(), AllocError>
+    ensures { OnOk result (Appends out.old.items out.new.items
+        (sample_text (codes "nscagate_problem")
+        (labelled gateway.now host.now service.now state.now acknowledged.now downtime.now))) }
+{
+    let labels = [
+        ("gateway", gateway),
+        ("host", host),
+        ("service", service),
+        ("state", state),
+        ("acknowledged", acknowledged),
+        ("downtime", downtime),
+    ];
+    push_sample(out, "nscagate_problem", &labels, 1)
+}
+
+// The sample of a problem.
+fn push_problem(
+    alloc: Global,
+    out: &mut Vec<u8>,
+    object: &MergedObject<'_>,
+) -> Result<(), AllocError>
+    ensures { OnOk result (Appends out.old.items out.new.items
+        (sample_text (codes "nscagate_problem") (problem_sample object.now))) }
+{
+    let row = &object.row;
+    let host = plain_text(alloc, row.host)?;
+    let service = plain_text(alloc, row.service)?;
+    push_labelled(
+        out,
+        object.gateway,
+        host.as_str(),
+        service.as_str(),
+        state_name(row.state),
+        flag_word(is_made(row.acknowledgement)),
+        flag_word(row.depth > 0),
+    )
+}
+
+fn push_problem_samples(
+    alloc: Global,
+    out: &mut Vec<u8>,
+    object: &MergedObject<'_>,
+) -> Result<(), AllocError>
+    ensures { OnOk result (Appends out.old.items out.new.items
+        (flat_map (sample_text (codes "nscagate_problem")) (problem_samples object.now))) }
+{
+    if object.row.state.is_problem() {
+        push_problem(alloc, out, object)
+    } else {
+        Ok(())
+    }
+}
+
+fn push_problem_gauge(
+    alloc: Global,
+    out: &mut Vec<u8>,
+    objects: &[MergedObject<'_>],
+) -> Result<(), AllocError>
+    ensures { OnOk result
+        (Appends out.old.items out.new.items (gauge_text (problem_gauge objects.now))) }
+{
+    push_head(out, "nscagate_problem", "Objects with a problem.")?;
+    for object in objects {
+        push_problem_samples(alloc, out, object)?;
+    }
+    Ok(())
+}
+
 /// Writes the metrics of gateways, and of the objects of all of them, in the text format of
 /// Prometheus, version 0.0.4. The only error is out of memory.
 ///
@@ -239,5 +357,6 @@ pub fn metrics_text(
     let mut out = Vec::new(alloc);
     push_gateway_gauges(&mut out, gateways)?;
     push_object_gauges(&mut out, &count(objects))?;
+    push_problem_gauge(alloc, &mut out, objects)?;
     Ok(out)
 }

@@ -1,5 +1,5 @@
 -- The objects of several gateways' pages as one list: `merged`.
-use Rattle.std.specs.Prelude.{◌≡◌, ℕ, Bool, false, true, ◌&&◌, not, nat_lt, List, [], map, filter, find, Option, Some, None, Ok, Err, unwrap_or}
+use Rattle.std.specs.Prelude.{◌≡◌, ℕ, ◌+◌, Bool, false, true, ◌&&◌, ◌||◌, not, nat_lt, min, is_some, List, [], map, filter, find, Option, Some, None, Ok, Err, unwrap_or}
 use Rattle.std.specs.Borrow.{Bor}
 use Rattle.std.specs.List.{All, AllPass, Contains, IsDistinct, list_all, list_any}
 use Rattle.std.specs.Str.{bytes_eq}
@@ -38,13 +38,20 @@ pub record IsListOf (rows shown : List MergedObject) : Type 0 where
       (λ object. Contains rows object × (is_latest (filter (λ row. same_name row object) rows) object ≡ true))
       shown
 
--- a row of a page, with its gateway's name and the page's moment
-abbrev pub shown_by : Bor (List ℕ) → ℕ → ShownObject → MergedObject
-shown_by gateway moment row = record { gateway = gateway; moment = moment; row = row }
+-- how many seconds ago a gateway's page was fetched, where it is old
+abbrev pub age_of : Gateway → ℕ
+age_of gateway = elim gateway.old [ Some old ↦ old.age | None ↦ 0 ]
 
--- the objects of a gateway's page, in its order; none where there is no page
+-- a row of a page, with its gateway's name and a moment; where the page is old, it is stale
+abbrev pub shown_by : Bor (List ℕ) → ℕ → Bool → ShownObject → MergedObject
+shown_by gateway moment is_old row =
+    record { gateway = gateway; moment = moment; row = record row { stale = row.stale || is_old } }
+
+-- the objects of a gateway's page, in its order, at its moment and its age; none where there is no page
 abbrev pub objects_on : Gateway → List MergedObject
 objects_on gateway = elim gateway.page [
-  | Ok page ↦ map (shown_by gateway.name page.moment) page.objects.items
+  | Ok page ↦ map
+      (shown_by gateway.name (min (page.moment + age_of gateway) 4294967295) (is_some gateway.old))
+      page.objects.items
   | Err fault ↦ []
 ]

@@ -16,8 +16,8 @@ pub use entries::{
     CommentLine, DowntimeLine, Entry, Origin, comments_of, downtimes_of, merge_comments,
     merge_downtimes,
 };
-pub use gateway::{Gateway, MergedObject};
-pub use merging::merge;
+pub use gateway::{Gateway, MergedObject, Old};
+pub use merging::{age_of, merge};
 pub use query::{Choice, Query, choice_name, read_query};
-pub use ranks::{is_unhandled, rank};
+pub use ranks::{is_made, is_unhandled, rank};
 pub use selecting::select;

@@ -1,9 +1,10 @@
 ghost use Rattle.std.specs.Prelude.{◌≡◌, ◌++◌, OnOk, IfOk, find};
 ghost use Rattle.std.specs.List.{flat_map};
-ghost use Rattle.status_merge.specs.Objects.{is_later, is_latest, objects_on, merged, IsListOf};
+ghost use Rattle.status_merge.specs.Objects.{is_later, is_latest, age_of, objects_on, merged, IsListOf};
 
 use crate::gateway::{Gateway, MergedObject};
 use crate::groups::{Keyed, grouped};
+use status_reading::ShownObject;
 use std::alloc::{AllocError, Global};
 
 impl<'a> Keyed for MergedObject<'a> {
@@ -43,6 +44,16 @@ fn latest<'a>(rows: &[MergedObject<'a>]) -> Option<MergedObject<'a>>
     latest
 }
 
+/// How many seconds ago a page was fetched, where it is old; 0 where it is new.
+pub fn age_of(gateway: &Gateway<'_>) -> u32
+    ensures { result ≡ age_of gateway.now }
+{
+    match &gateway.old {
+        Some(old) => old.age,
+        None => 0,
+    }
+}
+
 // Adds the objects of a page.
 fn add_page<'a>(
     objects: &mut Vec<MergedObject<'a>>,
@@ -53,11 +64,16 @@ fn add_page<'a>(
     let Ok(page) = &gateway.page else {
         return Ok(());
     };
+    let moment = page.moment.saturating_add(age_of(gateway));
+    let is_old = gateway.old.is_some();
     for row in page.objects.as_slice() {
         objects.push(MergedObject {
             gateway: gateway.name,
-            moment: page.moment,
-            row: *row,
+            moment,
+            row: ShownObject {
+                stale: row.stale || is_old,
+                ..*row
+            },
         })?;
     }
     Ok(())
@@ -77,7 +93,8 @@ fn objects_of<'a>(
     Ok(objects)
 }
 
-/// The objects of all pages, each once, in the order in which the pages name them first.
+/// The objects of all pages, each once, in the order in which the pages name them first. Those of an
+/// old page are stale.
 ///
 /// Where several rows are of one name, the one with the greatest moment of the last result is
 /// shown; of equals the first. The only error is out of memory.

@@ -4,7 +4,7 @@ ghost use Rattle.status_merge.specs.Ranks.{is_made, is_unhandled, severity, rank
 use status_reading::{ShownAcknowledgement, ShownObject, State};
 
 /// Whether there is an acknowledgement.
-pub(crate) fn is_made(acknowledgement: ShownAcknowledgement) -> bool
+pub fn is_made(acknowledgement: ShownAcknowledgement) -> bool
     ensures { result ≡ is_made acknowledgement }
 {
     match acknowledgement {

@@ -1,12 +1,13 @@
 -- The page of some parts: each slot has its text (`filled`), and `html_bytes` is what a browser is sent. `without_texts`
 -- is what the texts have no part in.
-use Rattle.std.specs.Prelude.{ℕ, List, [], Some, None, Ok, Err, map, slice_get, string_bytes}
+use Rattle.std.specs.Prelude.{ℕ, List, [], Option, Some, None, Ok, Err, map, slice_get, string_bytes}
 use Rattle.std.specs.List.{flat_map}
 use Rattle.std.specs.Fmt.{decimal}
 use Rattle.form_urlencoded.specs.Form.{byte_serialize}
 use Rattle.html_text.specs.Escaping.{html_text}
 use Rattle.status_reading.specs.Plain.{plain_bytes}
 use Rattle.status_merge.specs.declared.gateway.Gateway.{Gateway}
+use Rattle.status_merge.specs.declared.gateway.Old.{Old}
 use Rattle.status_merge.specs.declared.gateway.MergedObject.{MergedObject}
 use Rattle.status_merge.specs.declared.entries.Origin.{Origin}
 use Rattle.status_merge.specs.declared.entries.CommentLine.{CommentLine}
@@ -25,9 +26,14 @@ use Rattle.status_view.specs.Layout.{Piece, Markup, Number, Text, NodeView}
 abbrev pub text_at : {X : Type 0} → (X → List ℕ) → List X → ℕ → List ℕ
 text_at text items index = elim (slice_get items index) [ Some item ↦ text item | None ↦ [] ]
 
--- why there is no page of a gateway; nothing where there is one
+-- why there is no newer page; nothing where the page is new
+abbrev pub old_cause : Option Old → List ℕ
+old_cause None = []
+old_cause (Some old) = string_bytes old.cause
+
+-- why there is no page of a gateway, or no newer one
 abbrev pub cause_text : Gateway → List ℕ
-cause_text gateway = elim gateway.page [ Ok page ↦ [] | Err cause ↦ string_bytes cause ]
+cause_text gateway = elim gateway.page [ Ok page ↦ old_cause gateway.old | Err cause ↦ string_bytes cause ]
 
 -- a text of an object's row
 abbrev pub object_text : ObjectText → MergedObject → List ℕ

@@ -1,5 +1,5 @@
 -- The head of a page: `document_nodes`, `title_nodes` and `alarms_nodes`. Own rules.
-use Rattle.std.specs.Prelude.{ℕ, ◌-◌, Bool, nat_lt, List, [], ◌∷◌, ◌++◌, Some, None, codes}
+use Rattle.std.specs.Prelude.{ℕ, ◌-◌, Bool, nat_lt, List, [], ◌∷◌, ◌++◌, Option, Some, None, codes}
 use Rattle.status_view.specs.declared.layout.Slot.TheVariants as slot
 use Rattle.status_view.specs.declared.shape.GatewayShape.{GatewayShape}
 use Rattle.status_view.specs.Layout.{NodeView, Markup, Number, Text, nodes_if, each_indexed}
@@ -77,15 +77,39 @@ still_nodes index age =
     ++ span_nodes age
     ++ (Markup (codes " old. Its log may be full.</p>\n") ∷ [])
 
--- the alarms about a gateway that shows its page; it stands still where the page is more than 60 seconds old
+-- its page was fetched this many seconds ago, and a later fetch gave none
+unfoldable pub old_nodes : ℕ → ℕ → List NodeView
+old_nodes index age =
+    alarm_begin index
+    ++ (Markup (codes "shows no new page: ") ∷ Text (slot.Cause index) ∷ Markup (codes ". The one of ") ∷ [])
+    ++ span_nodes age
+    ++ (Markup (codes " ago is shown, and its objects are stale.</p>\n") ∷ [])
+
+-- its page shows this many objects, and an earlier one more
+unfoldable pub fewer_nodes : ℕ → ℕ → ℕ → List NodeView
+fewer_nodes index objects most =
+    alarm_begin index
+    ++ (Markup (codes "shows ") ∷ Number objects ∷ Markup (codes " objects, and has shown ") ∷ Number most
+    ∷ Markup (codes ". Its page may be cut off.</p>\n") ∷ [])
+
+-- the alarms about a gateway that shows a new page; it stands still where the page is more than 60 seconds old
 unfoldable pub page_alarms : ℕ → Bool → ℕ → List NodeView
 page_alarms index is_closing age =
     nodes_if is_closing (closing_nodes index) ++ nodes_if (nat_lt 60 age) (still_nodes index age)
 
+-- the alarms about a gateway whose page is of so many seconds ago; and was fetched as long ago, where it is old
+unfoldable pub age_alarms : ℕ → Bool → ℕ → Option ℕ → List NodeView
+age_alarms index is_closing seconds old = elim old [
+  | Some age ↦ old_nodes index age
+  | None ↦ page_alarms index is_closing seconds
+]
+
 -- the alarms about a gateway, at this clock
 unfoldable pub alarms_of : ℕ → ℕ → GatewayShape → List NodeView
 alarms_of clock index gateway = elim gateway.moment [
-  | Some moment ↦ page_alarms index gateway.is_closing (clock - moment)
+  | Some moment ↦
+      nodes_if (nat_lt gateway.objects gateway.most) (fewer_nodes index gateway.objects gateway.most)
+      ++ age_alarms index gateway.is_closing (clock - moment) gateway.age
   | None ↦ missing_nodes index
 ]
 

@@ -1,6 +1,7 @@
 -- What decides the markup of a page: `page_shape`. A shape has states, marks, moments, counts and ids, and no text.
 use Rattle.std.specs.Prelude.{ℕ, Bool, false, not, ◌==◌, List, map, length, string_len, Option, Some, None, is_some, Ok, Err}
 use Rattle.status_merge.specs.declared.gateway.Gateway.{Gateway}
+use Rattle.status_merge.specs.declared.gateway.Old.{Old}
 use Rattle.status_merge.specs.declared.gateway.MergedObject.{MergedObject}
 use Rattle.status_merge.specs.declared.entries.CommentLine.{CommentLine}
 use Rattle.status_merge.specs.declared.entries.DowntimeLine.{DowntimeLine}
@@ -57,11 +58,22 @@ shape_view shape = record {
 
 -- ---- the shape of what is shown
 
+-- the age of an old page
+abbrev pub old_age : Option Old → Option ℕ
+old_age None = None
+old_age (Some old) = Some old.age
+
 -- the shape of a gateway's lines
 abbrev pub gateway_shape : Gateway → GatewayShape
 gateway_shape gateway = elim gateway.page [
-  | Ok page ↦ record { moment = Some page.moment; is_closing = is_some page.closing }
-  | Err cause ↦ record { moment = None; is_closing = false }
+  | Ok page ↦ record {
+    moment = Some page.moment;
+    is_closing = is_some page.closing;
+    age = old_age gateway.old;
+    objects = length page.objects.items;
+    most = gateway.most;
+  }
+  | Err cause ↦ record { moment = None; is_closing = false; age = None; objects = 0; most = 0 }
 ]
 
 -- the shape of an object's row

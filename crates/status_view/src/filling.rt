@@ -5,13 +5,13 @@ ghost use Rattle.form_urlencoded.specs.Form.{byte_serialize};
 ghost use Rattle.html_text.specs.Escaping.{html_text};
 ghost use Rattle.status_reading.specs.Plain.{plain_bytes};
 ghost use Rattle.status_view.specs.Layout.{node_view};
-ghost use Rattle.status_view.specs.Filling.{cause_text, object_text, entry_text, slot_text, with_text, filled, piece_bytes, html_bytes};
+ghost use Rattle.status_view.specs.Filling.{old_cause, cause_text, object_text, entry_text, slot_text, with_text, filled, piece_bytes, html_bytes};
 
 use crate::layout::{EntryList, EntryText, Layout, Node, ObjectText, Slot};
 use crate::view::View;
 use form_urlencoded::byte_serialize;
 use html_text::Html;
-use status_merge::{Gateway, MergedObject, Origin};
+use status_merge::{Gateway, MergedObject, Old, Origin};
 use status_reading::plain_bytes;
 use std::alloc::{AllocError, Global};
 
@@ -33,11 +33,20 @@ fn put_in_link(alloc: Global, html: &mut Html, text: &[u8]) -> Result<(), AllocE
     html.text(value.as_str().as_bytes())
 }
 
+fn put_old_cause(html: &mut Html, old: &Option<Old>) -> Result<(), AllocError>
+    ensures { OnOk result (html.new ≡ html.old ++ html_text (old_cause old.now)) }
+{
+    match old {
+        Some(old) => html.text(old.cause.as_str().as_bytes()),
+        None => html.text(b""),
+    }
+}
+
 fn put_cause(html: &mut Html, gateway: &Gateway<'_>) -> Result<(), AllocError>
     ensures { OnOk result (html.new ≡ html.old ++ html_text (cause_text gateway.now)) }
 {
     match &gateway.page {
-        Ok(_) => html.text(b""),
+        Ok(_) => put_old_cause(html, &gateway.old),
         Err(cause) => html.text(cause.as_str().as_bytes()),
     }
 }

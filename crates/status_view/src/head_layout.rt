@@ -2,7 +2,7 @@
 
 ghost use Rattle.std.specs.Prelude.{◌≡◌, ◌++◌, nat_lt, OnOk};
 ghost use Rattle.status_view.specs.Layout.{nodes_if, each_indexed};
-ghost use Rattle.status_view.specs.HeadLayout.{refresh_nodes, unhandled_nodes, document_nodes, page_moment_nodes, gateway_nodes, title_nodes, alarm_begin, missing_nodes, closing_nodes, still_nodes, page_alarms, alarms_of, alarms_nodes};
+ghost use Rattle.status_view.specs.HeadLayout.{refresh_nodes, unhandled_nodes, document_nodes, page_moment_nodes, gateway_nodes, title_nodes, alarm_begin, missing_nodes, closing_nodes, still_nodes, old_nodes, fewer_nodes, page_alarms, age_alarms, alarms_of, alarms_nodes};
 
 use crate::layout::{Layout, Node, Slot};
 use crate::shape::GatewayShape;
@@ -178,7 +178,70 @@ fn lay_out_page_alarms(
     lay_out_still_if(layout, index, age)
 }
 
-#[tactic(auto, unfolding(crate::specs::HeadLayout::alarms_of))]
+fn lay_out_old(layout: &mut Layout, index: usize, age: u32) -> Result<(), AllocError>
+    ensures { OnOk result (layout.new ≡ layout.old ++ old_nodes index age) }
+{
+    begin_alarm(layout, index)?;
+    layout.put(&[
+        Node::Markup("shows no new page: "),
+        Node::Slot(Slot::Cause(index)),
+        Node::Markup(". The one of "),
+    ])?;
+    lay_out_span(layout, age)?;
+    layout.put(&[Node::Markup(" ago is shown, and its objects are stale.</p>\n")])
+}
+
+fn lay_out_fewer(
+    layout: &mut Layout,
+    index: usize,
+    objects: usize,
+    most: usize,
+) -> Result<(), AllocError>
+    ensures { OnOk result (layout.new ≡ layout.old ++ fewer_nodes index objects most) }
+{
+    begin_alarm(layout, index)?;
+    layout.put(&[
+        Node::Markup("shows "),
+        Node::Number(objects as u64),
+        Node::Markup(" objects, and has shown "),
+        Node::Number(most as u64),
+        Node::Markup(". Its page may be cut off.</p>\n"),
+    ])
+}
+
+fn lay_out_fewer_if(
+    layout: &mut Layout,
+    index: usize,
+    objects: usize,
+    most: usize,
+) -> Result<(), AllocError>
+    ensures { OnOk result (layout.new
+        ≡ layout.old ++ nodes_if (nat_lt objects most) (fewer_nodes index objects most)) }
+{
+    if objects < most {
+        lay_out_fewer(layout, index, objects, most)
+    } else {
+        Ok(())
+    }
+}
+
+#[tactic(auto, unfolding(crate::specs::HeadLayout::age_alarms))]
+fn lay_out_age_alarms(
+    layout: &mut Layout,
+    index: usize,
+    gateway: &GatewayShape,
+    age: u32,
+) -> Result<(), AllocError>
+    ensures { OnOk result (layout.new ≡ layout.old
+        ++ age_alarms index gateway.now.is_closing age gateway.now.age) }
+{
+    match gateway.age {
+        Some(old) => lay_out_old(layout, index, old),
+        None => lay_out_page_alarms(layout, index, gateway.is_closing, age),
+    }
+}
+
+#[tactic(auto, unfolding(crate::specs::HeadLayout::alarms_of, crate::specs::HeadLayout::age_alarms))]
 fn lay_out_alarms_of(
     layout: &mut Layout,
     gateway: &GatewayShape,
@@ -189,8 +252,8 @@ fn lay_out_alarms_of(
 {
     match gateway.moment {
         Some(moment) => {
-            let age = clock.saturating_sub(moment);
-            lay_out_page_alarms(layout, index, gateway.is_closing, age)
+            lay_out_fewer_if(layout, index, gateway.objects, gateway.most)?;
+            lay_out_age_alarms(layout, index, gateway, clock.saturating_sub(moment))
         }
         None => lay_out_missing(layout, index),
     }

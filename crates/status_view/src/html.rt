@@ -1,6 +1,6 @@
 ghost use Rattle.std.specs.Prelude.{◌≡◌, map, IfOk};
 ghost use Rattle.status_view.specs.declared.view.View.{View as Shown};
-ghost use Rattle.status_view.specs.Shapes.{entry_shape_view, shape_view, gateway_shape, object_shape, comment_shape, downtime_shape, page_shape};
+ghost use Rattle.status_view.specs.Shapes.{entry_shape_view, shape_view, old_age, gateway_shape, object_shape, comment_shape, downtime_shape, page_shape};
 ghost use Rattle.status_view.specs.Page.{page_nodes};
 ghost use Rattle.status_view.specs.Filling.{filled, html_bytes, without_texts};
 
@@ -11,8 +11,19 @@ use crate::shape::{
 };
 use crate::view::View;
 use html_text::Html;
-use status_merge::{CommentLine, DowntimeLine, Gateway, MergedObject, Origin, count, is_unhandled};
+use status_merge::{
+    CommentLine, DowntimeLine, Gateway, MergedObject, Old, Origin, count, is_unhandled,
+};
 use std::alloc::{AllocError, Global};
+
+fn old_age(old: &Option<Old>) -> Option<u32>
+    ensures { result ≡ old_age old.now }
+{
+    match old {
+        Some(old) => Some(old.age),
+        None => None,
+    }
+}
 
 fn gateway_shape(gateway: &Gateway<'_>) -> GatewayShape
     ensures { result ≡ gateway_shape gateway.now }
@@ -21,10 +32,16 @@ fn gateway_shape(gateway: &Gateway<'_>) -> GatewayShape
         Ok(page) => GatewayShape {
             moment: Some(page.moment),
             is_closing: page.closing.is_some(),
+            age: old_age(&gateway.old),
+            objects: page.objects.len(),
+            most: gateway.most,
         },
         Err(_) => GatewayShape {
             moment: None,
             is_closing: false,
+            age: None,
+            objects: 0,
+            most: 0,
         },
     }
 }

@@ -17,6 +17,12 @@ pub struct GatewayShape {
     /// The moment of its page, where there is one.
     pub moment: Option<u32>,
     pub is_closing: bool,
+    /// How many seconds ago its page was fetched, where that is old.
+    pub age: Option<u32>,
+    /// How many objects its page shows.
+    pub objects: usize,
+    /// The most objects that a page of it has shown.
+    pub most: usize,
 }
 
 /// What decides the markup of an object's row: no text is in it.

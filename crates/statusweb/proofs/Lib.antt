@@ -3,3 +3,4 @@ pub mod FieldSteps
 pub mod WordSteps
 pub mod BodySteps
 pub mod ServiceSteps
+pub mod WatchSteps

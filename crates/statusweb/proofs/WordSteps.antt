@@ -3,7 +3,9 @@ use Rattle.std.proofs.Common.{◌≡◌, ◌<◌, ◌==◌, true, false, ℕ, Li
 use Rattle.std.proofs.lemmas.Bool.{eqb-true, true≢false}
 use Rattle.std.proofs.lemmas.List.{nil_from_length}
 use Rattle.clap.specs.Walk.{texts}
-use Rattle.clap.specs.Words.{Row, Text}
+use Rattle.clap.specs.Words.{AddsArg, App, Row, Rule, Text, app_of, rule_of, with_rule}
+use Rattle.clap.specs.declared.builder.arg.Arg.{Arg}
+use Rattle.clap.specs.declared.builder.command.Command.{Command}
 use Rattle.statusweb.specs.declared.words.Settings.{Settings}
 use Rattle.statusweb.specs.Words.{gateways_of, Sets}
 
@@ -35,3 +37,11 @@ some_given (value ∷ values) found same some =
 pub same_fault : {T U E : Type 0} (fault other : E) → ◌≡◌ {A = Result T E} (Err fault) (Err other)
     → ◌≡◌ {A = Result U E} (Err fault) (Err other)
 same_fault fault other same = ap (λ result. elim result [ Ok value ↦ Err fault | Err known ↦ Err known ]) same
+
+-- a command line with one more argument
+pub app_more : (old new : Command) (arg : Arg) (rule : Rule) (app : App) → AddsArg old arg new → arg.global ≡ false
+    → rule_of arg ≡ rule → app_of old ≡ app → app_of new ≡ with_rule app rule
+app_more old new arg rule app adds local ruled known =
+    adds.shape local
+    ∙ ap (λ (rule : Rule). with_rule (app_of old) rule) ruled
+    ∙ ap (λ (app : App). with_rule app rule) known

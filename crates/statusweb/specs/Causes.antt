@@ -1,12 +1,13 @@
--- Why a gateway shows no status, in the words of its alarm: `fetch_cause` where no text was fetched, `read_cause` where
--- the text is no page. Own words.
-use Rattle.std.specs.Prelude.{ℕ, List, ◌++◌, codes}
+-- Why a gateway shows no new page, in the words of its alarm: `cause_of`. Own words.
+use Rattle.std.specs.Prelude.{ℕ, List, ◌++◌, Option, Some, None, codes}
 use Rattle.std.specs.Fmt.{decimal}
 use Rattle.status_reading.specs.declared.page.ReadFault.{ReadFault}
 use Rattle.status_reading.specs.declared.page.ReadFault.TheVariants as text
 use Rattle.status_reading.specs.RowFaults.{row_fault_words}
 use Rattle.statusweb.specs.declared.fetching.FetchFault.{FetchFault}
 use Rattle.statusweb.specs.declared.fetching.FetchFault.TheVariants.{Unreachable, TooSlow, TooLong, Broken, OutOfMemory}
+use Rattle.statusweb.specs.declared.causes.NoPage.{NoPage}
+use Rattle.statusweb.specs.declared.causes.NoPage.TheVariants.{Fetch, Read}
 
 -- the words of a fetch's fault
 abbrev pub fetch_cause : FetchFault → List ℕ
@@ -23,3 +24,9 @@ read_cause (text.BadLine number) = codes "its page is damaged or cut off at line
 read_cause (text.BadRow number fault) =
     codes "its page is damaged or cut off at line " ++ decimal number ++ codes ": " ++ row_fault_words fault
 read_cause text.OutOfMemory = codes "out of memory"
+
+-- the words of the last fetch's fault; there is none before the first fetch ends, and where the next is late
+abbrev pub cause_of : Option NoPage → List ℕ
+cause_of None = codes "its page was not fetched in time"
+cause_of (Some (Fetch fault)) = fetch_cause fault
+cause_of (Some (Read fault)) = read_cause fault

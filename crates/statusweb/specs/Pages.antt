@@ -1,17 +1,17 @@
--- What is shown of gateways: the text of each is read (`AreShown`), and the pages are merged, selected by the query of
--- a URL, and laid out as HTML (`IsPage`), as JSON (`json_body`) or as metrics (`metrics_body`).
-use Rattle.std.specs.Prelude.{◌≡◌, ℕ, ◌+◌, ⊤, List, [], ◌∷◌, map, get_or, Result, Ok, Err, Vec, String, string_bytes}
+-- What is shown of gateways: the page that is kept of each (`IsShown`); and the pages are merged, selected by the query
+-- of a URL, and laid out as HTML (`IsPage`), as JSON (`json_body`) or as metrics (`metrics_body`).
+use Rattle.std.specs.Prelude.{◌≡◌, ℕ, ◌-◌, min, Bool, true, false, List, map, Option, Some, None, Result, Ok, Err, String, string_bytes}
 use Rattle.std.specs.declared.alloc.Global.{Global}
 use Rattle.std.specs.List.{flat_map}
 use Rattle.form_urlencoded.specs.Form.{raw_pairs}
 use Rattle.status_reading.specs.declared.page.StatusPage.{StatusPage}
 use Rattle.status_reading.specs.declared.page.ReadFault.{ReadFault}
-use Rattle.status_reading.specs.Rows.{PageView, page_view}
-use Rattle.status_reading.specs.Page.{page_text}
-use Rattle.status_reading.specs.Readable.{IsReadable}
-use Rattle.status_reading.specs.RowFaults.{IsSound}
+use Rattle.status_reading.specs.Rows.{page_view}
 use Rattle.status_reading.specs.Faults.{IsFaultOf}
+use Rattle.status_memory.specs.declared.memory.Kept.{Kept}
+use Rattle.status_memory.specs.Memory.{is_old}
 use Rattle.status_merge.specs.declared.gateway.Gateway.{Gateway}
+use Rattle.status_merge.specs.declared.gateway.Old.{Old}
 use Rattle.status_merge.specs.declared.gateway.MergedObject.{MergedObject}
 use Rattle.status_merge.specs.Asking.{choice_asked, host_asked, refresh_asked}
 use Rattle.status_merge.specs.Objects.{objects_on, merged}
@@ -23,54 +23,39 @@ use Rattle.status_view.specs.Page.{page_nodes}
 use Rattle.status_view.specs.Filling.{filled, html_bytes}
 use Rattle.status_export.specs.Document.{compact_text, status_document}
 use Rattle.status_export.specs.Metrics.{metrics_page}
-use Rattle.statusweb.specs.declared.words.Place.{Place}
 use Rattle.statusweb.specs.declared.words.Settings.{Settings}
-use Rattle.statusweb.specs.declared.fetching.FetchFault.{FetchFault}
-use Rattle.statusweb.specs.declared.fetching.FetchFault.TheVariants.{OutOfMemory}
-use Rattle.statusweb.specs.Causes.{fetch_cause, read_cause}
+use Rattle.statusweb.specs.declared.causes.NoPage.{NoPage}
+use Rattle.statusweb.specs.declared.watching.Seen.{Seen}
+use Rattle.statusweb.specs.Causes.{read_cause, cause_of}
+use Rattle.statusweb.specs.Watching.{Text, bytes_of, IsTextOf}
 
--- ---- what is read
-
--- what a fetch gave: a text or a fault
-abbrev pub text_of : Result (Vec ℕ Global) FetchFault → Result (List ℕ) FetchFault
-text_of (Ok text) = Ok text.items
-text_of (Err fault) = Err fault
-
--- the text is that of this page, whose fields can be read and no row of which has a fault
-pub record IsTextOf (text : List ℕ) (page : PageView) : Type 0 where
-  pub written : text ≡ page_text page
-  pub readable : IsReadable page
-  pub sound : IsSound page
+-- ---- what is kept
 
 -- a text is read as this page, or this is the cause why it is none
 abbrev pub IsReadAs : List ℕ → Result StatusPage (String Global) → Type 0
 IsReadAs text (Ok page) = IsTextOf text (page_view page)
 IsReadAs text (Err cause) = (fault : ReadFault) × IsFaultOf text fault × (string_bytes cause ≡ read_cause fault)
 
--- a fetch gave this text, or this fault, and this is the page or the cause why there is none
-abbrev pub IsShownOf : Result (List ℕ) FetchFault → Result StatusPage (String Global) → Type 0
-IsShownOf (Ok text) page = IsReadAs text page
-IsShownOf (Err fault) (Ok page) = ⊥
-IsShownOf (Err fault) (Err cause) = string_bytes cause ≡ fetch_cause fault
+-- the page that is kept, or the cause why there is none
+abbrev pub IsPageOf : Option (Kept Text) → Option NoPage → Result StatusPage (String Global) → Type 0
+IsPageOf (Some kept) fault page = IsReadAs (bytes_of kept.page.text) page
+IsPageOf None fault (Ok page) = ⊥
+IsPageOf None fault (Err cause) = string_bytes cause ≡ cause_of fault
 
--- what was fetched from the place of this index; out of memory where nothing was
-abbrev pub fetched_at : List (Result (List ℕ) FetchFault) → ℕ → Result (List ℕ) FetchFault
-fetched_at fetched index = get_or fetched index (Err OutOfMemory)
+-- whether the page that is kept is old at a moment, how old in seconds, and the cause why there is no newer one
+abbrev pub IsOldOf : Bool → ℕ → Option (Kept Text) → Option NoPage → Option Old → Type 0
+IsOldOf true now (Some kept) fault (Some old) =
+    (old.age ≡ min (now - kept.moment) 4294967295) × (string_bytes old.cause ≡ cause_of fault)
+IsOldOf true now (Some kept) fault None = ⊥
+IsOldOf true now None fault old = old ≡ None
+IsOldOf false now last fault old = old ≡ None
 
--- the gateway of this place, with the page of what was fetched
-abbrev pub IsShown : Place → Result (List ℕ) FetchFault → Gateway → Type 0
-IsShown place fetched gateway = (gateway.name.now ≡ place.name.now) × IsShownOf fetched gateway.page
-
--- the gateways of these places, which stand from this index on
-abbrev pub AreShownFrom : ℕ → List Place → List (Result (List ℕ) FetchFault) → List Gateway → Type 0
-AreShownFrom index [] fetched [] = ⊤
-AreShownFrom index (place ∷ places) fetched (gateway ∷ gateways) =
-    IsShown place (fetched_at fetched index) gateway × AreShownFrom (index + 1) places fetched gateways
-AreShownFrom index _ fetched _ = ⊥
-
--- the gateways of these places, in their order, with what was fetched from each
-abbrev pub AreShown : List Place → List (Result (List ℕ) FetchFault) → List Gateway → Type 0
-AreShown places fetched gateways = AreShownFrom 0 places fetched gateways
+-- a gateway as it is shown at a moment, of which this is kept
+pub record IsShown (now : ℕ) (seen : Seen) (gateway : Gateway) : Type 0 where
+  pub name : gateway.name.now ≡ seen.place.name.now
+  pub page : IsPageOf seen.memory.last seen.memory.fault gateway.page
+  pub old : IsOldOf (is_old now seen.memory) now seen.memory.last seen.memory.fault gateway.old
+  pub most : gateway.most ≡ seen.memory.most
 
 -- ---- what is shown of it
 

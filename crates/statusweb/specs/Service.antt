@@ -1,12 +1,12 @@
 -- What is answered to a request: `IsAnswer`. Own rules, but for 404 and 405 (RFC 9110, sections 15.5.5 and 15.5.6).
-use Rattle.std.specs.Prelude.{ℕ, Bool, true, false, ◌||◌, List, [], ◌∷◌, Option, Some, None, Result, unwrap_or, codes, if◌then◌else◌}
+use Rattle.std.specs.Prelude.{◌≡◌, ℕ, Bool, true, false, ◌||◌, List, [], ◌∷◌, map, Option, Some, None, unwrap_or, codes, if◌then◌else◌}
+use Rattle.std.specs.List.{AllZip}
 use Rattle.std.specs.Str.{bytes_eq}
 use Rattle.http.specs.declared.request.Request.{Request}
 use Rattle.http.specs.Request.{head_of}
 use Rattle.http.specs.Uri.{uri_path, uri_query}
 use Rattle.http_server.specs.declared.response.Response.{Response}
 use Rattle.status_merge.specs.declared.gateway.Gateway.{Gateway}
-use Rattle.statusweb.specs.declared.fetching.FetchFault.{FetchFault}
 use Rattle.status_view.specs.declared.style.TheConstants.{STYLE}
 use Rattle.statusweb.specs.declared.words.Settings.{Settings}
 use Rattle.statusweb.specs.declared.service.Form.{Form}
@@ -14,7 +14,9 @@ use Rattle.statusweb.specs.declared.service.Form.TheVariants.{Html, Json, Metric
 use Rattle.statusweb.specs.declared.service.Route.{Route}
 use Rattle.statusweb.specs.declared.service.Route.TheVariants.{Status, Style}
 use Rattle.statusweb.specs.Answers.{IsSent, IsKept, IsRefusal}
-use Rattle.statusweb.specs.Pages.{AreShown, IsPage, json_body, metrics_body}
+use Rattle.statusweb.specs.declared.watching.Seen.{Seen}
+use Rattle.statusweb.specs.Watching.{seen_place}
+use Rattle.statusweb.specs.Pages.{IsShown, IsPage, json_body, metrics_body}
 
 -- whether a method asks to read
 abbrev pub is_reading : List ℕ → Bool
@@ -29,22 +31,29 @@ route_of path =
     else if bytes_eq path (codes "/style.css") then Some Style
     else None
 
--- the status of these gateways in this form
-abbrev pub IsStatus : Settings → List Gateway → List ℕ → Form → Response → Type 0
-IsStatus settings gateways query Html response =
-    (clock : ℕ) × ((body : List ℕ) × IsPage settings gateways query clock body
-    × IsSent (codes "text/html; charset=utf-8") body response)
-IsStatus settings gateways query Json response = IsSent (codes "application/json") (json_body gateways query) response
-IsStatus settings gateways query Metrics response =
+-- the status of these gateways at this clock in this form
+abbrev pub IsStatus : Settings → List Gateway → List ℕ → ℕ → Form → Response → Type 0
+IsStatus settings gateways query clock Html response =
+    (body : List ℕ) × IsPage settings gateways query clock body
+    × IsSent (codes "text/html; charset=utf-8") body response
+IsStatus settings gateways query clock Json response =
+    IsSent (codes "application/json") (json_body gateways query) response
+IsStatus settings gateways query clock Metrics response =
     IsSent (codes "text/plain; version=0.0.4; charset=utf-8") (metrics_body gateways) response
 
--- what is answered at a path. That the texts are those that the gateways sent last, and the clock the system's, no
--- clause can say.
+-- the status of the gateways of the settings, of which this is kept, in this form
+pub record IsStatusOf (settings : Settings) (query : List ℕ) (form : Form) (response : Response) : Type 0 where
+  pub clock : ℕ
+  pub seen : List Seen
+  pub gateways : List Gateway
+  pub places : map seen_place seen ≡ settings.places.items
+  pub shown : AllZip (IsShown clock) seen gateways
+  pub status : IsStatus settings gateways query clock form response
+
+-- what is answered at a path. That this is kept of what the gateways sent, and the clock the system's, no clause can say.
 abbrev pub IsShownAt : Settings → List ℕ → Option Route → Response → Type 0
 IsShownAt settings query None response = IsRefusal 404 [] response
-IsShownAt settings query (Some (Status form)) response =
-    (fetched : List (Result (List ℕ) FetchFault)) × ((gateways : List Gateway)
-    × AreShown settings.places.items fetched gateways × IsStatus settings gateways query form response)
+IsShownAt settings query (Some (Status form)) response = IsStatusOf settings query form response
 IsShownAt settings query (Some Style) response = IsKept (codes "text/css; charset=utf-8") STYLE.now response
 
 -- what is answered to a request

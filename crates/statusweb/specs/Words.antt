@@ -23,14 +23,16 @@ gateway = record (new_rule (codes "gateway")) { long = Some (codes "gateway"); r
 abbrev pub unnamed : App → App
 unnamed app = record app { top = record app.top { no_binary_name = true } }
 
--- `--listen`, `--gateway`, `--title` and `--refresh`
+-- `--listen`, `--gateway`, `--title`, `--refresh` and `--every`
 abbrev pub program : App
 program =
     with_rule
     (with_rule
+    (with_rule
     (with_rule (with_rule (unnamed (new_app (codes "statusweb"))) (option_of (codes "listen"))) gateway)
     (option_of (codes "title")))
-    (option_of (codes "refresh"))
+    (option_of (codes "refresh")))
+    (option_of (codes "every"))
 
 -- the value of an option in what was found, or its default
 abbrev pub value_of : List ℕ → List ℕ → List Row → List ℕ
@@ -73,6 +75,14 @@ WritesRefresh text seconds =
     × (digits_value 10 (without_leading_plus text) ≡ seconds)
     × IsRefresh seconds
 
+-- a text writes 1 to 30 seconds between fetches
+abbrev pub WritesEvery : List ℕ → ℕ → Type 0
+WritesEvery text seconds =
+    IsNumeral 10 (without_leading_plus text)
+    × (digits_value 10 (without_leading_plus text) ≡ seconds)
+    × (1 ≤ seconds)
+    × (seconds ≤ 30)
+
 -- what was found in the words sets this
 pub record Sets (found : List Row) (settings : Settings) : Type 0 where
   pub listen : IsSocketText (value_of (codes "listen") (codes "127.0.0.1:8080") found) settings.listen
@@ -81,6 +91,7 @@ pub record Sets (found : List Row) (settings : Settings) : Type 0 where
   pub distinct : IsDistinct bytes_eq (map name_of (gateways_of found))
   pub title : settings.title.now ≡ value_of (codes "title") (codes "nscagate") found
   pub refresh : WritesRefresh (value_of (codes "refresh") (codes "30") found) settings.refresh
+  pub every : WritesEvery (value_of (codes "every") (codes "5") found) settings.every
 
 -- the words ask for these settings
 abbrev pub AskFor : List Text → Settings → Type 0

@@ -1,61 +1,64 @@
-//! The bodies of pages: the gateways' texts read, merged, selected by a query and shown.
+//! The bodies of pages: what is kept of the gateways is read, merged, selected by a query and shown.
 ghost use Rattle.std.specs.Prelude.{◌≡◌, map, IfOk};
-ghost use Rattle.statusweb.specs.Pages.{text_of, fetched_at, IsShownOf, AreShown, IsPage, json_body, metrics_body};
+ghost use Rattle.std.specs.List.{AllZip};
+ghost use Rattle.status_memory.specs.Memory.{is_old};
+ghost use Rattle.statusweb.specs.Pages.{IsPageOf, IsOldOf, IsShown, IsPage, json_body, metrics_body};
 
-use crate::causes::{fetch_cause, read_cause};
-use crate::fetching::{FetchFault, Fetched};
-use crate::words::{Place, Settings};
+use crate::causes::{NoPage, cause_of, read_cause};
+use crate::watching::{Seen, Text};
+use crate::words::Settings;
 use status_export::{json_text, metrics_text};
-use status_merge::{Gateway, merge, merge_comments, merge_downtimes, read_query, select};
+use status_memory::Memory;
+use status_merge::{Gateway, Old, merge, merge_comments, merge_downtimes, read_query, select};
 use status_reading::{StatusPage, read_status_page};
 use status_view::{View, html_page};
 use std::alloc::{AllocError, Global};
 
-// The page that a fetch gave, or the cause why there is none.
+// The page that is kept of a gateway, or the cause why there is none.
 fn page_of<'t>(
     alloc: Global,
-    fetched: &'t Fetched,
+    memory: &'t Memory<Text, NoPage>,
 ) -> Result<Result<StatusPage<'t>, String>, AllocError>
-    ensures { IfOk result (IsShownOf (text_of fetched.now)) }
+    ensures { IfOk result (IsPageOf memory.now.last memory.now.fault) }
 {
-    match fetched {
-        Ok(text) => match read_status_page(alloc, text.as_slice()) {
+    match &memory.last {
+        Some(kept) => match read_status_page(alloc, kept.page.text.as_slice()) {
             Ok(page) => Ok(Ok(page)),
             Err(fault) => Ok(Err(read_cause(alloc, fault)?)),
         },
-        Err(fault) => Ok(Err(fetch_cause(alloc, *fault)?)),
+        None => Ok(Err(cause_of(alloc, memory.fault)?)),
     }
 }
 
-// The same of the place of this index. Nothing was fetched there only where memory ran out.
-fn page_at(
-    alloc: Global,
-    fetched: &[Fetched],
-    index: usize,
-) -> Result<Result<StatusPage<'_>, String>, AllocError>
-    ensures { IfOk result (IsShownOf (fetched_at (map text_of fetched.now) index)) }
+// Where the page that is kept of a gateway is old: its age, and the cause.
+fn old_of(alloc: Global, memory: &Memory<Text, NoPage>, now: u64) -> Result<Option<Old>, AllocError>
+    ensures { IfOk result (IsOldOf (is_old now memory.now) now memory.now.last memory.now.fault) }
 {
-    match fetched.get(index) {
-        Some(fetched) => page_of(alloc, fetched),
-        None => Ok(Err(fetch_cause(alloc, FetchFault::OutOfMemory)?)),
+    match &memory.last {
+        Some(kept) if memory.is_old(now) => Ok(Some(Old {
+            age: u32::try_from(now.saturating_sub(kept.moment)).unwrap_or(u32::MAX),
+            cause: cause_of(alloc, memory.fault)?,
+        })),
+        _ => Ok(None),
     }
 }
 
-/// The gateways of some places, each with what its text shows. A place without a text is out of
-/// memory. The only error is out of memory.
+/// The gateways of which this is kept, as they are shown at a moment. The only error is out of
+/// memory.
 pub fn gateways_of<'t>(
     alloc: Global,
-    places: &[Place<'t>],
-    fetched: &'t [Fetched],
+    seen: &'t [Seen<'t>],
+    now: u64,
 ) -> Result<Vec<Gateway<'t>>, AllocError>
-    ensures { IfOk result (λ gateways.
-        AreShown places.now (map text_of fetched.now) gateways.items) }
+    ensures { IfOk result (λ gateways. AllZip (IsShown now) seen.now gateways.items) }
 {
     let mut gateways = Vec::new(alloc);
-    for (index, place) in places.iter().enumerate() {
+    for one in seen {
         gateways.push(Gateway {
-            name: place.name,
-            page: page_at(alloc, fetched, index)?,
+            name: one.place.name,
+            page: page_of(alloc, &one.memory)?,
+            old: old_of(alloc, &one.memory, now)?,
+            most: one.memory.most,
         })?;
     }
     Ok(gateways)

@@ -1,12 +1,21 @@
-//! Why a gateway shows no status, in the words of its alarm.
+//! Why a gateway shows no new page, in the words of its alarm.
 
 ghost use Rattle.std.specs.Prelude.{◌≡◌, ◌++◌, IfOk, codes, string_bytes};
 ghost use Rattle.std.specs.Fmt.{decimal};
-ghost use Rattle.statusweb.specs.Causes.{fetch_cause, read_cause};
+ghost use Rattle.statusweb.specs.Causes.{fetch_cause, read_cause, cause_of};
 
 use crate::fetching::FetchFault;
 use status_reading::{ReadFault, row_fault_words};
 use std::alloc::{AllocError, Global};
+
+/// Why a fetch gave no page.
+#[derive(Clone, Copy, Debug)]
+pub enum NoPage {
+    /// It gave no text.
+    Fetch(FetchFault),
+    /// The text is no page.
+    Read(ReadFault),
+}
 
 fn fetch_words(fault: FetchFault) -> &'static str
     ensures { result.now ≡ fetch_cause fault }
@@ -18,13 +27,6 @@ fn fetch_words(fault: FetchFault) -> &'static str
         FetchFault::Broken => "its page can't be read",
         FetchFault::OutOfMemory => "out of memory",
     }
-}
-
-/// The cause where no text of a page was fetched. The only error is out of memory.
-pub fn fetch_cause(alloc: Global, fault: FetchFault) -> Result<String, AllocError>
-    ensures { IfOk result (λ cause. string_bytes cause ≡ fetch_cause fault) }
-{
-    String::from_str(alloc, fetch_words(fault))
 }
 
 fn bad_line(alloc: Global, number: usize) -> Result<String, AllocError>
@@ -53,5 +55,16 @@ pub fn read_cause(alloc: Global, fault: ReadFault) -> Result<String, AllocError>
         ReadFault::BadLine(number) => bad_line(alloc, number),
         ReadFault::BadRow(number, fault) => bad_row(alloc, number, row_fault_words(fault)),
         ReadFault::OutOfMemory => String::from_str(alloc, "out of memory"),
+    }
+}
+
+/// The cause of a memory's fault. The only error is out of memory.
+pub fn cause_of(alloc: Global, fault: Option<NoPage>) -> Result<String, AllocError>
+    ensures { IfOk result (λ cause. string_bytes cause ≡ cause_of fault) }
+{
+    match fault {
+        Some(NoPage::Fetch(fault)) => String::from_str(alloc, fetch_words(fault)),
+        Some(NoPage::Read(fault)) => read_cause(alloc, fault),
+        None => String::from_str(alloc, "its page was not fetched in time"),
     }
 }

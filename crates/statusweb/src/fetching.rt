@@ -1,13 +1,10 @@
-//! The texts of the gateways' status pages.
-ghost use Rattle.std.specs.Prelude.{◌≡◌, ◌<◌, IfOk, length, vec_len};
+//! The text of a gateway's status page.
 
 use crate::timed::Timed;
 use crate::words::Place;
-use std::alloc::{AllocError, Global};
+use std::alloc::Global;
 use std::io::{ErrorKind, Read};
 use std::net::{Net, TcpListener, TcpStream};
-use std::thread;
-use std::thread::Threads;
 use std::time::{Clock, Duration, Instant};
 
 /// Why no text of a gateway's page was fetched.
@@ -64,19 +61,4 @@ pub fn fetch<R: Net<Listener = TcpListener, Stream = TcpStream> + Clock>(
         return Err(FetchFault::Broken);
     };
     read_page(Timed::new(rt, &stream, begun, PAGE_TIMEOUT), alloc)
-}
-
-/// Reads the pages of all gateways side by side; one after another where no thread can be started.
-/// The only error is out of memory.
-pub fn fetch_all<R: Net<Listener = TcpListener, Stream = TcpStream> + Clock + Threads + Sync>(
-    rt: &R,
-    alloc: Global,
-    places: &[Place<'_>],
-) -> Result<Vec<Fetched>, AllocError>
-    ensures { IfOk result (λ fetched. vec_len fetched ≡ length places.now) }
-{
-    let fetch_at = |index: usize| -> Fetched
-        requires { index < length places.now }
-    { fetch(rt, alloc, places[index]) };
-    thread::map_indices(rt, alloc, places.len(), &fetch_at)
 }

@@ -1,5 +1,5 @@
 //! `statusweb`: a web server that shows the status pages of one or more gateways. It listens where
-//! `--listen` says, reads the pages that each `--gateway` names, and serves until it is stopped.
+//! `--listen` says, reads the page of each `--gateway` again and again, and serves until it is stopped.
 //! Where it can't serve, it ends with an exit status and one line on standard error.
 #![tactic(auto)]
 
@@ -8,10 +8,10 @@ mod bodies;
 mod causes;
 mod fault;
 mod fetching;
-mod kept;
 mod service;
 mod serving;
 mod timed;
+mod watching;
 mod words;
 
 use fault::{WebFault, words_fault};

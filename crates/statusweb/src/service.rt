@@ -6,15 +6,14 @@ ghost use Rattle.statusweb.specs.Service.{route_of, IsShownAt, IsAnswer};
 
 use crate::answers::{refuse_method, refuse_path, send, send_kept};
 use crate::bodies::{gateways_of, html_body, json_body, metrics_body};
-use crate::kept::Kept;
-use crate::words::Settings;
+use crate::watching::{Watch, clock};
 use bytes::Bytes;
 use http::{HeaderValue, Request};
 use http_server::{Response, Service};
 use status_view::STYLE;
 use std::alloc::{AllocError, Global};
 use std::sync::Wait;
-use std::time::{Clock, SystemTime};
+use std::time::Clock;
 
 /// In which form the status is shown.
 #[derive(Clone, Copy)]
@@ -47,24 +46,12 @@ fn route_of(path: &str) -> Option<Route>
     }
 }
 
-/// Answers from the pages of the gateways.
+/// Answers from what is kept of the gateways.
 #[derive(Drop)]
 pub struct Web<'a, R> {
     pub rt: &'a R,
     pub alloc: Global,
-    pub settings: &'a Settings<'a>,
-    pub kept: &'a Kept,
-}
-
-// The system's clock in seconds since 1970; 0 where it can't be read.
-fn clock<R: Clock>(rt: &R) -> u32 {
-    let Ok(now) = SystemTime::now(rt) else {
-        return 0;
-    };
-    match now.duration_since(SystemTime::UNIX_EPOCH) {
-        Ok(since) => u32::try_from(since.as_secs()).unwrap_or(u32::MAX),
-        Err(_) => 0,
-    }
+    pub watch: &'a Watch<'a>,
 }
 
 fn send_style(alloc: Global, response: &mut Response) -> Result<(), AllocError>
@@ -85,17 +72,18 @@ fn send_status<R: Clock + Wait>(
     response: &mut Response,
 ) -> Result<(), AllocError>
     requires { IsBlank response.old }
-    ensures { OnOk result (IsShownAt web.now.settings.now query.now
+    ensures { OnOk result (IsShownAt web.now.watch.now.settings.now query.now
         (Some (Route.Status form)) response.new) }
 {
     let alloc = web.alloc;
-    let places = web.settings.places.as_slice();
-    let fetched = web.kept.pages(web.rt)?;
-    let shown = gateways_of(alloc, places, fetched.as_slice())?;
+    let settings = web.watch.settings;
+    let now = clock(web.rt);
+    let seen = web.watch.seen(web.rt, alloc)?;
+    let shown = gateways_of(alloc, seen.as_slice(), u64::from(now))?;
     let gateways = shown.as_slice();
     match form {
         Form::Html => {
-            let body = html_body(alloc, web.settings, gateways, query, clock(web.rt))?;
+            let body = html_body(alloc, settings, gateways, query, now)?;
             send(
                 response,
                 HeaderValue::from_static("text/html; charset=utf-8"),
@@ -103,7 +91,7 @@ fn send_status<R: Clock + Wait>(
             )
         }
         Form::Json => {
-            let body = json_body(alloc, web.settings, gateways, query)?;
+            let body = json_body(alloc, settings, gateways, query)?;
             send(response, HeaderValue::from_static("application/json"), body)
         }
         Form::Metrics => {
@@ -117,7 +105,7 @@ fn send_status<R: Clock + Wait>(
 impl<'a, R: Clock + Wait> Service for Web<'a, R> {
     ghost use Rattle.statusweb.specs.Service.{IsAnswer};
 
-    ghost answers = { λ old request response new. IsAnswer old.settings.now request response };
+    ghost answers = { λ old request response new. IsAnswer old.watch.now.settings.now request response };
 
     fn call(
         &mut self,

@@ -1,9 +1,9 @@
 //! The connections of browsers, served by 32 threads.
 
 use crate::fault::WebFault;
-use crate::kept::Kept;
 use crate::service::Web;
 use crate::timed::Timed;
+use crate::watching::Watch;
 use crate::words::Settings;
 use http_server::{Config, Connection, serve as serve_connection};
 use std::alloc::Global;
@@ -29,17 +29,11 @@ const ACCEPT_PAUSE: u64 = 50;
 fn answer<R: Clock + RandomSource + Wait>(
     rt: &R,
     alloc: Global,
-    settings: &Settings<'_>,
-    kept: &Kept,
+    watch: &Watch<'_>,
     stream: TcpStream,
 ) -> io::Result<()> {
     let begun = Instant::now(rt)?;
-    let mut web = Web {
-        rt,
-        alloc,
-        settings,
-        kept,
-    };
+    let mut web = Web { rt, alloc, watch };
     let mut config = Config::default();
     config.max_body_len = LONGEST_BODY;
     let mut connection = Connection::new(alloc, RandomState::new(rt)?, config);
@@ -53,13 +47,12 @@ fn work<R: Clock + RandomSource + Wait>(
     rt: &R,
     alloc: Global,
     listener: &TcpListener,
-    settings: &Settings<'_>,
-    kept: &Kept,
+    watch: &Watch<'_>,
 ) {
     for _ in rt.forever() {
         match listener.accept() {
             Ok((stream, _)) => {
-                let _ = answer(rt, alloc, settings, kept, stream);
+                let _ = answer(rt, alloc, watch, stream);
             }
             Err(_) => {
                 let _ = thread::sleep(rt, Duration::from_millis(ACCEPT_PAUSE));
@@ -68,9 +61,10 @@ fn work<R: Clock + RandomSource + Wait>(
     }
 }
 
-/// Serves a listener on 32 threads, or as many as can be started, and fetches on this one, for ever.
+/// Fetches the pages of all gateways, and then serves a listener on 32 threads, or as many as can be
+/// started, while another thread for each gateway fetches its page again and again; for ever.
 ///
-/// The only fault is `Spawn`: none can be started.
+/// `Spawn`: no thread can be started. `OutOfMemory`: there is none to begin with.
 pub fn serve<
     R: Net<Listener = TcpListener, Stream = TcpStream>
         + Threads
@@ -81,18 +75,25 @@ pub fn serve<
         + Sync,
 >(rt: &R, listener: &TcpListener, settings: &Settings<'_>) -> Result<(), WebFault> {
     let alloc = rt.alloc();
-    let kept = Kept::new();
-    let kept = &kept;
+    let watch = Watch::new(alloc, settings)?;
+    let watch = &watch;
+    let every = settings.every;
+    watch.fetch_all(rt, alloc)?;
     thread::scope(thread::scope_env(), rt, |scope| {
         let mut is_served = false;
         for _ in 0..WORKERS {
-            let started = scope.spawn(move || work(rt, alloc, listener, settings, kept));
+            let started = scope.spawn(move || work(rt, alloc, listener, watch));
             is_served |= started.is_ok();
         }
         if !is_served {
             return Err(WebFault::Spawn);
         }
-        kept.fetch(rt, alloc, settings.places.as_slice());
+        for (index, watched) in watch.watched().iter().enumerate() {
+            let started = scope.spawn(move || watched.fetch_always(rt, alloc, every));
+            if started.is_err() {
+                watch.fetch_from(rt, alloc, index);
+            }
+        }
         Ok(())
     })
 }

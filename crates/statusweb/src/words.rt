@@ -3,11 +3,11 @@ ghost use Rattle.std.specs.List.{IsDistinct, list_any};
 ghost use Rattle.std.specs.Str.{bytes_eq};
 ghost use Rattle.std.specs.Net.Grammar.{IsSocketText};
 ghost use Rattle.clap.specs.Walk.{texts};
-ghost use Rattle.clap.specs.Words.{app_of, rule_of, found_of, rows_of, first_of, all_of};
+ghost use Rattle.clap.specs.Words.{new_app, app_of, rule_of, found_of, rows_of, first_of, all_of};
 ghost use Rattle.statusweb.specs.declared.words.Settings.{Settings as Asked};
 ghost use Rattle.statusweb.specs.declared.words.Place.{Place as Named};
 ghost use Rattle.statusweb.specs.declared.words.WordsFault.TheVariants.{BadArguments};
-ghost use Rattle.statusweb.specs.Words.{option_of, gateway, program, name_of, address_of, Names, NameAll, WritesRefresh, value_of, gateways_of, Sets, AskFor};
+ghost use Rattle.statusweb.specs.Words.{option_of, gateway, unnamed, program, name_of, address_of, Names, NameAll, WritesRefresh, WritesEvery, value_of, gateways_of, Sets, AskFor};
 
 use clap::error::ErrorKind;
 use clap::{Arg, ArgAction, ArgMatches, Command};
@@ -29,13 +29,15 @@ pub struct Settings<'a> {
     pub title: &'a str,
     /// The seconds after which a browser asks again; 0: it doesn't.
     pub refresh: u32,
+    /// The seconds between two fetches of a gateway's page.
+    pub every: u32,
 }
 
 /// Why the words are no settings.
 #[derive(Clone, Copy, Debug, PartialEq, Eq)]
 pub enum WordsFault {
     /// No gateway, two of one name, an address that is no IP address and port, a refresh that is
-    /// not 0 or 2 to 3600, or an unknown word.
+    /// not 0 or 2 to 3600, seconds between fetches that are not 1 to 30, or an unknown word.
     BadArguments,
     /// Memory ran out.
     OutOfMemory,
@@ -80,15 +82,21 @@ fn gateway<'a>(alloc: Global) -> Arg<'a>
         .action(ArgAction::Append)
 }
 
+fn unnamed<'a>(alloc: Global) -> Command<'a>
+    ensures { app_of result ≡ unnamed (new_app (codes "statusweb")) }
+{
+    Command::new(alloc, "statusweb").no_binary_name(true)
+}
+
 fn command_line<'a>(alloc: Global) -> Result<Command<'a>, AllocError>
     ensures { IfOk result (λ command. app_of command ≡ program) }
 {
-    Command::new(alloc, "statusweb")
-        .no_binary_name(true)
+    unnamed(alloc)
         .arg(option(alloc, "listen"))?
         .arg(gateway(alloc))?
         .arg(option(alloc, "title"))?
-        .arg(option(alloc, "refresh"))
+        .arg(option(alloc, "refresh"))?
+        .arg(option(alloc, "every"))
 }
 
 fn address_in(text: &str) -> Result<SocketAddr, WordsFault>
@@ -157,6 +165,16 @@ fn refresh_in(text: &str) -> Result<u32, WordsFault>
     }
 }
 
+fn every_in(text: &str) -> Result<u32, WordsFault>
+    ensures { MatchResult result (WritesEvery text.now)
+        (λ fault. (seconds : _) → WritesEvery text.now seconds → ⊥) }
+{
+    match text.parse::<u32>() {
+        Ok(seconds) if (1..=30).contains(&seconds) => Ok(seconds),
+        _ => Err(WordsFault::BadArguments),
+    }
+}
+
 // The value of an option, or its default.
 fn value_of<'a>(matches: &ArgMatches<'a>, name: &str, default: &'a str) -> &'a str
     ensures { result.now ≡ value_of name.now default.entry.now (rows_of (found_of matches.now)) }
@@ -180,6 +198,7 @@ fn settings_in<'a>(alloc: Global, matches: &ArgMatches<'a>) -> Result<Settings<'
     }
     let listen = address_in(value_of(matches, "listen", "127.0.0.1:8080"))?;
     let refresh = refresh_in(value_of(matches, "refresh", "30"))?;
+    let every = every_in(value_of(matches, "every", "5"))?;
     let title = value_of(matches, "title", "nscagate");
     match places_in(alloc, values) {
         Ok(places) => Ok(Settings {
@@ -187,13 +206,14 @@ fn settings_in<'a>(alloc: Global, matches: &ArgMatches<'a>) -> Result<Settings<'
             places,
             title,
             refresh,
+            every,
         }),
         Err(fault) => Err(fault),
     }
 }
 
 /// Reads the words after the program's name: `--listen ADDRESS`, `--gateway [NAME=]ADDRESS` once or
-/// more, `--title TEXT` and `--refresh SECONDS`, in any spelling that `clap` reads.
+/// more, `--title TEXT`, `--refresh SECONDS` and `--every SECONDS`, in any spelling that `clap` reads.
 ///
 /// `BadArguments` as its variant says. `OutOfMemory` may be returned in place of any answer.
 pub fn read_words<'a>(alloc: Global, words: &'a [String]) -> Result<Settings<'a>, WordsFault>

@@ -35,6 +35,9 @@ const METRICS: &[u8] = b"# HELP nscagate_up Whether the gateway's status page wa
 # TYPE nscagate_up gauge\n\
 nscagate_up{gateway=\"e\\\"\"} 1\n\
 nscagate_up{gateway=\"west\"} 0\n\
+# HELP nscagate_page_age_seconds How long ago the gateway's page was fetched, where it is old.\n\
+# TYPE nscagate_page_age_seconds gauge\n\
+nscagate_page_age_seconds{gateway=\"e\\\"\"} 0\n\
 # HELP nscagate_page_seconds The moment of the gateway's page.\n\
 # TYPE nscagate_page_seconds gauge\n\
 nscagate_page_seconds{gateway=\"e\\\"\"} 1260\n\
@@ -72,17 +75,25 @@ nscagate_problems_unhandled 0\n\
 nscagate_objects_acknowledged 1\n\
 # HELP nscagate_objects_in_downtime Objects in active downtime.\n\
 # TYPE nscagate_objects_in_downtime gauge\n\
-nscagate_objects_in_downtime 1\n";
+nscagate_objects_in_downtime 1\n\
+# HELP nscagate_problem Objects with a problem.\n\
+# TYPE nscagate_problem gauge\n\
+nscagate_problem{gateway=\"e\\\"\",host=\"web1\",service=\"HTTP\",state=\"CRITICAL\",\
+acknowledged=\"true\",downtime=\"true\"} 1\n";
 
 fn gateways(alloc: Global) -> Result<[Gateway<'static>; 2], ReadFault> {
     Ok([
         Gateway {
             name: "e\"",
             page: Ok(read_status_page(alloc, PAGE)?),
+            old: None,
+            most: 0,
         },
         Gateway {
             name: "west",
             page: Err(String::from_str(alloc, "it can't be reached")?),
+            old: None,
+            most: 0,
         },
     ])
 }

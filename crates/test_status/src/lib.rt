@@ -7,6 +7,8 @@ mod escaping;
 #[cfg(test)]
 mod export;
 #[cfg(test)]
+mod memory;
+#[cfg(test)]
 mod merging;
 #[cfg(test)]
 mod reading;

@@ -17,14 +17,20 @@ fn gateways(alloc: Global) -> Result<[Gateway<'static>; 3], ReadFault> {
         Gateway {
             name: "east",
             page: Ok(read_status_page(alloc, EAST)?),
+            old: None,
+            most: 0,
         },
         Gateway {
             name: "north",
             page: Err(String::new(alloc)),
+            old: None,
+            most: 0,
         },
         Gateway {
             name: "west",
             page: Ok(read_status_page(alloc, WEST)?),
+            old: None,
+            most: 0,
         },
     ])
 }

@@ -51,6 +51,8 @@ fn shown(alloc: Global) -> Result<Vec<u8>, ReadFault> {
     let gateways = [Gateway {
         name: "east",
         page: Ok(read_status_page(alloc, PAGE)?),
+        old: None,
+        most: 0,
     }];
     let query = read_query(alloc, "", 30)?;
     let objects = merge(alloc, &gateways)?;

@@ -4,5 +4,5 @@ use Rattle.status_merge.proofs.merging.add_page.Given as goal
 
 abbrev pub invariant-loop-row : goal.invariant-loop-row
 invariant-loop-row l =
-    l.objects.items ++ map (shown_by l.gateway.name l.page.moment) (drop l.row-index l.row-items)
-    ≡ l.fn.objects.items ++ map (shown_by l.gateway.name l.page.moment) l.row-items
+    l.objects.items ++ map (shown_by l.gateway.name l.moment l.is_old) (drop l.row-index l.row-items)
+    ≡ l.fn.objects.items ++ map (shown_by l.gateway.name l.moment l.is_old) l.row-items

@@ -1,15 +1,13 @@
-use Rattle.std.proofs.Common.{map, refl}
-use Rattle.statusweb.specs.Pages.{text_of}
-use Rattle.statusweb.proofs.BodySteps.{goes_on, all_shown}
+use Rattle.std.proofs.Common.{refl}
+use Rattle.statusweb.proofs.BodySteps.{shown_more, all_shown}
 use Rattle.statusweb.proofs.bodies.gateways_of.Goals as goal
 
-pub loop-index-preserved : goal.loop-index-preserved
-loop-index-preserved c =
-    goes_on c.args.places.now (map text_of c.args.fetched.now) c.loop-index.index _ c.loop-index.gateways.items
-    c.push.new.self.items _ c.loop-index-test.true c.loop-index.invariant c.in_ok-push.ensures.items
-    (refl, c.in_ok-page_at.ensures)
+pub loop-one-preserved : goal.loop-one-preserved
+loop-one-preserved c =
+    shown_more c.args.now c.args.seen.now c.loop-one.one-index c.one-item.result c.loop-one.gateways.items
+    c.push.new.self.items _ c.loop-one-test.true c.one-item.is c.loop-one.invariant c.in_ok-push.ensures.items
+    (record { name = refl; page = c.in_ok-page_of.ensures; old = c.in_ok-old_of.ensures; most = refl })
 
 pub returns : goal.returns
 returns c =
-    all_shown c.args.places.now (map text_of c.args.fetched.now) c.loop-index.index c.loop-index.gateways.items
-    c.loop-index-test.false c.loop-index.invariant
+    all_shown c.args.now c.args.seen.now c.loop-one.one-index c.loop-one.gateways.items c.loop-one-test.false c.loop-one.invariant

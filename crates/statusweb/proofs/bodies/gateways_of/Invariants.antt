@@ -1,7 +1,7 @@
-use Rattle.std.proofs.Common.{drop, map}
-use Rattle.statusweb.specs.Pages.{text_of}
-use Rattle.statusweb.proofs.BodySteps.{Follows}
+use Rattle.std.proofs.Common.{take}
+use Rattle.std.specs.List.{AllZip}
+use Rattle.statusweb.specs.Pages.{IsShown}
 use Rattle.statusweb.proofs.bodies.gateways_of.Given as goal
 
-abbrev pub invariant-loop-index : goal.invariant-loop-index
-invariant-loop-index l = Follows l.places (map text_of l.fetched) l.gateways.items l.index (drop l.index l.places)
+abbrev pub invariant-loop-one : goal.invariant-loop-one
+invariant-loop-one l = AllZip (IsShown l.now) (take l.one-index l.seen) l.gateways.items

@@ -1,4 +1,4 @@
-use Rattle.std.proofs.Common.{◌≡◌, List, [], true, map, string_bytes, ap, subst, ◌∙◌}
+use Rattle.std.proofs.Common.{◌≡◌, List, [], true, map, string_bytes, ap, sym, subst, ◌∙◌}
 use Rattle.clap.specs.Words.{App, Row, Text, app_of, fault_of, is_simple_and_free}
 use Rattle.clap.specs.Simple.{is_simple, matches_of}
 use Rattle.statusweb.specs.Words.{Sets}
@@ -17,3 +17,12 @@ returns-in-Ok-try_get_matches_from-clause-asked c =
     if_ok c.settings_in.result
     (λ settings known. (none, subst (λ (found : List Row). Sets found settings) rows known))
     c.settings_in.ensures.found
+
+pub returns-in-Ok-try_get_matches_from-clause-refused :
+    goal.returns-in-Ok-try_get_matches_from-clause-refused
+returns-in-Ok-try_get_matches_from-clause-refused c = λ bad settings asks.
+    let words : List Text = map string_bytes c.args.words.now in
+    let is : is_simple (app_of c.in-Ok.command) ≡ true = ap is_simple c.in-Ok.ensures in
+    let rows = (c.in-Ok-try_get_matches_from.ensures.matches is).0
+    ∙ ap (λ (app : App). matches_of app words) c.in-Ok.ensures in
+    c.settings_in.ensures.refused bad settings (subst (λ (found : List Row). Sets found settings) (sym rows) asks.1)

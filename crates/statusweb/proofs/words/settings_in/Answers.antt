@@ -5,7 +5,7 @@ use Rattle.std.specs.Net.Grammar.{IsSocketText}
 use Rattle.clap.specs.Words.{Text, found_of, rows_of}
 use Rattle.clap.proofs.WalkLemmas.{raw_values-rows}
 use Rattle.statusweb.specs.declared.words.WordsFault.TheVariants.{BadArguments}
-use Rattle.statusweb.specs.Words.{name_of, NameAll, WritesRefresh}
+use Rattle.statusweb.specs.Words.{name_of, NameAll, WritesRefresh, WritesEvery}
 use Rattle.statusweb.proofs.WordSteps.{given, not_given, nothing_given, none_given, some_given, same_fault}
 use Rattle.statusweb.proofs.words.settings_in.Goals as goal
 
@@ -37,6 +37,7 @@ returns-in-Ok-clause-found c =
       distinct = subst (λ (values : List Text). IsDistinct bytes_eq (map name_of values)) same (c.in-Ok.ensures.distinct refl);
       title = c.value_of-title.ensures;
       refresh = subst (λ (text : List ℕ). WritesRefresh text c.in_ok-refresh.refresh) c.value_of-2.ensures c.in_ok-refresh.ensures;
+      every = subst (λ (text : List ℕ). WritesEvery text c.in_ok-every.every) c.value_of-3.ensures c.in_ok-every.ensures;
     }
 
 pub returns-in-Err-clause-refused : goal.returns-in-Err-clause-refused

@@ -1,0 +1,84 @@
+-- What is kept of each gateway: what a fetch gave, as it is kept (`IsFetchOf`), and what a memory holds, whoever else
+-- reads its text (`memory_view`).
+use Rattle.std.specs.Prelude.{◌≡◌, ℕ, List, length, Option, Some, None, Result, Ok, Err, Vec}
+use Rattle.std.specs.declared.alloc.Global.{Global}
+use Rattle.std.specs.declared.sync.Arc.{Arc}
+use Rattle.std.specs.Arc.{arc_value}
+use Rattle.status_reading.specs.Rows.{PageView}
+use Rattle.status_reading.specs.Page.{page_text}
+use Rattle.status_reading.specs.Readable.{IsReadable}
+use Rattle.status_reading.specs.RowFaults.{IsSound}
+use Rattle.status_reading.specs.Faults.{IsFaultOf}
+use Rattle.status_memory.specs.declared.memory.Page.{Page}
+use Rattle.status_memory.specs.declared.memory.Fetch.{Fetch}
+use Rattle.status_memory.specs.declared.memory.Kept.{Kept}
+use Rattle.status_memory.specs.declared.memory.Memory.{Memory}
+use Rattle.statusweb.specs.declared.words.Place.{Place}
+use Rattle.statusweb.specs.declared.fetching.FetchFault.{FetchFault}
+use Rattle.statusweb.specs.declared.causes.NoPage.{NoPage}
+use Rattle.statusweb.specs.declared.causes.NoPage.TheVariants as none
+use Rattle.statusweb.specs.declared.watching.Watched.{Watched}
+use Rattle.statusweb.specs.declared.watching.Seen.{Seen}
+
+-- ---- what a fetch gave
+
+-- a text that is shared
+abbrev pub Text : Type 0
+Text = Arc (Vec ℕ Global) Global
+
+-- its bytes
+abbrev pub bytes_of : Text → List ℕ
+bytes_of text = (arc_value text).items
+
+-- what a fetch gave: a text or a fault
+abbrev pub text_of : Result (Vec ℕ Global) FetchFault → Result (List ℕ) FetchFault
+text_of (Ok text) = Ok text.items
+text_of (Err fault) = Err fault
+
+-- the text is that of this page, whose fields can be read and no row of which has a fault
+pub record IsTextOf (text : List ℕ) (page : PageView) : Type 0 where
+  pub written : text ≡ page_text page
+  pub readable : IsReadable page
+  pub sound : IsSound page
+
+-- the text is that of a page of so many objects
+abbrev pub HasObjects : List ℕ → ℕ → Type 0
+HasObjects text objects = (page : PageView) × IsTextOf text page × (objects ≡ length page.objects)
+
+-- the text is that of a page, and is kept with the number of its objects
+abbrev pub IsPageIn : List ℕ → Page Text → Type 0
+IsPageIn text kept = (bytes_of kept.text ≡ text) × HasObjects text kept.objects
+
+-- a fetch gave this text, or this fault, and this page is kept of it, or this cause why there is none
+abbrev pub IsTaken : Result (List ℕ) FetchFault → Result (Page Text) NoPage → Type 0
+IsTaken (Ok text) (Ok page) = IsPageIn text page
+IsTaken (Ok text) (Err (none.Read fault)) = IsFaultOf text fault
+IsTaken (Err fault) (Err (none.Fetch given)) = given ≡ fault
+IsTaken _ _ = ⊥
+
+-- the same of a fetch that ended at this moment
+pub record IsFetchOf (fetched : Result (List ℕ) FetchFault) (now : ℕ) (fetch : Fetch Text NoPage) : Type 0 where
+  pub moment : fetch.moment ≡ now
+  pub page : IsTaken fetched fetch.page
+
+-- ---- gateways
+
+abbrev pub place_of : Watched → Place
+place_of watched = watched.place
+
+abbrev pub seen_place : Seen → Place
+seen_place seen = seen.place
+
+-- ---- what a memory holds
+
+-- a page with the bytes of its text
+abbrev pub kept_view : Kept Text → Kept (List ℕ)
+kept_view kept =
+    record { page = record { text = bytes_of kept.page.text; objects = kept.page.objects }; moment = kept.moment }
+
+abbrev pub last_view : Option (Kept Text) → Option (Kept (List ℕ))
+last_view None = None
+last_view (Some kept) = Some (kept_view kept)
+
+abbrev pub memory_view : Memory Text NoPage → Memory (List ℕ) NoPage
+memory_view memory = record { last = last_view memory.last; fault = memory.fault; most = memory.most }

@@ -1,0 +1,223 @@
+//! What is kept of each gateway's page. A thread for each gateway fetches its page again and again,
+//! so nobody who asks waits for a gateway.
+ghost use Rattle.std.specs.Prelude.{◌≡◌, ◌<◌, length, map, IfOk, MatchResult};
+ghost use Rattle.status_reading.specs.Faults.{IsFaultOf};
+ghost use Rattle.statusweb.specs.Watching.{text_of, place_of, seen_place, last_view, memory_view, HasObjects, IsPageIn, IsFetchOf};
+
+use crate::causes::NoPage;
+use crate::fetching::{Fetched, fetch};
+use crate::words::{Place, Settings};
+use status_memory::{Fetch, Kept, Memory, Page};
+use status_reading::{ReadFault, read_status_page};
+use std::alloc::{AllocError, Global};
+use std::net::{Net, TcpListener, TcpStream};
+use std::sync::{Arc, Mutex, Wait};
+use std::thread;
+use std::thread::Threads;
+use std::time::{Clock, Duration, SystemTime};
+
+/// The text of a page, which stays as long as anybody reads it.
+pub type Text = Arc<Vec<u8>, Global>;
+
+/// A gateway, and what is kept of it.
+#[derive(Drop)]
+pub struct Watched<'a> {
+    place: Place<'a>,
+    memory: Mutex<Memory<Text, NoPage>>,
+}
+
+/// A gateway, and what was kept of it at some moment.
+#[derive(Drop)]
+pub struct Seen<'a> {
+    pub place: Place<'a>,
+    pub memory: Memory<Text, NoPage>,
+}
+
+/// The gateways of the settings.
+#[derive(Drop)]
+pub struct Watch<'a> {
+    pub settings: &'a Settings<'a>,
+    watched: Vec<Watched<'a>>,
+    ghost places: { map place_of watched.items ≡ settings.now.places.items },
+}
+
+/// The system's clock in seconds since 1970; 0 where it can't be read.
+pub fn clock<R: Clock>(rt: &R) -> u32 {
+    let Ok(now) = SystemTime::now(rt) else {
+        return 0;
+    };
+    match now.duration_since(SystemTime::UNIX_EPOCH) {
+        Ok(since) => u32::try_from(since.as_secs()).unwrap_or(u32::MAX),
+        Err(_) => 0,
+    }
+}
+
+// The number of objects of the page that a text is.
+fn objects_in(alloc: Global, text: &[u8]) -> Result<usize, ReadFault>
+    ensures { MatchResult result (HasObjects text.now) (IsFaultOf text.now) }
+{
+    match read_status_page(alloc, text) {
+        Ok(page) => Ok(page.objects.len()),
+        Err(fault) => Err(fault),
+    }
+}
+
+// The page that a text is, as it is kept.
+fn page_in(alloc: Global, text: Vec<u8>) -> Result<Page<Text>, ReadFault>
+    ensures { MatchResult result (IsPageIn text.items) (IsFaultOf text.items) }
+{
+    let objects = objects_in(alloc, text.as_slice())?;
+    match Arc::new(alloc, text) {
+        Ok(text) => Ok(Page { text, objects }),
+        Err(_) => Err(ReadFault::OutOfMemory),
+    }
+}
+
+// What was fetched, as it is kept.
+fn fetch_of(alloc: Global, fetched: Fetched, moment: u64) -> Fetch<Text, NoPage>
+    ensures { IsFetchOf (text_of fetched) moment result }
+{
+    match fetched {
+        Ok(text) => match page_in(alloc, text) {
+            Ok(page) => Fetch {
+                moment,
+                page: Ok(page),
+            },
+            Err(fault) => Fetch {
+                moment,
+                page: Err(NoPage::Read(fault)),
+            },
+        },
+        Err(fault) => Fetch {
+            moment,
+            page: Err(NoPage::Fetch(fault)),
+        },
+    }
+}
+
+// The last page once more, with the same text.
+fn last_again(last: &Option<Kept<Text>>) -> Result<Option<Kept<Text>>, AllocError>
+    ensures { IfOk result (λ again. last_view again ≡ last_view last.now) }
+{
+    let Some(kept) = last else {
+        return Ok(None);
+    };
+    let text = Arc::try_clone(&kept.page.text)?;
+    let objects = kept.page.objects;
+    Ok(Some(Kept {
+        page: Page { text, objects },
+        moment: kept.moment,
+    }))
+}
+
+// The same memory once more.
+fn memory_again(memory: &Memory<Text, NoPage>) -> Result<Memory<Text, NoPage>, AllocError>
+    ensures { IfOk result (λ again. memory_view again ≡ memory_view memory.now) }
+{
+    Ok(Memory {
+        last: last_again(&memory.last)?,
+        fault: memory.fault,
+        most: memory.most,
+    })
+}
+
+impl<'a> Watched<'a> {
+    fn new(place: Place<'a>) -> Watched<'a>
+        ensures { result.place ≡ place.entry }
+    {
+        Watched {
+            place,
+            memory: Mutex::new(Memory::new()),
+        }
+    }
+
+    fn seen<R: Wait>(&self, rt: &R) -> Result<Seen<'a>, AllocError>
+        ensures { IfOk result (λ seen. seen.place ≡ self.now.place) }
+    {
+        let memory = memory_again(&self.memory.lock(rt))?;
+        Ok(Seen {
+            place: self.place,
+            memory,
+        })
+    }
+
+    // Fetches the page, and keeps what that gave.
+    fn fetch<R: Net<Listener = TcpListener, Stream = TcpStream> + Clock + Wait>(
+        &self,
+        rt: &R,
+        alloc: Global,
+    ) {
+        let fetched = fetch(rt, alloc, self.place);
+        let fetch = fetch_of(alloc, fetched, u64::from(clock(rt)));
+        self.memory.lock(rt).observe(fetch);
+    }
+
+    /// Fetches the page for ever, this many seconds after each fetch.
+    pub fn fetch_always<R: Net<Listener = TcpListener, Stream = TcpStream> + Clock + Wait>(
+        &self,
+        rt: &R,
+        alloc: Global,
+        every: u32,
+    ) {
+        for _ in rt.forever() {
+            let _ = thread::sleep(rt, Duration::from_secs(u64::from(every)));
+            self.fetch(rt, alloc);
+        }
+    }
+}
+
+impl<'a> Watch<'a> {
+    /// The gateways of these settings; nothing is kept of them yet. The only error is out of memory.
+    pub fn new(alloc: Global, settings: &'a Settings<'a>) -> Result<Watch<'a>, AllocError> {
+        let mut watched = Vec::new(alloc);
+        for place in settings.places.as_slice() {
+            watched.push(Watched::new(*place))?;
+        }
+        Ok(Watch { settings, watched })
+    }
+
+    pub fn watched(&self) -> &[Watched<'a>] {
+        self.watched.as_slice()
+    }
+
+    /// What is kept of each gateway now. The only error is out of memory.
+    pub fn seen<R: Wait>(&self, rt: &R, alloc: Global) -> Result<Vec<Seen<'a>>, AllocError>
+        ensures { IfOk result (λ seen.
+            map seen_place seen.items ≡ self.now.settings.now.places.items) }
+    {
+        let mut seen = Vec::new(alloc);
+        for watched in self.watched.as_slice() {
+            seen.push(watched.seen(rt)?)?;
+        }
+        Ok(seen)
+    }
+
+    /// Fetches the pages of all gateways once, side by side; one after another where no thread can
+    /// be started. The only error is out of memory.
+    pub fn fetch_all<
+        R: Net<Listener = TcpListener, Stream = TcpStream> + Clock + Threads + Wait + Sync,
+    >(&self, rt: &R, alloc: Global) -> Result<(), AllocError> {
+        let watched = self.watched.as_slice();
+        let fetch_at = |index: usize|
+            requires { index < length watched.now }
+        { watched[index].fetch(rt, alloc) };
+        thread::map_indices(rt, alloc, watched.len(), &fetch_at)?;
+        Ok(())
+    }
+
+    /// Fetches the pages of the gateways from this index on, one after another, for ever.
+    pub fn fetch_from<R: Net<Listener = TcpListener, Stream = TcpStream> + Clock + Wait>(
+        &self,
+        rt: &R,
+        alloc: Global,
+        index: usize,
+    ) {
+        let every = Duration::from_secs(u64::from(self.settings.every));
+        for _ in rt.forever() {
+            let _ = thread::sleep(rt, every);
+            for watched in self.watched.iter().skip(index) {
+                watched.fetch(rt, alloc);
+            }
+        }
+    }
+}
