@@ -1,0 +1,4 @@
+pub mod SendingSteps
+pub mod DigitSteps
+pub mod ReplySteps
+pub mod AskingSteps

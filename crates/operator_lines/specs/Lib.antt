@@ -1,0 +1,4 @@
+pub mod Sending
+pub mod Replies
+pub mod Asking
+pub mod inner
