@@ -1,0 +1,105 @@
+use crate::texts::Texts;
+use gate_model::Text;
+
+/// A host, or a service of a host.
+#[derive(Debug, Drop)]
+pub struct Object {
+    pub host: Text,
+    pub service: Option<Text>,
+}
+
+/// What is said of an object.
+#[derive(Debug, Drop)]
+pub struct Remark {
+    pub text: Text,
+    /// Who says it; None: the user.
+    pub author: Option<Text>,
+}
+
+/// When downtime is, as it was written.
+#[derive(Debug, Drop)]
+pub struct Window {
+    /// `--for SPAN`
+    pub lasts: Option<Text>,
+    /// `--until TIME`
+    pub until: Option<Text>,
+    /// `--from TIME`
+    pub from: Option<Text>,
+    /// `--flexible SPAN`
+    pub flexible: Option<Text>,
+    /// `--trigger ID`
+    pub trigger: Option<Text>,
+}
+
+/// What is asked for.
+#[derive(Debug, Drop)]
+pub enum Request {
+    /// `ack HOST [SERVICE] -c TEXT [--author NAME] [--sticky] [--persistent]`
+    Ack {
+        object: Object,
+        remark: Remark,
+        sticky: bool,
+        persistent: bool,
+    },
+    /// `unack HOST [SERVICE]`
+    Unack {
+        object: Object,
+    },
+    /// `comment HOST [SERVICE] -c TEXT [--author NAME] [--persistent]`
+    Comment {
+        object: Object,
+        remark: Remark,
+        persistent: bool,
+    },
+    /// `uncomment ID..`, or `uncomment HOST [SERVICE] --all`
+    Uncomment {
+        words: Texts,
+        all: bool,
+    },
+    /// `downtime HOST [SERVICE] -c TEXT [--author NAME]` with a window, and `--services`
+    Downtime {
+        object: Object,
+        remark: Remark,
+        window: Window,
+        services: bool,
+    },
+    /// `cancel ID..`
+    Cancel {
+        ids: Texts,
+    },
+    /// `passive on|off HOST [SERVICE]`
+    Passive {
+        setting: Text,
+        object: Object,
+    },
+    /// `result HOST [SERVICE] --state STATE --output TEXT`
+    Result {
+        object: Object,
+        state: Text,
+        output: Text,
+    },
+    /// `shutdown`
+    Shutdown,
+    /// `status`
+    Status,
+}
+
+/// The options that every command has, as they were written.
+#[derive(Debug, Drop)]
+pub struct Options {
+    /// `--config FILE`
+    pub config: Option<Text>,
+    /// `--operators ADDRESS`
+    pub operators: Option<Text>,
+    /// `--pages ADDRESS`
+    pub pages: Option<Text>,
+    /// `--wait SECONDS`
+    pub wait: Option<Text>,
+}
+
+/// A request, with the options that every command has.
+#[derive(Debug, Drop)]
+pub struct Asked {
+    pub options: Options,
+    pub request: Request,
+}
