@@ -1,0 +1,4 @@
+pub mod ObjectSteps
+pub mod NameSteps
+pub mod FindSteps
+pub mod OutcomeLaw

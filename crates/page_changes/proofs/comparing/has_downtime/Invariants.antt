@@ -1,0 +1,8 @@
+use Rattle.std.proofs.Common.{◌≡◌, drop}
+use Rattle.std.specs.List.{list_any}
+use Rattle.page_changes.specs.Changes.{is_same_downtime}
+use Rattle.page_changes.proofs.comparing.has_downtime.Given as goal
+
+abbrev pub invariant-loop-row : goal.invariant-loop-row
+invariant-loop-row l =
+    list_any (is_same_downtime l.wanted) (drop l.row-index l.rows) ≡ list_any (is_same_downtime l.wanted) l.rows

@@ -1,0 +1,9 @@
+use Rattle.std.proofs.Common.{◌≡◌, ◌++◌, drop, map}
+use Rattle.page_changes.specs.Changes.{comments_without}
+use Rattle.page_changes.specs.declared.comparing.Change.TheVariants.{CommentGone}
+use Rattle.page_changes.proofs.comparing.push_gone_comments.Given as goal
+
+abbrev pub invariant-loop-row : goal.invariant-loop-row
+invariant-loop-row l =
+    l.changes.items ++ map CommentGone (comments_without (drop l.row-index l.rows) l.others)
+    ≡ l.fn.changes.items ++ map CommentGone (comments_without l.rows l.others)

@@ -1,0 +1,450 @@
+//! Whether a status page shows the effect of a command.
+
+ghost use Rattle.std.specs.Prelude.{◌≡◌, map, IfOk};
+ghost use Rattle.std.specs.Option.{option_map};
+ghost use Rattle.gate_model.specs.Table.{greatest, object_kind};
+ghost use Rattle.gate_model.specs.State.{is_same_state};
+ghost use Rattle.gate_model.specs.Meaning.{is_persistent, is_sticky, plan_of};
+ghost use Rattle.status_reading.specs.Rows.{CommentView, DowntimeView, object_view, comment_view, downtime_view, page_view};
+ghost use Rattle.page_changes.specs.Shows.{is_same, is_from, is_missing, is_made, last_comment, last_entry, shown_words, has_words, is_comment, has_comment, is_planned, has_entry, has_entries, has_no_comment, has_no_entry, has_none_of, is_since, has_result, is_row, shows};
+
+use crate::names::{Names, row_of, shown};
+use gate_model::{Body, Kind, Moment, Plan, State, Text};
+use status_reading::{
+    ShownAcknowledgement, ShownComment, ShownDowntime, ShownObject, ShownSource, StatusPage,
+};
+use std::alloc::{AllocError, Global};
+use std::marker::Model;
+
+/// The author and the text of a comment or of downtime, as a page shows them.
+#[derive(Drop)]
+struct Words {
+    author: Vec<u8>,
+    text: Vec<u8>,
+}
+
+impl Model for Words {
+    ghost use Rattle.page_changes.specs.Shows.{WordsView};
+
+    ghost Value = { WordsView };
+
+    ghost view = { λ words. record { author = words.author.items; text = words.text.items } };
+}
+
+impl Words {
+    fn of(alloc: Global, author: &Text, text: &Text) -> Result<Words, AllocError>
+        ensures { IfOk result (λ words. words ≡ shown_words author.now text.now) }
+    {
+        Ok(Words {
+            author: shown(alloc, author)?,
+            text: shown(alloc, text)?,
+        })
+    }
+
+    fn are(&self, author: &[u8], text: &[u8]) -> bool
+        ensures { result ≡ has_words self.now author.now text.now }
+    {
+        author == self.author.as_slice() && text == self.text.as_slice()
+    }
+}
+
+fn is_same(one: bool, other: bool) -> bool
+    ensures { result ≡ is_same one other }
+{
+    if one { other } else { !other }
+}
+
+fn is_from(acknowledgement: bool, source: ShownSource) -> bool
+    ensures { result ≡ is_from acknowledgement source }
+{
+    match source {
+        ShownSource::User => !acknowledgement,
+        ShownSource::Acknowledgement => acknowledgement,
+        ShownSource::Downtime => false,
+    }
+}
+
+/// The greatest id of the comments, and 0 where there are none.
+fn last_comment(rows: &[ShownComment<'_>]) -> u32
+    ensures { result ≡ greatest (map (λ (row : CommentView). row.id) (map comment_view rows.now)) }
+{
+    let mut last = 0;
+    for row in rows {
+        last = row.id.max(last);
+    }
+    last
+}
+
+/// The greatest id of the downtime entries, and 0 where there are none.
+fn last_entry(rows: &[ShownDowntime<'_>]) -> u32
+    ensures { result
+        ≡ greatest (map (λ (row : DowntimeView). row.id) (map downtime_view rows.now)) }
+{
+    let mut last = 0;
+    for row in rows {
+        last = row.id.max(last);
+    }
+    last
+}
+
+/// Whether there is a comment with an id above this one, of this object and from there, with this
+/// persistence and these words.
+fn has_comment(
+    rows: &[ShownComment<'_>],
+    last: u32,
+    names: &Names,
+    acknowledgement: bool,
+    persistent: bool,
+    words: &Words,
+) -> bool
+    ensures { result ≡ has_comment last names.now acknowledgement persistent words.now
+        (map comment_view rows.now) }
+{
+    for row in rows {
+        if last < row.id
+            && names.are(row.host, row.service)
+            && is_from(acknowledgement, row.source)
+            && is_same(persistent, row.persistent)
+            && words.are(row.author, row.text)
+        {
+            return true;
+        }
+    }
+    false
+}
+
+/// Whether there is a downtime entry with an id above this one, of this object, as it was asked for
+/// and with these words.
+fn has_entry(
+    rows: &[ShownDowntime<'_>],
+    last: u32,
+    host: &[u8],
+    service: &[u8],
+    plan: Plan,
+    words: &Words,
+) -> bool
+    ensures { result ≡ has_entry last (record { host = host.now; service = service.now }) plan
+        words.now (map downtime_view rows.now) }
+{
+    for row in rows {
+        if last < row.id
+            && row.host == host
+            && row.service == service
+            && row.start == plan.starts.0
+            && row.end == plan.ends.0
+            && is_same(plan.fixed, row.fixed)
+            && row.trigger == plan.trigger
+            && row.duration == plan.lasts
+            && words.are(row.author, row.text)
+        {
+            return true;
+        }
+    }
+    false
+}
+
+/// Whether there is such an entry for each of these rows that is of a service of the host.
+fn has_entries(
+    rows: &[ShownObject<'_>],
+    entries: &[ShownDowntime<'_>],
+    last: u32,
+    names: &Names,
+    plan: Plan,
+    words: &Words,
+) -> bool
+    ensures { result ≡ has_entries last names.now.host plan words.now
+        (map object_view rows.now) (map downtime_view entries.now) }
+{
+    for row in rows {
+        if names.is_host_of(row.host, row.service)
+            && !has_entry(entries, last, row.host, row.service, plan, words)
+        {
+            return false;
+        }
+    }
+    true
+}
+
+fn has_no_comment(rows: &[ShownComment<'_>], id: u32) -> bool
+    ensures { result ≡ has_no_comment id (map comment_view rows.now) }
+{
+    for row in rows {
+        if row.id == id {
+            return false;
+        }
+    }
+    true
+}
+
+fn has_no_entry(rows: &[ShownDowntime<'_>], id: u32) -> bool
+    ensures { result ≡ has_no_entry id (map downtime_view rows.now) }
+{
+    for row in rows {
+        if row.id == id {
+            return false;
+        }
+    }
+    true
+}
+
+/// Whether there is no comment of the object with an id up to this one.
+fn has_none_of(rows: &[ShownComment<'_>], last: u32, names: &Names) -> bool
+    ensures { result ≡ has_none_of last names.now (map comment_view rows.now) }
+{
+    for row in rows {
+        if names.are(row.host, row.service) && row.id <= last {
+            return false;
+        }
+    }
+    true
+}
+
+fn is_same_state(one: State, other: State) -> bool
+    ensures { result ≡ is_same_state one other }
+{
+    one == other
+}
+
+fn is_since(moment: u32, last: Option<u32>) -> bool
+    ensures { result ≡ is_since moment last }
+{
+    match last {
+        Some(last) => moment <= last,
+        None => false,
+    }
+}
+
+/// Whether the row has the state and the output of a result, and its last result is of this moment
+/// or a later one.
+fn has_result(row: Option<ShownObject<'_>>, moment: u32, state: State, output: &[u8]) -> bool
+    ensures { result
+        ≡ is_row (has_result moment state output.now) (option_map object_view row.entry) }
+{
+    match row {
+        Some(row) => {
+            is_same_state(row.state, state) && row.output == output && is_since(moment, row.last)
+        }
+        None => false,
+    }
+}
+
+fn is_made(row: Option<ShownObject<'_>>, sticky: bool) -> bool
+    ensures { result
+        ≡ is_row (λ row. is_made sticky row.acknowledgement) (option_map object_view row.entry) }
+{
+    match row {
+        Some(row) => match row.acknowledgement {
+            ShownAcknowledgement::Missing => false,
+            ShownAcknowledgement::Normal => !sticky,
+            ShownAcknowledgement::Sticky => sticky,
+        },
+        None => false,
+    }
+}
+
+fn is_missing(row: Option<ShownObject<'_>>) -> bool
+    ensures { result
+        ≡ is_row (λ row. is_missing row.acknowledgement) (option_map object_view row.entry) }
+{
+    match row {
+        Some(row) => matches!(row.acknowledgement, ShownAcknowledgement::Missing),
+        None => false,
+    }
+}
+
+fn kind_of(service: &Option<Text>) -> Kind
+    ensures { result ≡ object_kind service.now }
+{
+    match service {
+        Some(_) => Kind::Service,
+        None => Kind::Host,
+    }
+}
+
+/// What a downtime command asks for; no page shows its log index.
+fn plan_of(starts: Moment, ends: Moment, fixed: u32, trigger: u32, lasts: u32) -> Plan
+    ensures { result ≡ plan_of starts ends fixed trigger lasts 0 }
+{
+    Plan {
+        starts,
+        ends,
+        fixed: fixed == 1,
+        trigger,
+        lasts,
+        log_index: 0,
+    }
+}
+
+/// Whether the page shows the comment of a command that was made after the page before it was read.
+fn shows_comment(
+    alloc: Global,
+    before: &StatusPage<'_>,
+    after: &StatusPage<'_>,
+    names: &Names,
+    acknowledgement: bool,
+    persistent: u32,
+    author: &Text,
+    text: &Text,
+) -> Result<bool, AllocError>
+    ensures { IfOk result (λ shown. shown
+        ≡ has_comment (last_comment (page_view before.now)) names.now acknowledgement
+        (is_persistent persistent) (shown_words author.now text.now)
+        (page_view after.now).comments) }
+{
+    let words = Words::of(alloc, author, text)?;
+    Ok(has_comment(
+        after.comments.as_slice(),
+        last_comment(before.comments.as_slice()),
+        names,
+        acknowledgement,
+        persistent != 0,
+        &words,
+    ))
+}
+
+/// Whether the page has no comment of the object that the page before had.
+fn shows_none_of(before: &StatusPage<'_>, after: &StatusPage<'_>, names: &Names) -> bool
+    ensures { result ≡ has_none_of (last_comment (page_view before.now)) names.now
+        (page_view after.now).comments }
+{
+    let last = last_comment(before.comments.as_slice());
+    has_none_of(after.comments.as_slice(), last, names)
+}
+
+/// Whether the page shows the entry of a command that was made after the page before it was read.
+fn shows_entry(
+    alloc: Global,
+    before: &StatusPage<'_>,
+    after: &StatusPage<'_>,
+    names: &Names,
+    plan: Plan,
+    author: &Text,
+    text: &Text,
+) -> Result<bool, AllocError>
+    ensures { IfOk result (λ shown. shown
+        ≡ has_entry (last_entry (page_view before.now)) names.now plan
+        (shown_words author.now text.now) (page_view after.now).downtimes) }
+{
+    let words = Words::of(alloc, author, text)?;
+    let last = last_entry(before.downtimes.as_slice());
+    let entries = after.downtimes.as_slice();
+    Ok(has_entry(entries, last, names.host(), names.service(), plan, &words))
+}
+
+/// Whether the page `after` shows the effect of a command, where the page `before` was read before
+/// the command was sent.
+///
+/// A result is shown by its state, its output and its moment; a comment, an acknowledgement and
+/// downtime by a row that the page before had not; a deletion by the row that is missing. No page
+/// shows whether passive checks are enabled. The only error is out of memory. Own rule.
+pub fn shows(
+    alloc: Global,
+    body: &Body,
+    before: &StatusPage<'_>,
+    after: &StatusPage<'_>,
+) -> Result<bool, AllocError>
+    ensures { IfOk result (λ shown.
+        shown ≡ shows body.now (page_view before.now) (page_view after.now)) }
+{
+    match body {
+        Body::Result {
+            host,
+            service,
+            code,
+            output,
+        } => {
+            let names = Names::of(alloc, host, service)?;
+            let state = State::of_code(kind_of(service), *code);
+            let output = shown(alloc, output)?;
+            let row = row_of(after.objects.as_slice(), &names);
+            Ok(has_result(row, before.moment, state, &output))
+        }
+        Body::AddComment {
+            host,
+            service,
+            persistent,
+            author,
+            text,
+        } => {
+            let names = Names::of(alloc, host, service)?;
+            shows_comment(
+                alloc,
+                before,
+                after,
+                &names,
+                false,
+                *persistent,
+                author,
+                text,
+            )
+        }
+        Body::DelComment { id, .. } => Ok(has_no_comment(after.comments.as_slice(), *id)),
+        Body::DelAllComments { host, service } => {
+            let names = Names::of(alloc, host, service)?;
+            Ok(shows_none_of(before, after, &names))
+        }
+        Body::Acknowledge {
+            host,
+            service,
+            sticky,
+            persistent,
+            author,
+            text,
+            ..
+        } => {
+            let names = Names::of(alloc, host, service)?;
+            if !is_made(row_of(after.objects.as_slice(), &names), *sticky == 2) {
+                return Ok(false);
+            }
+            shows_comment(
+                alloc,
+                before,
+                after,
+                &names,
+                true,
+                *persistent,
+                author,
+                text,
+            )
+        }
+        Body::RemoveAck { host, service } => {
+            let names = Names::of(alloc, host, service)?;
+            Ok(is_missing(row_of(after.objects.as_slice(), &names)))
+        }
+        Body::Schedule {
+            host,
+            service,
+            starts,
+            ends,
+            fixed,
+            trigger,
+            lasts,
+            author,
+            text,
+        } => {
+            let names = Names::of(alloc, host, service)?;
+            let plan = plan_of(*starts, *ends, *fixed, *trigger, *lasts);
+            shows_entry(alloc, before, after, &names, plan, author, text)
+        }
+        Body::DelDowntime { id, .. } => Ok(has_no_entry(after.downtimes.as_slice(), *id)),
+        Body::Passive { .. } => Ok(false),
+        Body::ScheduleServices {
+            host,
+            starts,
+            ends,
+            fixed,
+            trigger,
+            lasts,
+            author,
+            text,
+        } => {
+            let names = Names::of(alloc, host, &None)?;
+            let words = Words::of(alloc, author, text)?;
+            let plan = plan_of(*starts, *ends, *fixed, *trigger, *lasts);
+            let last = last_entry(before.downtimes.as_slice());
+            let rows = before.objects.as_slice();
+            Ok(has_entries(rows, after.downtimes.as_slice(), last, &names, plan, &words))
+        }
+        Body::Shutdown => Ok(after.closing.is_some()),
+    }
+}
