@@ -2,11 +2,9 @@
 
 ghost use Rattle.std.specs.Prelude.{◌≡◌, ◌++◌, map, IfOk, OnOk};
 ghost use Rattle.std.specs.List.{flat_map, zip, list_any};
-ghost use Rattle.gate_model.specs.State.{is_same_state};
-ghost use Rattle.page_changes.specs.Shows.{is_same};
 ghost use Rattle.page_changes.specs.Changes.{number_of_acknowledgement, number_of_source, is_same_comment, is_same_downtime, is_same_object, are_same_objects, unless, object_changes, objects_changed, comments_without, downtimes_without, closing_changes, changed};
 
-use gate_model::State;
+use crate::effects::{is_same, is_same_state};
 use status_reading::{
     ShownAcknowledgement, ShownComment, ShownDowntime, ShownObject, ShownSource, StatusPage,
 };
@@ -53,18 +51,6 @@ fn number_of_source(source: ShownSource) -> u8
         ShownSource::Acknowledgement => 1,
         ShownSource::Downtime => 2,
     }
-}
-
-fn is_same(one: bool, other: bool) -> bool
-    ensures { result ≡ is_same one other }
-{
-    if one { other } else { !other }
-}
-
-fn is_same_state(one: State, other: State) -> bool
-    ensures { result ≡ is_same_state one other }
-{
-    one == other
 }
 
 fn is_same_comment(one: &ShownComment<'_>, other: &ShownComment<'_>) -> bool

@@ -48,7 +48,8 @@ impl Words {
     }
 }
 
-fn is_same(one: bool, other: bool) -> bool
+/// Whether both are true or both false.
+pub fn is_same(one: bool, other: bool) -> bool
     ensures { result ≡ is_same one other }
 {
     if one { other } else { !other }
@@ -199,7 +200,8 @@ fn has_none_of(rows: &[ShownComment<'_>], last: u32, names: &Names) -> bool
     true
 }
 
-fn is_same_state(one: State, other: State) -> bool
+/// Whether the two are one state.
+pub fn is_same_state(one: State, other: State) -> bool
     ensures { result ≡ is_same_state one other }
 {
     one == other
