@@ -1,0 +1,3 @@
+mod Examples
+pub mod FoundSteps
+pub mod WordSteps

@@ -1,0 +1,123 @@
+-- The command line of `nscagatectl`, as clap reads it: `program`.
+use Rattle.std.specs.Prelude.{ℕ, Bool, true, false, List, Some, codes}
+use Rattle.clap.specs.Words.{App, Rule, new_app, new_rule, with_rule, with_subcommand}
+use Rattle.clap.specs.declared.builder.ArgAction.TheVariants.{Set, Append, SetTrue}
+
+-- ---- arguments
+
+-- a word without a name
+abbrev pub word_of : List ℕ → Bool → Rule
+word_of name required = record (new_rule name) { required = required; action = Some Set }
+
+-- words without a name, one or more if they are required
+abbrev pub words_of : List ℕ → Bool → Rule
+words_of name required = record (new_rule name) { required = required; action = Some Append }
+
+-- `--NAME VALUE`
+abbrev pub option_of : List ℕ → Bool → Rule
+option_of name required = record (new_rule name) { long = Some name; required = required; action = Some Set }
+
+-- `-c TEXT`, `--comment TEXT`
+abbrev pub comment : Rule
+comment = record (option_of (codes "comment") true) { short = Some 99 }
+
+-- `--NAME`
+abbrev pub flag_of : List ℕ → Rule
+flag_of name = record (new_rule name) { long = Some name; action = Some SetTrue }
+
+-- a command with one more of these arguments
+abbrev pub with_word : List ℕ → Bool → App → App
+with_word name required app = with_rule app (word_of name required)
+
+abbrev pub with_words : List ℕ → Bool → App → App
+with_words name required app = with_rule app (words_of name required)
+
+abbrev pub with_option : List ℕ → Bool → App → App
+with_option name required app = with_rule app (option_of name required)
+
+abbrev pub with_flag : List ℕ → App → App
+with_flag name app = with_rule app (flag_of name)
+
+-- ---- subcommands
+
+-- a subcommand with the options that all have
+abbrev pub plain : List ℕ → App
+plain name =
+    with_option (codes "wait") false
+    (with_option (codes "pages") false
+    (with_option (codes "operators") false (with_option (codes "config") false (new_app name))))
+
+-- `NAME HOST [SERVICE]`
+abbrev pub on_object : List ℕ → App
+on_object name = with_word (codes "service") false (with_word (codes "host") true (plain name))
+
+-- `NAME HOST [SERVICE] --comment TEXT [--author NAME]`
+abbrev pub with_remark : List ℕ → App
+with_remark name = with_option (codes "author") false (with_rule (on_object name) comment)
+
+abbrev pub ack : App
+ack = with_flag (codes "persistent") (with_flag (codes "sticky") (with_remark (codes "ack")))
+
+abbrev pub comment_command : App
+comment_command = with_flag (codes "persistent") (with_remark (codes "comment"))
+
+abbrev pub uncomment : App
+uncomment = with_flag (codes "all") (with_words (codes "words") true (plain (codes "uncomment")))
+
+abbrev pub windowed : App
+windowed =
+    with_option (codes "from") false
+    (with_option (codes "until") false (with_option (codes "for") false (with_remark (codes "downtime"))))
+
+abbrev pub downtime : App
+downtime =
+    with_flag (codes "services") (with_option (codes "trigger") false (with_option (codes "flexible") false windowed))
+
+abbrev pub cancel : App
+cancel = with_words (codes "ids") true (plain (codes "cancel"))
+
+abbrev pub passive : App
+passive =
+    with_word (codes "service") false
+    (with_word (codes "host") true (with_word (codes "setting") true (plain (codes "passive"))))
+
+abbrev pub result_command : App
+result_command = with_option (codes "output") true (with_option (codes "state") true (on_object (codes "result")))
+
+abbrev pub shutdown : App
+shutdown = plain (codes "shutdown")
+
+abbrev pub status : App
+status = plain (codes "status")
+
+-- ---- the program
+
+-- a command with one more subcommand
+abbrev pub with_command : App → App → App
+with_command added app = with_subcommand app added.top
+
+-- the subcommands that say something of an object
+abbrev pub with_remarks : App → App
+with_remarks app = with_command downtime (with_command comment_command (with_command ack app))
+
+-- the other subcommands on an object
+abbrev pub with_objects : App → App
+with_objects app = with_command result_command (with_command passive (with_command (on_object (codes "unack")) app))
+
+-- the subcommands on ids
+abbrev pub with_ids : App → App
+with_ids app = with_command cancel (with_command uncomment app)
+
+-- the subcommands on the gateway
+abbrev pub with_gateway : App → App
+with_gateway app = with_command status (with_command shutdown app)
+
+-- the words are all that follows the program's name, and one of them is a subcommand; there is a version
+abbrev pub top : App
+top =
+    let app = new_app (codes "nscagatectl") in
+    record app { top = record app.top { no_binary_name = true; has_version = true; subcommand_required = true } }
+
+-- all of them
+abbrev pub program : App
+program = with_gateway (with_ids (with_objects (with_remarks top)))
