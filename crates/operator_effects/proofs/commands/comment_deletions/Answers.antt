@@ -1,0 +1,18 @@
+use Rattle.std.proofs.Common.{◌≡◌, ◌+◌, ◌++◌, Some, drop, map, ap, sym, ◌∙◌}
+use Rattle.status_reading.specs.Rows.{page_view}
+use Rattle.operator_effects.specs.Commands.{comment_deletion}
+use Rattle.operator_effects.proofs.CommandSteps.{one_more, all_made}
+use Rattle.operator_effects.proofs.commands.comment_deletions.Goals as goal
+
+pub loop-word-preserved : goal.loop-word-preserved
+loop-word-preserved c =
+    let words = c.args.words.now in
+    let deletion = comment_deletion (page_view c.args.page.now) in
+    ap (λ made. map Some made ++ map deletion (drop (c.loop-word.word-index + 1) words)) c.in_ok-push.ensures.items
+    ∙ one_more deletion c.loop-word.bodies.items c.in_ok-comment_deletion.field-0 words c.loop-word.word-index c.word-item.result
+    c.loop-word-test.true (ap deletion (sym c.word-item.is) ∙ c.in_ok-comment_deletion.ensures) c.loop-word.invariant
+
+pub returns : goal.returns
+returns c =
+    all_made (comment_deletion (page_view c.args.page.now)) c.loop-word.bodies.items c.args.words.now c.loop-word.word-index
+    c.loop-word-test.false c.loop-word.invariant

@@ -1,0 +1,5 @@
+pub mod Commands
+pub mod Endings
+pub mod Messages
+pub mod Effects
+pub mod Watching

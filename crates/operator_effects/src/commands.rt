@@ -1,0 +1,227 @@
+//! The commands that a request is, on a status page.
+
+ghost use Rattle.std.specs.Prelude.{◌≡◌, ◌∷◌, [], Some, IfOk, map, option_map};
+ghost use Rattle.operator_effects.specs.Commands.{kind_of, comment_service, downtime_service, comment_deletion, downtime_deletion, comments_deletion, downtime, commands_of};
+ghost use Rattle.status_reading.specs.Rows.{comment_view, downtime_view, page_view};
+
+use gate_grammar::read_number;
+use gate_model::{Body, Kind, Moment, Text};
+use operator_commands::{
+    Object, Remark, Request, RequestFault, Window, body_for, schedule, times_of,
+};
+use status_reading::{ShownComment, ShownDowntime, StatusPage};
+use std::alloc::{AllocError, AllocFailed, Global};
+use thiserror::Error;
+
+/// Why a request is no list of commands.
+#[derive(Clone, Copy, Debug, PartialEq, Eq, Error)]
+pub enum PlanFault {
+    /// The words are faulty.
+    #[error("{0}")]
+    Request(RequestFault),
+    /// `--all` stands beside more than two words.
+    #[error("--all is of a host, or of a host and a service")]
+    NoObject,
+    /// Memory ran out.
+    #[error("out of memory")]
+    OutOfMemory,
+}
+
+impl From<AllocError> for PlanFault {
+    ghost use Rattle.operator_effects.specs.declared.commands.PlanFault.TheVariants.{OutOfMemory};
+
+    ghost from_gives = { λ _ fault. fault ≡ OutOfMemory };
+
+    fn from(_: AllocError) -> PlanFault {
+        PlanFault::OutOfMemory
+    }
+}
+
+impl<T: Drop> From<AllocFailed<T>> for PlanFault {
+    ghost use Rattle.operator_effects.specs.declared.commands.PlanFault.TheVariants.{OutOfMemory};
+
+    ghost from_gives = { λ _ fault. fault ≡ OutOfMemory };
+
+    fn from(_: AllocFailed<T>) -> PlanFault {
+        PlanFault::OutOfMemory
+    }
+}
+
+fn kind_of(service: Option<&[u8]>) -> Kind
+    ensures { result ≡ kind_of (option_map (λ field. field.now) service.entry) }
+{
+    match service {
+        Some(field) => {
+            if field.is_empty() {
+                Kind::Host
+            } else {
+                Kind::Service
+            }
+        }
+        None => Kind::Host,
+    }
+}
+
+fn comment_service<'a>(rows: &[ShownComment<'a>], id: u32) -> Option<&'a [u8]>
+    ensures { option_map (λ field. field.now) result
+        ≡ comment_service id (map comment_view rows.now) }
+{
+    for row in rows {
+        if row.id == id {
+            return Some(row.service);
+        }
+    }
+    None
+}
+
+fn downtime_service<'a>(rows: &[ShownDowntime<'a>], id: u32) -> Option<&'a [u8]>
+    ensures { option_map (λ field. field.now) result
+        ≡ downtime_service id (map downtime_view rows.now) }
+{
+    for row in rows {
+        if row.id == id {
+            return Some(row.service);
+        }
+    }
+    None
+}
+
+fn comment_deletion(page: &StatusPage<'_>, word: &Text) -> Result<Body, PlanFault>
+    ensures { IfOk result (λ body. comment_deletion (page_view page.now) word.now ≡ Some body) }
+{
+    match read_number(word.bytes()) {
+        Some(id) => Ok(Body::DelComment {
+            kind: kind_of(comment_service(page.comments.as_slice(), id)),
+            id,
+        }),
+        None => Err(PlanFault::Request(RequestFault::BadId)),
+    }
+}
+
+fn downtime_deletion(page: &StatusPage<'_>, word: &Text) -> Result<Body, PlanFault>
+    ensures { IfOk result (λ body. downtime_deletion (page_view page.now) word.now ≡ Some body) }
+{
+    match read_number(word.bytes()) {
+        Some(id) => Ok(Body::DelDowntime {
+            kind: kind_of(downtime_service(page.downtimes.as_slice(), id)),
+            id,
+        }),
+        None => Err(PlanFault::Request(RequestFault::BadId)),
+    }
+}
+
+fn comment_deletions(
+    alloc: Global,
+    page: &StatusPage<'_>,
+    words: &[Text],
+) -> Result<Vec<Body>, PlanFault>
+    ensures { IfOk result (λ bodies.
+        map Some bodies.items ≡ map (comment_deletion (page_view page.now)) words.now) }
+{
+    let mut bodies = Vec::new(alloc);
+    for word in words {
+        bodies.push(comment_deletion(page, word)?)?;
+    }
+    Ok(bodies)
+}
+
+fn downtime_deletions(
+    alloc: Global,
+    page: &StatusPage<'_>,
+    words: &[Text],
+) -> Result<Vec<Body>, PlanFault>
+    ensures { IfOk result (λ bodies.
+        map Some bodies.items ≡ map (downtime_deletion (page_view page.now)) words.now) }
+{
+    let mut bodies = Vec::new(alloc);
+    for word in words {
+        bodies.push(downtime_deletion(page, word)?)?;
+    }
+    Ok(bodies)
+}
+
+fn comments_deletion(alloc: Global, words: &[Text]) -> Result<Body, PlanFault>
+    ensures { IfOk result (λ body. comments_deletion words.now ≡ Some body) }
+{
+    match words {
+        [host] => Ok(Body::DelAllComments {
+            host: Text::copied(alloc, host.bytes())?,
+            service: None,
+        }),
+        [host, service] => Ok(Body::DelAllComments {
+            host: Text::copied(alloc, host.bytes())?,
+            service: Some(Text::copied(alloc, service.bytes())?),
+        }),
+        _ => Err(PlanFault::NoObject),
+    }
+}
+
+fn downtime(
+    user: Text,
+    now: Moment,
+    object: Object,
+    remark: Remark,
+    window: &Window,
+    services: bool,
+) -> Result<Body, PlanFault>
+    ensures { IfOk result (λ body.
+        downtime user now object remark window.now services ≡ Some body) }
+{
+    match times_of(now, window) {
+        Ok(times) => match schedule(user, object, remark, times, services) {
+            Ok(body) => Ok(body),
+            Err(fault) => Err(PlanFault::Request(fault)),
+        },
+        Err(fault) => Err(PlanFault::Request(fault)),
+    }
+}
+
+fn one(alloc: Global, body: Body) -> Result<Vec<Body>, PlanFault>
+    ensures { IfOk result (λ bodies. bodies.items ≡ body ∷ []) }
+{
+    let mut bodies = Vec::with_capacity(alloc, 1)?;
+    bodies.push_reserved(body);
+    Ok(bodies)
+}
+
+/// The commands of a request that is asked for now by this user, on a page: none for `status`, one
+/// for each id, and otherwise one. An id is of a host's comment or downtime, or of a service's, as
+/// the page has it.
+///
+/// `Request` and `NoObject` are the first fault of the words. `OutOfMemory` may be returned in
+/// place of any other answer.
+pub fn commands_for(
+    alloc: Global,
+    page: &StatusPage<'_>,
+    now: Moment,
+    user: Text,
+    request: Request,
+) -> Result<Vec<Body>, PlanFault>
+    ensures { IfOk result (λ bodies.
+        map Some bodies.items ≡ commands_of (page_view page.now) now user request) }
+{
+    match request {
+        Request::Uncomment { words, all } => {
+            if all {
+                one(alloc, comments_deletion(alloc, words.as_slice())?)
+            } else {
+                comment_deletions(alloc, page, words.as_slice())
+            }
+        }
+        Request::Cancel { ids } => downtime_deletions(alloc, page, ids.as_slice()),
+        Request::Downtime {
+            object,
+            remark,
+            window,
+            services,
+        } => one(
+            alloc,
+            downtime(user, now, object, remark, &window, services)?,
+        ),
+        Request::Status => Ok(Vec::new(alloc)),
+        request => match body_for(user, request) {
+            Ok(body) => one(alloc, body),
+            Err(fault) => Err(PlanFault::Request(fault)),
+        },
+    }
+}

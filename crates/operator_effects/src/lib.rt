@@ -1,0 +1,15 @@
+//! What a gateway's answer and its status pages make of an operator's request: the commands that it
+//! is, how each ended and what a page shows of it, and the line and the exit status that report it.
+#![tactic(auto)]
+
+mod commands;
+mod effects;
+mod ending;
+mod messages;
+mod watching;
+
+pub use commands::{PlanFault, commands_for};
+pub use effects::effect_on;
+pub use ending::{Effect, Ending, ending_of};
+pub use messages::push_message;
+pub use watching::{Next, Pages, watch};
