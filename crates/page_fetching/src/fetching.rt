@@ -1,0 +1,69 @@
+//! The text of a gateway's status page.
+
+use crate::timed::Timed;
+use std::alloc::Global;
+use std::io::{ErrorKind, Read};
+use std::net::{Net, SocketAddr, TcpListener, TcpStream};
+use std::time::{Clock, Duration, Instant};
+use thiserror::Error;
+
+/// Why no text of a gateway's page was fetched.
+#[derive(Clone, Copy, Debug, PartialEq, Eq, Error)]
+pub enum FetchFault {
+    /// No connection within a second, or it was refused.
+    #[error("the gateway doesn't accept a connection")]
+    Unreachable,
+    /// The page did not end within four seconds.
+    #[error("the page didn't end in time")]
+    TooSlow,
+    /// The page is longer than 64 MiB.
+    #[error("the page is longer than 64 MiB")]
+    TooLong,
+    /// The connection broke.
+    #[error("the connection broke")]
+    Broken,
+    /// Memory ran out.
+    #[error("out of memory")]
+    OutOfMemory,
+}
+
+// The seconds in which a gateway has to accept.
+const CONNECT_TIMEOUT: u64 = 1;
+// The seconds after the connection in which a page has to end.
+const PAGE_TIMEOUT: u64 = 4;
+// The bytes of the longest page, 64 MiB.
+const LONGEST_PAGE: u64 = 64 << 20;
+
+/// The text of a gateway's page, or why there is none.
+pub type Fetched = Result<Vec<u8>, FetchFault>;
+
+// Reads to the end.
+fn read_page<R: Read + Drop>(reader: R, alloc: Global) -> Fetched {
+    let mut page = Vec::new(alloc);
+    match reader.take(LONGEST_PAGE + 1).read_to_end(&mut page) {
+        Ok(length) if length as u64 > LONGEST_PAGE => Err(FetchFault::TooLong),
+        Ok(_) => Ok(page),
+        Err(error) => match error.kind() {
+            ErrorKind::TimedOut | ErrorKind::WouldBlock => Err(FetchFault::TooSlow),
+            ErrorKind::OutOfMemory => Err(FetchFault::OutOfMemory),
+            _ => Err(FetchFault::Broken),
+        },
+    }
+}
+
+/// Reads a gateway's page of at most 64 MiB: connects within a second, and reads to its end within
+/// four seconds more.
+pub fn fetch<R: Net<Listener = TcpListener, Stream = TcpStream> + Clock>(
+    rt: &R,
+    alloc: Global,
+    address: SocketAddr,
+) -> Fetched {
+    let within = Duration::from_secs(CONNECT_TIMEOUT);
+    let Ok(stream) = TcpStream::connect_timeout(rt, &address, within) else {
+        return Err(FetchFault::Unreachable);
+    };
+    let Ok(begun) = Instant::now(rt) else {
+        return Err(FetchFault::Broken);
+    };
+    read_page(Timed::new(rt, &stream, begun, PAGE_TIMEOUT), alloc)
+}
