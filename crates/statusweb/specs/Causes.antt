@@ -4,8 +4,8 @@ use Rattle.std.specs.Fmt.{decimal}
 use Rattle.status_reading.specs.declared.page.ReadFault.{ReadFault}
 use Rattle.status_reading.specs.declared.page.ReadFault.TheVariants as text
 use Rattle.status_reading.specs.RowFaults.{row_fault_words}
-use Rattle.statusweb.specs.declared.fetching.FetchFault.{FetchFault}
-use Rattle.statusweb.specs.declared.fetching.FetchFault.TheVariants.{Unreachable, TooSlow, TooLong, Broken, OutOfMemory}
+use Rattle.page_fetching.specs.declared.fetching.FetchFault.{FetchFault}
+use Rattle.page_fetching.specs.declared.fetching.FetchFault.TheVariants.{Unreachable, TooSlow, TooLong, Broken, OutOfMemory}
 use Rattle.statusweb.specs.declared.causes.NoPage.{NoPage}
 use Rattle.statusweb.specs.declared.causes.NoPage.TheVariants.{Fetch, Read}
 

@@ -14,7 +14,7 @@ use Rattle.status_memory.specs.declared.memory.Fetch.{Fetch}
 use Rattle.status_memory.specs.declared.memory.Kept.{Kept}
 use Rattle.status_memory.specs.declared.memory.Memory.{Memory}
 use Rattle.statusweb.specs.declared.words.Place.{Place}
-use Rattle.statusweb.specs.declared.fetching.FetchFault.{FetchFault}
+use Rattle.page_fetching.specs.declared.fetching.FetchFault.{FetchFault}
 use Rattle.statusweb.specs.declared.causes.NoPage.{NoPage}
 use Rattle.statusweb.specs.declared.causes.NoPage.TheVariants as none
 use Rattle.statusweb.specs.declared.watching.Watched.{Watched}

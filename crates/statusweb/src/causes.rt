@@ -4,7 +4,7 @@ ghost use Rattle.std.specs.Prelude.{◌≡◌, ◌++◌, IfOk, codes, string_byt
 ghost use Rattle.std.specs.Fmt.{decimal};
 ghost use Rattle.statusweb.specs.Causes.{fetch_cause, read_cause, cause_of};
 
-use crate::fetching::FetchFault;
+use page_fetching::FetchFault;
 use status_reading::{ReadFault, row_fault_words};
 use std::alloc::{AllocError, Global};
 

@@ -7,10 +7,8 @@ mod answers;
 mod bodies;
 mod causes;
 mod fault;
-mod fetching;
 mod service;
 mod serving;
-mod timed;
 mod watching;
 mod words;
 

@@ -2,10 +2,10 @@
 
 use crate::fault::WebFault;
 use crate::service::Web;
-use crate::timed::Timed;
 use crate::watching::Watch;
 use crate::words::Settings;
 use http_server::{Config, Connection, serve as serve_connection};
+use page_fetching::Timed;
 use std::alloc::Global;
 use std::hash::RandomState;
 use std::net::{Net, TcpListener, TcpStream};

@@ -5,8 +5,8 @@ ghost use Rattle.status_reading.specs.Faults.{IsFaultOf};
 ghost use Rattle.statusweb.specs.Watching.{text_of, place_of, seen_place, last_view, memory_view, HasObjects, IsPageIn, IsFetchOf};
 
 use crate::causes::NoPage;
-use crate::fetching::{Fetched, fetch};
 use crate::words::{Place, Settings};
+use page_fetching::{Fetched, fetch};
 use status_memory::{Fetch, Kept, Memory, Page};
 use status_reading::{ReadFault, read_status_page};
 use std::alloc::{AllocError, Global};
@@ -147,7 +147,7 @@ impl<'a> Watched<'a> {
         rt: &R,
         alloc: Global,
     ) {
-        let fetched = fetch(rt, alloc, self.place);
+        let fetched = fetch(rt, alloc, self.place.address);
         let fetch = fetch_of(alloc, fetched, u64::from(clock(rt)));
         self.memory.lock(rt).observe(fetch);
     }
