@@ -1,0 +1,171 @@
+ghost use Rattle.std.specs.Prelude.{◌≡◌, ◌≢◌, ◌++◌, OnOk, OnErr, codes};
+ghost use Rattle.std.specs.IoError.{error_kind};
+ghost use Rattle.gate_reader.specs.Sink.{Delivers, FailsOnce};
+ghost use Rattle.nscagatectl.specs.Fault.{cause, page_text, plan_status, plan_text, request_text};
+
+use gate_model::Text;
+use gate_reader::{Fault, Sink, put_last};
+use operator_commands::RequestFault;
+use operator_effects::PlanFault;
+use page_fetching::FetchFault;
+use std::alloc::AllocError;
+use std::io;
+use std::io::ErrorKind;
+
+/// Why the program ends before it has sent all commands.
+#[derive(Debug, Drop)]
+pub enum ControlFault {
+    /// The words after the program's name ask for nothing, or can't be read as text.
+    BadWords,
+    /// An address is no IP address and port.
+    BadAddress,
+    /// `--wait` is no number of 1 to 3600.
+    BadWait,
+    /// The configuration can't be read.
+    Unreadable,
+    /// The configuration is faulty: `config: ` and its fault.
+    Config(Text),
+    /// The words are no command.
+    Plan(PlanFault),
+    /// There is no text of the status page.
+    NoPage(FetchFault),
+    /// The text at the address of the pages is no status page.
+    BadPage,
+    /// The clock can't be read.
+    NoClock,
+    /// Memory ran out.
+    OutOfMemory,
+    /// The output can't be written.
+    WriteFault,
+}
+
+impl From<AllocError> for ControlFault {
+    ghost use Rattle.nscagatectl.specs.declared.fault.ControlFault.TheVariants.{OutOfMemory};
+
+    ghost from_gives = { λ _ fault. fault ≡ OutOfMemory };
+
+    fn from(_: AllocError) -> ControlFault {
+        ControlFault::OutOfMemory
+    }
+}
+
+fn request_text(fault: RequestFault) -> &'static [u8]
+    ensures { result.now ≡ request_text fault }
+{
+    match fault {
+        RequestFault::BadState => {
+            b"--state is OK, WARNING, CRITICAL or UNKNOWN; of a host UP, DOWN or UNREACHABLE"
+        }
+        RequestFault::BadSetting => b"passive is on or off",
+        RequestFault::ServicesOfService => b"--services is of a host, and a service is named",
+        RequestFault::BadTime => b"a time is in seconds since 1970",
+        RequestFault::BadSpan => b"a span is a number with s, m, h or d, as 90m",
+        RequestFault::BadId => b"an id is a number",
+        RequestFault::NoEnd => b"downtime ends by one of --for and --until",
+        RequestFault::NoCommand => b"bad words",
+    }
+}
+
+fn plan_text(fault: PlanFault) -> &'static [u8]
+    ensures { result.now ≡ plan_text fault }
+{
+    match fault {
+        PlanFault::Request(fault) => request_text(fault),
+        PlanFault::NoObject => b"--all is of a host, or of a host and a service",
+        PlanFault::OutOfMemory => b"out of memory",
+    }
+}
+
+fn page_text(fault: FetchFault) -> &'static [u8]
+    ensures { result.now ≡ page_text fault }
+{
+    match fault {
+        FetchFault::Unreachable => b"no status page: the gateway accepts no connection",
+        FetchFault::TooSlow => b"no status page: it didn't end in time",
+        FetchFault::TooLong => b"no status page: it is longer than 64 MiB",
+        FetchFault::Broken => b"no status page: the connection broke",
+        FetchFault::OutOfMemory => b"out of memory",
+    }
+}
+
+// The cause of a fault.
+fn cause(fault: &ControlFault) -> &[u8]
+    ensures { result.now ≡ cause fault.now }
+{
+    match fault {
+        ControlFault::BadWords => b"bad words",
+        ControlFault::BadAddress => b"an address is an IP address and a port",
+        ControlFault::BadWait => b"--wait is 1 to 3600",
+        ControlFault::Unreadable => b"the configuration can't be read",
+        ControlFault::BadPage => b"what the pages port gives is no status page",
+        ControlFault::NoClock => b"the clock can't be read",
+        ControlFault::OutOfMemory => b"out of memory",
+        ControlFault::WriteFault => b"the output can't be written",
+        ControlFault::Config(text) => text.bytes(),
+        ControlFault::Plan(fault) => plan_text(*fault),
+        ControlFault::NoPage(fault) => page_text(*fault),
+    }
+}
+
+fn plan_status(fault: PlanFault) -> u8
+    ensures { result ≡ plan_status fault }
+{
+    match fault {
+        PlanFault::Request(_) | PlanFault::NoObject => 2,
+        PlanFault::OutOfMemory => 3,
+    }
+}
+
+// Writes a line of two texts, and flushes.
+fn report_text<E: Sink>(errors: &mut E, before: &[u8], text: &[u8]) -> io::Result<()>
+    ensures ok { OnOk result (Delivers (E.state errors.old) (E.state errors.new)
+        (before.now ++ text.now ++ codes "\n")) }
+    ensures err { OnErr result (FailsOnce (E.state errors.old) (E.state errors.new)) }
+{
+    errors.put(before)?;
+    errors.put(text)?;
+    put_last(errors, b"\n")
+}
+
+impl Fault for ControlFault {
+    ghost use Rattle.nscagatectl.specs.Fault.{status_of, message_of};
+
+    ghost status_of = { status_of };
+
+    ghost message_of = { message_of };
+
+    /// 2 for the words and the configuration, and otherwise 3. Own rule.
+    fn status(&self) -> u8 {
+        match self {
+            ControlFault::BadWords
+            | ControlFault::BadAddress
+            | ControlFault::BadWait
+            | ControlFault::Unreadable
+            | ControlFault::Config(_) => 2,
+            ControlFault::Plan(fault) => plan_status(*fault),
+            ControlFault::NoPage(_)
+            | ControlFault::BadPage
+            | ControlFault::NoClock
+            | ControlFault::OutOfMemory
+            | ControlFault::WriteFault => 3,
+        }
+    }
+
+    /// Own rule: the text of the line.
+    fn report<E: Sink>(&self, errors: &mut E) -> io::Result<()> {
+        report_text(errors, b"nscagatectl: ", cause(self))
+    }
+}
+
+/// The fault of an error on the words: out of memory, or words that are no text.
+pub fn words_fault(error: &io::Error) -> ControlFault
+    ensures memory { error_kind error.now ≡ ErrorKind.OutOfMemory
+        → result ≡ ControlFault.OutOfMemory }
+    ensures other { error_kind error.now ≢ ErrorKind.OutOfMemory
+        → result ≡ ControlFault.BadWords }
+{
+    match error.kind() {
+        ErrorKind::OutOfMemory => ControlFault::OutOfMemory,
+        _ => ControlFault::BadWords,
+    }
+}

@@ -1,0 +1,135 @@
+//! Where the program asks: the addresses of the ports, and how long it waits.
+
+ghost use Rattle.std.specs.Prelude.{◌≡◌, ◌≤◌, IfOk};
+
+use crate::fault::ControlFault;
+use gate_config::read_config;
+use gate_grammar::read_number;
+use gate_model::{DOCUMENT_BYTES, Text};
+use operator_commands::Options;
+use std::alloc::Global;
+use std::fs::{File, Files};
+use std::io::Read;
+use std::net::{IpAddr, Ipv4Addr, Ipv6Addr, SocketAddr};
+
+/// The path of the configuration where the words name none.
+const CONFIG: &str = "/etc/nscagate/gateway.toml";
+/// The seconds that a page may take to show a command, where the words name none.
+const WAIT: u32 = 10;
+
+/// The ports that are asked, and how long.
+#[derive(Clone, Copy)]
+pub struct Places {
+    pub operators: SocketAddr,
+    pub pages: SocketAddr,
+    /// The seconds that an answer, and then a page that shows the command, may take.
+    pub seconds: u32,
+}
+
+// An address that can be connected to: a port that is bound at each address of the machine is asked
+// at its loopback.
+fn reachable(address: SocketAddr) -> SocketAddr {
+    let ip = match address.ip() {
+        IpAddr::V4(ip) if ip.is_unspecified() => IpAddr::V4(Ipv4Addr::LOCALHOST),
+        IpAddr::V6(ip) if ip.is_unspecified() => IpAddr::V6(Ipv6Addr::LOCALHOST),
+        ip => ip,
+    };
+    SocketAddr::new(ip, address.port())
+}
+
+fn address_in(text: &Text) -> Result<SocketAddr, ControlFault> {
+    match SocketAddr::parse_ascii(text.bytes()) {
+        Ok(address) => Ok(reachable(address)),
+        Err(_) => Err(ControlFault::BadAddress),
+    }
+}
+
+// Reads a file, and no more of it than one byte beyond the greatest configuration.
+fn read_file<F: Files>(files: &F, alloc: Global, path: &str) -> Result<Vec<u8>, ControlFault> {
+    let Ok(file) = File::open(files, path) else {
+        return Err(ControlFault::Unreadable);
+    };
+    let mut text = Vec::new(alloc);
+    match file.take(DOCUMENT_BYTES as u64 + 1).read_to_end(&mut text) {
+        Ok(_) => Ok(text),
+        Err(_) => Err(ControlFault::Unreadable),
+    }
+}
+
+// The operators port and the pages port of the daemon's configuration.
+fn configured(alloc: Global, text: &[u8]) -> Result<(SocketAddr, SocketAddr), ControlFault> {
+    match read_config(alloc, text) {
+        Ok(config) => Ok((
+            reachable(config.operators.socket),
+            reachable(config.pages.socket),
+        )),
+        Err(fault) => {
+            let mut text = Vec::from_slice(alloc, b"config: ")?;
+            text.extend_from_slice(fault.text(alloc)?.as_slice())?;
+            Err(ControlFault::Config(Text::new(text)))
+        }
+    }
+}
+
+fn path_of(options: &Options) -> Result<&str, ControlFault> {
+    let Some(path) = &options.config else {
+        return Ok(CONFIG);
+    };
+    match str::from_utf8(path.bytes()) {
+        Ok(path) => Ok(path),
+        Err(_) => Err(ControlFault::Unreadable),
+    }
+}
+
+// The address of an option, or else this one.
+fn address_or(option: &Option<Text>, default: SocketAddr) -> Result<SocketAddr, ControlFault> {
+    match option {
+        Some(text) => address_in(text),
+        None => Ok(default),
+    }
+}
+
+// The ports of the configuration that the options name, or else of the daemon's own.
+fn read_ports<F: Files>(
+    files: &F,
+    alloc: Global,
+    options: &Options,
+) -> Result<(SocketAddr, SocketAddr), ControlFault> {
+    let text = read_file(files, alloc, path_of(options)?)?;
+    configured(alloc, text.as_slice())
+}
+
+/// The ports that the options name, and for those that they don't name the configuration's, which is
+/// read only for these; and `--wait`.
+pub fn places_for<F: Files>(
+    files: &F,
+    alloc: Global,
+    options: &Options,
+) -> Result<Places, ControlFault> {
+    let seconds = wait_in(options)?;
+    let (operators, pages) = match (&options.operators, &options.pages) {
+        (Some(operators), Some(pages)) => (address_in(operators)?, address_in(pages)?),
+        (operators, pages) => {
+            let ports = read_ports(files, alloc, options)?;
+            (address_or(operators, ports.0)?, address_or(pages, ports.1)?)
+        }
+    };
+    Ok(Places {
+        operators,
+        pages,
+        seconds,
+    })
+}
+
+// `--wait`, which is 1 to 3600, by default 10.
+fn wait_in(options: &Options) -> Result<u32, ControlFault>
+    ensures { IfOk result (λ seconds. (1 ≤ seconds) × (seconds ≤ 3600)) }
+{
+    let Some(text) = &options.wait else {
+        return Ok(WAIT);
+    };
+    match read_number(text.bytes()) {
+        Some(seconds) if (1..=3600).contains(&seconds) => Ok(seconds),
+        _ => Err(ControlFault::BadWait),
+    }
+}

@@ -1,0 +1,292 @@
+//! A request, from its words to the lines that report its commands.
+
+use crate::fault::ControlFault;
+use crate::pages::LivePages;
+use crate::places::{Places, places_for};
+use crate::sending::send;
+use clap::Error;
+use gate_grammar::Command;
+use gate_model::{Body, Moment, Outcome, Text};
+use gate_reader::{Sink, put_last};
+use operator_commands::{Asked, Request};
+use operator_effects::{Ending, commands_for, ending_of, push_message, watch};
+use operator_lines::Reply;
+use operator_words::{WordsFault, read_words};
+use page_changes::foreseen_outcome;
+use page_fetching::fetch;
+use status_reading::{ReadFault, StatusPage, read_status_page};
+use std::alloc::{AllocError, Global};
+use std::env;
+use std::fs::Files;
+use std::net::{Net, TcpListener, TcpStream};
+use std::rt::Env;
+use std::time::{Clock, Instant, SystemTime};
+
+// The name of the user where the environment has none.
+const NOBODY: &[u8] = b"operator";
+
+// The user who runs the program: that of sudo, or else the one who logged in.
+fn user(rt: &(impl Env + AllocGlobal), alloc: Global) -> Result<Text, ControlFault> {
+    for name in ["SUDO_USER", "LOGNAME", "USER"] {
+        if let Ok(user) = env::var(rt, name) {
+            if !user.is_empty() {
+                return Ok(Text::copied(alloc, user.as_bytes())?);
+            }
+        }
+    }
+    Ok(Text::copied(alloc, NOBODY)?)
+}
+
+// The seconds since 1970, at most 4294967295.
+fn now(rt: &impl Clock) -> Result<Moment, ControlFault> {
+    let Ok(now) = SystemTime::now(rt) else {
+        return Err(ControlFault::NoClock);
+    };
+    match now.duration_since(SystemTime::UNIX_EPOCH) {
+        Ok(since) => Ok(Moment(u32::try_from(since.as_secs()).unwrap_or(u32::MAX))),
+        Err(_) => Err(ControlFault::NoClock),
+    }
+}
+
+fn page_of<'t>(alloc: Global, text: &'t [u8]) -> Result<StatusPage<'t>, ControlFault> {
+    match read_status_page(alloc, text) {
+        Ok(page) => Ok(page),
+        Err(ReadFault::OutOfMemory) => Err(ControlFault::OutOfMemory),
+        Err(ReadFault::NoStatus | ReadFault::BadLine(_) | ReadFault::BadRow(..)) => {
+            Err(ControlFault::BadPage)
+        },
+    }
+}
+
+// Whether a page can show how the command ended that was answered so.
+fn is_watched(body: &Body, reply: Reply) -> bool {
+    match reply {
+        Reply::Queued(_) => !matches!(body, Body::Passive { .. }),
+        Reply::Closing => matches!(body, Body::Shutdown),
+        Reply::Full | Reply::Spent | Reply::Bad(_) => false,
+    }
+}
+
+// Sends a command, and watches for its effect where this page was read before it.
+fn carry_out<R: Net<Listener = TcpListener, Stream = TcpStream> + Clock>(
+    rt: &R,
+    alloc: Global,
+    places: Places,
+    before: &StatusPage<'_>,
+    command: &Command,
+) -> Result<Ending, ControlFault> {
+    let reply = match send(rt, alloc, places.operators, places.seconds, command) {
+        Ok(reply) => reply,
+        Err(fault) => return Ok(Ending::NoAnswer(fault)),
+    };
+    if !is_watched(&command.body, reply) {
+        return Ok(ending_of(&command.body, reply, None));
+    }
+    let Ok(begun) = Instant::now(rt) else {
+        return Err(ControlFault::NoClock);
+    };
+    let mut pages = LivePages {
+        rt,
+        address: places.pages,
+        begun,
+        seconds: places.seconds,
+    };
+    let seen = watch(alloc, before, &command.body, &mut pages)?;
+    Ok(ending_of(&command.body, reply, seen))
+}
+
+// Writes a text and flushes.
+fn print<W: Sink>(output: &mut W, text: &[u8]) -> Result<(), ControlFault> {
+    match put_last(output, text) {
+        Ok(()) => Ok(()),
+        Err(_) => Err(ControlFault::WriteFault),
+    }
+}
+
+// Prints how a command ended: on the output where its exit status is 0, otherwise on `errors`.
+// Returns the exit status.
+fn report<W: Sink, E: Sink>(
+    alloc: Global,
+    body: &Body,
+    ending: Ending,
+    output: &mut W,
+    errors: &mut E,
+) -> Result<u8, ControlFault> {
+    let status = ending.status();
+    let mut line = Vec::new(alloc);
+    if status != 0 {
+        line.extend_from_slice(b"nscagatectl: ")?;
+    }
+    push_message(&mut line, body, ending)?;
+    line.extend_from_slice(b"\n")?;
+    if status == 0 {
+        print(output, line.as_slice())?;
+    } else {
+        print(errors, line.as_slice())?;
+    }
+    Ok(status)
+}
+
+// Reports the first command that the gateway would refuse, by its page; returns the exit status.
+fn objection<W: Sink, E: Sink>(
+    alloc: Global,
+    page: &StatusPage<'_>,
+    commands: &[Command],
+    output: &mut W,
+    errors: &mut E,
+) -> Result<Option<u8>, ControlFault> {
+    for command in commands {
+        let outcome = foreseen_outcome(alloc, page, &command.body)?;
+        if outcome != Outcome::Accepted {
+            let refused = Ending::Refused(outcome);
+            let status = report(alloc, &command.body, refused, output, errors)?;
+            return Ok(Some(status));
+        }
+    }
+    Ok(None)
+}
+
+// Sends commands one after another, where the gateway would refuse none of them, by its page; prints
+// how each ended, and returns the exit status: that of the first that did not end well, after which
+// none is sent.
+fn send_all<R: Net<Listener = TcpListener, Stream = TcpStream> + Clock, W: Sink, E: Sink>(
+    rt: &R,
+    alloc: Global,
+    places: Places,
+    before: &StatusPage<'_>,
+    commands: &[Command],
+    output: &mut W,
+    errors: &mut E,
+) -> Result<u8, ControlFault> {
+    if let Some(status) = objection(alloc, before, commands, output, errors)? {
+        return Ok(status);
+    }
+    for command in commands {
+        let ending = carry_out(rt, alloc, places, before, command)?;
+        let status = report(alloc, &command.body, ending, output, errors)?;
+        if status != 0 {
+            return Ok(status);
+        }
+    }
+    Ok(0)
+}
+
+// Commands that are entered at this moment.
+fn entered_at(
+    alloc: Global,
+    entered: Moment,
+    bodies: Vec<Body>,
+) -> Result<Vec<Command>, AllocError> {
+    let mut commands = Vec::with_capacity(alloc, bodies.len())?;
+    for body in bodies {
+        commands.push(Command { entered, body })?;
+    }
+    Ok(commands)
+}
+
+// The commands of a request.
+fn commands_of(
+    alloc: Global,
+    page: &StatusPage<'_>,
+    entered: Moment,
+    user: Text,
+    request: Request,
+) -> Result<Vec<Command>, ControlFault> {
+    match commands_for(alloc, page, entered, user, request) {
+        Ok(bodies) => Ok(entered_at(alloc, entered, bodies)?),
+        Err(fault) => Err(ControlFault::Plan(fault)),
+    }
+}
+
+// Prints a text, where it is a status page.
+fn status<W: Sink>(alloc: Global, text: &[u8], output: &mut W) -> Result<u8, ControlFault> {
+    let _page = page_of(alloc, text)?;
+    print(output, text)?;
+    Ok(0)
+}
+
+// Carries out a request where this is the text of the page.
+fn on_page<
+    R: Net<Listener = TcpListener, Stream = TcpStream> + Clock + Env + AllocGlobal,
+    W: Sink,
+    E: Sink,
+>(
+    rt: &R,
+    alloc: Global,
+    places: Places,
+    text: &[u8],
+    request: Request,
+    output: &mut W,
+    errors: &mut E,
+) -> Result<u8, ControlFault> {
+    let entered = now(rt)?;
+    let user = user(rt, alloc)?;
+    let before = page_of(alloc, text)?;
+    let commands = commands_of(alloc, &before, entered, user, request)?;
+    send_all(
+        rt,
+        alloc,
+        places,
+        &before,
+        commands.as_slice(),
+        output,
+        errors,
+    )
+}
+
+// Carries out a request over the gateway of these options, and returns the exit status.
+fn run<
+    R: Net<Listener = TcpListener, Stream = TcpStream> + Clock + Files + Env + AllocGlobal,
+    W: Sink,
+    E: Sink,
+>(rt: &R, alloc: Global, asked: Asked, output: &mut W, errors: &mut E) -> Result<u8, ControlFault> {
+    let Asked { options, request } = asked;
+    let places = places_for(rt, alloc, &options)?;
+    let text = match fetch(rt, alloc, places.pages) {
+        Ok(text) => text,
+        Err(fault) => return Err(ControlFault::NoPage(fault)),
+    };
+    if matches!(&request, Request::Status) {
+        status(alloc, text.as_slice(), output)
+    } else {
+        on_page(rt, alloc, places, text.as_slice(), request, output, errors)
+    }
+}
+
+// Prints what clap writes of words that it refuses, or help or the version, and returns the exit
+// status: 2, or 0 for help and the version.
+fn refuse<W: Sink, E: Sink>(
+    alloc: Global,
+    error: &Error,
+    output: &mut W,
+    errors: &mut E,
+) -> Result<u8, ControlFault> {
+    let text = error.to_string(alloc)?;
+    if error.use_stderr() {
+        print(errors, text.as_bytes())?;
+        Ok(2)
+    } else {
+        print(output, text.as_bytes())?;
+        Ok(0)
+    }
+}
+
+/// Carries out what the words after the program's name ask for, and returns the exit status.
+pub fn run_words<
+    R: Net<Listener = TcpListener, Stream = TcpStream> + Clock + Files + Env + AllocGlobal,
+    W: Sink,
+    E: Sink,
+>(
+    rt: &R,
+    alloc: Global,
+    words: &[String],
+    output: &mut W,
+    errors: &mut E,
+) -> Result<u8, ControlFault> {
+    match read_words(alloc, words) {
+        Ok(asked) => run(rt, alloc, asked, output, errors),
+        Err(WordsFault::Refused(error)) => refuse(alloc, &error, output, errors),
+        Err(WordsFault::NoCommand) => Err(ControlFault::BadWords),
+        Err(WordsFault::OutOfMemory) => Err(ControlFault::OutOfMemory),
+    }
+}

@@ -1,0 +1,29 @@
+//! A command over the operators port, and its answer.
+
+use gate_grammar::Command;
+use operator_lines::{AskFault, Reply, ask};
+use page_fetching::Timed;
+use std::alloc::Global;
+use std::net::{Net, SocketAddr, TcpListener, TcpStream};
+use std::time::{Clock, Duration, Instant};
+
+/// Sends a command over a connection of its own, and reads its answer. The connection and the
+/// answer may take this number of seconds.
+pub fn send<R: Net<Listener = TcpListener, Stream = TcpStream> + Clock>(
+    rt: &R,
+    alloc: Global,
+    address: SocketAddr,
+    seconds: u32,
+    command: &Command,
+) -> Result<Reply, AskFault> {
+    let within = Duration::from_secs(u64::from(seconds));
+    let Ok(begun) = Instant::now(rt) else {
+        return Err(AskFault::WriteFault);
+    };
+    let Ok(stream) = TcpStream::connect_timeout(rt, &address, within) else {
+        return Err(AskFault::WriteFault);
+    };
+    let mut reader = Timed::new(rt, &stream, begun, u64::from(seconds));
+    let mut writer = Timed::new(rt, &stream, begun, u64::from(seconds));
+    ask(alloc, &mut reader, &mut writer, command)
+}

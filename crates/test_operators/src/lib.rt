@@ -1,0 +1,10 @@
+//! Tests of the operators' program through the public items of its crates: words, the lines that
+//! are sent, the answers, and what pages show.
+#![tactic(auto)]
+
+#[cfg(test)]
+mod effects;
+#[cfg(test)]
+mod lines;
+#[cfg(test)]
+mod words;
