@@ -1,6 +1,6 @@
 -- With which limits a World is opened, and why it isn't. Own rules: 1 to 64 clients, room for 1 to 65,536 items, and a
 -- quota of 1 to 4,294,967,295 items for each client.
-use Rattle.std.specs.Prelude.{ℕ, ◌≡◌, ◌≤◌}
+use Rattle.std.specs.Prelude.{ℕ, ◌≡◌, ◌≤◌, Result, OnOk, IfErr}
 use Rattle.gate_core.specs.declared.limits.OpenFault.{OpenFault}
 use Rattle.gate_core.specs.declared.limits.OpenFault.TheVariants.{BadCount, BadCapacity, BadQuota, OutOfMemory}
 
@@ -31,3 +31,9 @@ IsOpenFault BadCount clients quota capacity = IsGoodCount clients → ⊥
 IsOpenFault BadCapacity clients quota capacity = IsGoodCount clients × (IsGoodCapacity capacity → ⊥)
 IsOpenFault BadQuota clients quota capacity = IsGoodCount clients × IsGoodCapacity capacity × (quota ≡ 0)
 IsOpenFault OutOfMemory clients quota capacity = IsGoodCount clients × IsGoodCapacity capacity × (1 ≤ quota)
+
+-- something is opened only where all numbers are within their limits, and else the first fault is answered
+abbrev pub OpensWithin : {A : Type 0} → ℕ → ℕ → ℕ → Result A OpenFault → Type 0
+OpensWithin clients quota capacity result =
+    OnOk result (IsGoodCount clients × IsGoodCapacity capacity × (1 ≤ quota))
+    × IfErr result (λ fault. IsOpenFault fault clients quota capacity)

@@ -1,7 +1,7 @@
-ghost use Rattle.std.specs.Prelude.{◌≡◌, ◌≤◌, [], IfOk, IfErr, OnOk};
+ghost use Rattle.std.specs.Prelude.{◌≡◌, [], IfOk};
 ghost use Rattle.gate_core.specs.declared.limits.OpenFault.TheVariants.{OutOfMemory};
 ghost use Rattle.gate_core.specs.State.{StandsAfter};
-ghost use Rattle.gate_core.specs.Limits.{limits_of, default_quota, IsGoodCount, IsGoodCapacity, IsOpenFault};
+ghost use Rattle.gate_core.specs.Limits.{limits_of, default_quota, OpensWithin};
 
 use crate::world::World;
 use gate_model::{MOST_CAPACITY, MOST_CLIENTS};
@@ -41,8 +41,7 @@ impl World {
             world.limits ≡ limits_of clients default_quota capacity) }
         ensures new { IfOk result (λ world. StandsAfter world []) }
 
-        ensures good { OnOk result (IsGoodCount clients × IsGoodCapacity capacity) }
-        ensures fault { IfErr result (λ fault. IsOpenFault fault clients default_quota capacity) }
+        ensures answer { OpensWithin clients default_quota capacity result }
     {
         World::open_with(alloc, clients, capacity, u32::MAX)
     }
@@ -62,8 +61,7 @@ impl World {
         ensures limits { IfOk result (λ world. world.limits ≡ limits_of clients quota capacity) }
         ensures new { IfOk result (λ world. StandsAfter world []) }
 
-        ensures good { OnOk result (IsGoodCount clients × IsGoodCapacity capacity × (1 ≤ quota)) }
-        ensures fault { IfErr result (λ fault. IsOpenFault fault clients quota capacity) }
+        ensures answer { OpensWithin clients quota capacity result }
     {
         if clients < 1 || clients > MOST_CLIENTS {
             return Err(OpenFault::BadCount);

@@ -1,8 +1,9 @@
 -- A text that is escaped run by run.
 use Rattle.std.proofs.Common.{◌≡◌, ℕ, suc, ◌+◌, ◌-◌, ◌<◌, ◌≤◌, Bool, true, false, cond, not, List, [], ◌∷◌, ◌++◌, length, take, drop, get_or, Some, None, Result, Ok, Err, refl, sym, ap, ◌∙◌, arith, append-nil, append_assoc, add-one, one-add, drop-cons}
 use Rattle.std.specs.Prelude.{nat_lt, if◌then◌else◌, is_ok, OnOk}
+use Rattle.std.specs.Io.{StartsWith}
 use Rattle.std.specs.List.{position, position_or_len, flat_map}
-use Rattle.std.proofs.lemmas.List.{take_all, drop_all, take_rest}
+use Rattle.std.proofs.lemmas.List.{take_all, drop_all, take_rest, take-append-le, length-take}
 use Rattle.std.proofs.lemmas.List.Sums.{passes_at_first}
 use Rattle.std.proofs.lemmas.Bool.{ltb-false}
 use Rattle.gate_model.specs.Escaping.{is_escaped, escape_of, escaped}
@@ -82,3 +83,7 @@ pub rest-escaped : {E : Type 0} (result : Result (Unit {0}) E) (front back rest 
     → OnOk result (back ≡ whole)
 rest-escaped (Ok done) front back rest whole none is all = is ∙ ap (λ text. front ++ text) (sym (rest-stays rest none)) ∙ all
 rest-escaped (Err fault) front back rest whole none is all = tt
+
+-- what is appended leaves the beginning
+pub starts-more : (front text more : List ℕ) → StartsWith text front → StartsWith (text ++ more) front
+starts-more front text more starts = take-append-le (length front) text more (omega (arith, ap length starts, length-take (length front) text)) ∙ starts

@@ -1,6 +1,7 @@
 //! How a page shows a text of any bytes.
 
-ghost use Rattle.std.specs.Prelude.{◌≡◌, ◌++◌, ◌<◌, length, position, IfSome, OnOk};
+ghost use Rattle.std.specs.Prelude.{◌≡◌, ◌++◌, ◌<◌, length, position, IfSome, OnOk, OnErr};
+ghost use Rattle.std.specs.Io.{StartsWith};
 ghost use Rattle.gate_model.specs.Escaping.{is_escaped, escape_of, escaped};
 
 use std::alloc::AllocError;
@@ -16,7 +17,8 @@ fn is_escaped(byte: u8) -> bool
 
 /// Appends the escape of a byte that has one.
 fn push_escape(out: &mut Vec<u8>, byte: u8) -> Result<(), AllocError>
-    ensures { OnOk result (out.new.items ≡ out.old.items ++ escape_of byte) }
+    ensures ok { OnOk result (out.new.items ≡ out.old.items ++ escape_of byte) }
+    ensures err { OnErr result (out.new.items ≡ out.old.items) }
 {
     if byte == b'\\' {
         out.extend_from_slice(b"\\\\")
@@ -36,8 +38,12 @@ fn first_escaped(text: &[u8]) -> Option<usize>
 }
 
 /// Appends a text as a page shows it, each run of bytes without an escape at once.
+///
+/// The only error is out of memory. The buffer then starts with the bytes that it held, and may
+/// hold the first bytes of the text after them.
 pub fn push_escaped(out: &mut Vec<u8>, text: &[u8]) -> Result<(), AllocError>
-    ensures { OnOk result (out.new.items ≡ out.old.items ++ escaped text.now) }
+    ensures ok { OnOk result (out.new.items ≡ out.old.items ++ escaped text.now) }
+    ensures err { OnErr result (StartsWith out.new.items out.old.items) }
 {
     let mut rest = text;
     while let Some(run) = first_escaped(rest) {

@@ -124,7 +124,12 @@ sends ring index n quota capacity c s b same left items views room h at =
 pub sees_full : (index n quota capacity c : ℕ) (s : List Numbered) → Learns IsRuled index (client n quota capacity c s) (AllowsBeside (limits_of n quota capacity) c s)
 sees_full index n quota capacity c s items views h at =
     let mine = h.of_clients index (client n quota capacity c s) at refl in
-    let m = mine.limits in (h.sent, h.taken, core_as h.n h.quota h.capacity n quota capacity h.sent h.taken h.taken items m.clients_is m.quota_is m.capacity_is refl h.core, mine.queued_is)
+    let m = mine.limits in record {
+      sent = h.sent;
+      taken = h.taken;
+      conserved = core_as h.n h.quota h.capacity n quota capacity h.sent h.taken h.taken items m.clients_is m.quota_is m.capacity_is refl h.core;
+      own = mine.queued_is;
+    }
 
 -- the taker finds the queue empty, or learns what it may hold
 pub sees_rest : (index n quota capacity made : ℕ) (taken : List Numbered) (ended : List EndedList) → Learns IsRuled index (taker n quota capacity made taken ended) (AllowsAfter (limits_of n quota capacity) taken ended)

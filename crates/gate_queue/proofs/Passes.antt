@@ -53,9 +53,9 @@ pub full_bound : (n quota capacity c : ℕ) (mine : List Numbered) → IsClient 
 full_bound n quota capacity c mine ic h =
     let long : length h.0 ≡ capacity = h.1 in
     let f : AllowsBeside (limits_of n quota capacity) c mine h.0 = h.2 in
-    let b = length_beside n quota capacity f.0 f.1 h.0 c f.2 ic in
-    let same : length (f.0 c) ≡ length mine = ap length f.3 in
-    omega (arith, b, same, length-append f.1 h.0)
+    let b = length_beside n quota capacity f.sent f.taken h.0 c f.conserved ic in
+    let same : length (f.sent c) ≡ length mine = ap length f.own in
+    omega (arith, b, same, length-append f.taken h.0)
 
 pub held_as : (ring : ℕ) (v : View) (number count quota : ℕ) → IsClientPass v number count quota → ring ≡ v.capacity → Held ring (AllowsBeside (limits_in v) v.number v.queued)
     → Held v.capacity (AllowsBeside (limits_in v) number v.queued) × (v.capacity ≤ length v.queued + (v.clients - 1) * v.quota)

@@ -22,14 +22,16 @@ abbrev pub client_state : GateId → ℕ → List Numbered → Option Moment →
 client_state gate number queued known_close =
     record { gate = gate; number = number; queued = queued; known_close = known_close }
 
--- the queue may hold these items where this was queued for client c: with some items taken and some queued for the
--- others, nothing is lost, made or out of order
-abbrev pub AllowsBeside : Limits → ℕ → List Numbered → List Numbered → Type 0
-AllowsBeside limits c queued queue =
-    (sent : ℕ → List Numbered) × (taken : List Numbered)
-    × IsCoreState limits.clients limits.quota limits.capacity sent taken queue × (sent c ≡ queued)
+-- the queue may hold these items where this was queued for client c: for some lists of what was queued for each client
+-- and some items that were taken, nothing is lost, made or out of order
+pub record AllowsBeside (limits : Limits) (c : ℕ) (queued queue : List Numbered) : Type 0 where
+  pub sent : ℕ → List Numbered
+  pub taken : List Numbered
+  pub conserved : IsCoreState limits.clients limits.quota limits.capacity sent taken queue
+  pub own : sent c ≡ queued
 
--- at a moment of the call the queue held as many items as it may, beside what was queued for this client
+-- the queue was full: at a moment of the call it held some items, as many as it may, that are allowed beside what was
+-- queued for this client
 abbrev pub WasFull : ClientState → Type 0
 WasFull client = Held client.gate.limits.capacity (AllowsBeside client.gate.limits client.number client.queued)
 

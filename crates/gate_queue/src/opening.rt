@@ -1,13 +1,10 @@
-ghost use Rattle.std.specs.Prelude.{◌≡◌, ◌-◌, ◌≤◌, [], IfOk, IfErr, OnOk, None};
+ghost use Rattle.std.specs.Prelude.{◌≡◌, ◌-◌, ◌≤◌, [], IfOk, OnOk, None};
 ghost use Rattle.once_cell.specs.Once.{cell_name};
 ghost use Rattle.crossbeam_queue.specs.Passes.{view as pass_view, IsPassOf};
 ghost use Rattle.gate_core.specs.Merge.{IsClient};
-ghost use Rattle.gate_core.specs.Limits.{limits_of, default_quota, IsGoodCount, IsGoodCapacity};
-ghost use Rattle.gate_core.specs.Limits.{IsOpenFault};
-ghost use Rattle.gate_queue.specs.Knowledge.{close_knowledge};
+ghost use Rattle.gate_core.specs.Limits.{limits_of, default_quota, IsGoodCount, OpensWithin};
 ghost use Rattle.gate_queue.specs.Client.{client_state};
-ghost use Rattle.gate_queue.specs.Taker.{taker_state};
-ghost use Rattle.gate_queue.specs.Opening.{new_clients};
+ghost use Rattle.gate_queue.specs.Opening.{new_clients, IsNewGate};
 ghost use Rattle.gate_queue.specs.Gate.{gate_id};
 ghost use Rattle.gate_queue.specs.inner.Rule.{opener, taker};
 
@@ -44,14 +41,9 @@ pub fn open(
     clients: u32,
     capacity: usize,
 ) -> Result<(Gate, Taker, Closer, Vec<Client>), OpenFault>
-    ensures limits { IfOk result (λ opened.
-        opened.0.limits ≡ limits_of clients default_quota capacity) }
-    ensures taker { IfOk result (λ opened. opened.1 ≡ taker_state opened.0 [] [] None) }
-    ensures closer { IfOk result (λ opened. opened.2 ≡ close_knowledge opened.0.cell None) }
-    ensures clients { IfOk result (λ opened. opened.3.items ≡ new_clients opened.0 clients) }
-
-    ensures good { OnOk result (IsGoodCount clients × IsGoodCapacity capacity) }
-    ensures fault { IfErr result (λ fault. IsOpenFault fault clients default_quota capacity) }
+    ensures opened { IfOk result (λ opened. IsNewGate (limits_of clients default_quota capacity)
+        opened.0 opened.1 opened.2 opened.3.items) }
+    ensures answer { OpensWithin clients default_quota capacity result }
 {
     open_with(alloc, clients, capacity, u32::MAX)
 }
@@ -68,13 +60,9 @@ pub fn open_with(
     capacity: usize,
     quota: u32,
 ) -> Result<(Gate, Taker, Closer, Vec<Client>), OpenFault>
-    ensures limits { IfOk result (λ opened. opened.0.limits ≡ limits_of clients quota capacity) }
-    ensures taker { IfOk result (λ opened. opened.1 ≡ taker_state opened.0 [] [] None) }
-    ensures closer { IfOk result (λ opened. opened.2 ≡ close_knowledge opened.0.cell None) }
-    ensures clients { IfOk result (λ opened. opened.3.items ≡ new_clients opened.0 clients) }
-
-    ensures good { OnOk result (IsGoodCount clients × IsGoodCapacity capacity × (1 ≤ quota)) }
-    ensures fault { IfErr result (λ fault. IsOpenFault fault clients quota capacity) }
+    ensures opened { IfOk result (λ opened. IsNewGate (limits_of clients quota capacity)
+        opened.0 opened.1 opened.2 opened.3.items) }
+    ensures answer { OpensWithin clients quota capacity result }
 {
     if clients < 1 || clients > MOST_CLIENTS {
         return Err(OpenFault::BadCount);
@@ -99,12 +87,9 @@ pub fn open_with(
 fn open_all(alloc: Global, bounds: Bounds) -> Result<(Gate, Taker, Closer, Vec<Client>), AllocError>
     requires clients { IsGoodCount bounds.clients }
     requires capacity { 1 ≤ bounds.capacity }
-    ensures limits { IfOk result (λ opened.
-        opened.0.limits ≡ limits_of bounds.clients bounds.quota bounds.capacity) }
-    ensures taker { IfOk result (λ opened. opened.1 ≡ taker_state opened.0 [] [] None) }
-    ensures closer { IfOk result (λ opened. opened.2 ≡ close_knowledge opened.0.cell None) }
-    ensures clients { IfOk result (λ opened.
-        opened.3.items ≡ new_clients opened.0 bounds.clients) }
+    ensures { IfOk result (λ opened. IsNewGate
+        (limits_of bounds.clients bounds.quota bounds.capacity)
+        opened.0 opened.1 opened.2 opened.3.items) }
 {
     let counts = Vec::from_elem(alloc, None, bounds.clients as usize)?;
     let (ring, mut pass) = Ring::ruled(alloc, bounds.capacity)?;
