@@ -52,17 +52,18 @@ advanced before after old new now shows records moment = record {
   moment = moment;
 }
 
--- the clock was read, and an item applied
-pub applied_one : (before after : ClockState) (old new : ApplierView) (now : Moment) (item : Numbered) → Shows before after now
-    → new.records ≡ old.records ++ (record { moment = later old.moment now; item = item }) ∷ [] → new.moment ≡ later old.moment now
-    → GoesByClock before after old new
-applied_one before after old new now item shows records moment = record {
+-- the clock was read, and an item applied to what was prepared
+pub applied_one : (before after : ClockState) (old ready new : ApplierView) (now : Moment) (item : Numbered) → Shows before after now
+    → ready.records ≡ old.records → ready.moment ≡ old.moment → new.records ≡ ready.records ++ (record { moment = later ready.moment now; item = item }) ∷ []
+    → new.moment ≡ later ready.moment now → GoesByClock before after old new
+applied_one before after old ready new now item shows listed at records moment = record {
   readings = (record { moment = now; item = Some item }) ∷ [];
   taken = shows.read;
   shown = All-cons before.shows now [] shows.shown (All-nil before.shows);
   stays = shows.stays;
-  records = records;
-  moment = moment;
+  records = records ∙ ap (λ (l : List Record). l ++ (record { moment = later ready.moment now; item = item }) ∷ []) listed
+      ∙ ap (λ (m : Moment). old.records ++ (record { moment = later m now; item = item }) ∷ []) at;
+  moment = moment ∙ ap (λ (m : Moment). later m now) at;
 }
 
 pub both : (before between after : ClockState) (old middle new : ApplierView) → GoesByClock before between old middle

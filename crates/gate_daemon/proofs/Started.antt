@@ -1,5 +1,5 @@
 -- A gateway that can't be opened, and one that has run, in the words of what it was started with.
-use Rattle.std.proofs.Common.{◌≡◌, ℕ, ◌+◌, List, [], length, map, Option, None, refl, sym, ap, ◌∙◌, subst}
+use Rattle.std.proofs.Common.{◌≡◌, ℕ, ◌+◌, List, [], length, map, Option, None, sym, ap, ◌∙◌, subst}
 use Rattle.std.proofs.lemmas.List.Elements.{All-nil}
 use Rattle.gate_model.specs.declared.object.ObjectLine.{ObjectLine}
 use Rattle.gate_model.specs.declared.record.Moment.{Moment}
@@ -14,9 +14,7 @@ use Rattle.gate_daemon.specs.Applying.{AreShown}
 use Rattle.gate_daemon.specs.Faults.{AreShownUntil, IsGatewayFault}
 use Rattle.gate_daemon.specs.declared.gateway.GatewayFault.{GatewayFault}
 use Rattle.gate_daemon.specs.declared.gateway.GatewayFault.TheVariants as fault
-use Rattle.gate_daemon.specs.declared.joined.Joined.{Joined}
 use Rattle.gate_daemon.specs.inner.Collecting.{AllEnded}
-use Rattle.gate_daemon.specs.inner.Joining.{AreJoined}
 use Rattle.gate_daemon.specs.inner.Opening.{IsUnopened}
 
 -- ---- it can't be opened
@@ -45,23 +43,13 @@ opened_shown shows table now limit applier shown is = subst (AreShown shows) (sy
   moment = shown;
 })
 
--- its threads are joined, whatever their applier began with
-pub joined_again : (gate : GateId) (count workers : ℕ) (before : ApplierView) (joined : Joined) → count ≡ workers → AreJoined gate count before joined → AreJoined gate workers joined.applier joined
-joined_again gate count workers before joined same are = subst (λ (n : ℕ). AreJoined gate n joined.applier joined) same (record {
-  applied = are.applied;
-  known_close = are.known_close;
-  same = record { table = refl; opening = refl; limit = refl };
-  all = are.all;
-  gates = are.gates;
-})
-
 -- its workers ended with these clients and reports, by what was given
-pub all_on : {X Y : Type 0} (endpoints given : List X) (sends : X → Option (List (List ℕ))) (one other : Y) (heard : Y → Option (List (List ℕ))) (limits : WorkerLimits) (gate : GateId) (count workers : ℕ)
+pub all_on : {X Y : Type 0} (endpoints given : List X) (sends : X → Option (List (List ℕ))) (one other : Y) (heard : Y → Option (List (List ℕ))) (limits : WorkerLimits) (shows : Moment → Type 0) (gate : GateId) (count workers : ℕ)
     (operator : ClientState) (why : Cause) (clients : List ClientState) (reports : List (ℕ × List Report)) → endpoints ≡ given → one ≡ other → operator ≡ client_state gate (count + 1) [] None
-    → length endpoints ≡ count → length given ≡ workers → AllEnded limits gate (map sends endpoints) (heard one) operator why clients reports
-    → AllEnded limits gate (map sends given) (heard other) (client_state gate (workers + 1) [] None) why clients reports
-all_on {X} {Y} endpoints given sends one other heard limits gate count workers operator why clients reports same alike begun each long all =
+    → length endpoints ≡ count → length given ≡ workers → AllEnded limits shows gate (map sends endpoints) (heard one) operator why clients reports
+    → AllEnded limits shows gate (map sends given) (heard other) (client_state gate (workers + 1) [] None) why clients reports
+all_on {X} {Y} endpoints given sends one other heard limits shows gate count workers operator why clients reports same alike begun each long all =
     let number : count ≡ workers = sym each ∙ ap (λ (l : List X). length l) same ∙ long in
-    subst (λ (c : ClientState). AllEnded limits gate (map sends given) (heard other) c why clients reports) (begun ∙ ap (λ (n : ℕ). client_state gate (n + 1) [] None) number)
-    (subst (λ (y : Y). AllEnded limits gate (map sends given) (heard y) operator why clients reports) alike
-    (subst (λ (l : List X). AllEnded limits gate (map sends l) (heard one) operator why clients reports) same all))
+    subst (λ (c : ClientState). AllEnded limits shows gate (map sends given) (heard other) c why clients reports) (begun ∙ ap (λ (n : ℕ). client_state gate (n + 1) [] None) number)
+    (subst (λ (y : Y). AllEnded limits shows gate (map sends given) (heard y) operator why clients reports) alike
+    (subst (λ (l : List X). AllEnded limits shows gate (map sends l) (heard one) operator why clients reports) same all))

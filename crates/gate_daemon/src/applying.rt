@@ -1,16 +1,14 @@
-ghost use Rattle.std.specs.Prelude.{◌≡◌, ◌≢◌, ◌≤◌, [], ◌∷◌, ◌++◌, IsSome, length};
-ghost use Rattle.gate_model.specs.declared.record.Moment.{Moment};
-ghost use Rattle.gate_model.specs.Record.{later};
-ghost use Rattle.gate_reader.specs.Clock.{Shows};
+ghost use Rattle.std.specs.Prelude.{◌≡◌, ◌≤◌, IsSome, length};
 ghost use Rattle.gate_close.specs.DrainedClose.{items_of_records};
 ghost use Rattle.gate_daemon.specs.declared.applying.ApplierStop.TheVariants.{Closing, LogFull};
+ghost use Rattle.gate_daemon.specs.declared.applying.FullLog.{FullLog};
 ghost use Rattle.gate_daemon.specs.Applying.{GoesByClock, IsSameLog};
+ghost use Rattle.gate_daemon.specs.inner.Publishing.{GoesOn};
 ghost use Rattle.gate_daemon.specs.declared.applying.Attempt.TheVariants as attempt;
-ghost use Rattle.gate_daemon.specs.declared.boards.Found.TheVariants.{Item, Nothing};
+ghost use Rattle.gate_daemon.specs.declared.boards.Found.TheVariants.{Nothing};
 
 use crate::boards::{Found, LastBoard, show, show_last};
-use gate_applier::{Applier, PrepareCause, PrepareFault, Ready};
-use gate_model::{Moment, Numbered};
+use gate_applier::{Applier, PrepareCause, PrepareFault};
 use gate_pages::Board;
 use gate_queue::{Gate, Taker};
 use gate_reader::Clock;
@@ -27,11 +25,17 @@ pub enum ApplierStop {
     /// The gate is closing, and the queue was empty or there was no memory for one more record.
     Closing,
     /// The log is full.
-    LogFull,
+    LogFull(FullLog),
 }
 
-// What one turn of the applier did.
+/// It was noted in the gate that a full log takes nothing from the queue, so that nobody waits for
+/// room; and a board shows all of it, or memory for one was missing for a second. Only `end_full`
+/// makes one of these.
 #[derive(Clone, Copy, Debug, PartialEq, Eq)]
+pub struct FullLog(());
+
+// What one turn of the applier did.
+#[derive(Clone, Copy)]
 pub(crate) enum Attempt {
     Took(Found),
     LogFull,
@@ -45,49 +49,6 @@ fn refused_attempt(cause: PrepareCause) -> Attempt
     match cause {
         PrepareCause::LogFull => Attempt::LogFull,
         PrepareCause::OutOfMemory => Attempt::OutOfMemory,
-    }
-}
-
-// Applies an item that was taken.
-fn apply_item(ready: Ready, item: Numbered, now: Moment) -> Applier
-    ensures items { items_of_records result.records
-        ≡ items_of_records ready.records ++ item ∷ [] }
-    ensures records { let moment = later ready.moment now in
-        result.records ≡ ready.records ++ (record { moment = moment; item = item }) ∷ [] }
-    ensures moment { result.moment ≡ later ready.moment now }
-    ensures same { IsSameLog ready result }
-{
-    let (applier, _) = ready.apply(item, now);
-    applier
-}
-
-// Takes an item and applies it.
-fn apply_next<R: Wait, K: Clock, H: Hold>(
-    rt: &R,
-    gate: &Gate,
-    taker: &mut Taker,
-    ready: Ready,
-    clock: &mut K,
-    hold: &mut H,
-) -> (Applier, Attempt)
-    requires gate { taker.old.gate ≡ gate.now }
-    requires applied { items_of_records ready.records ≡ taker.old.taken }
-    ensures gate { taker.new.gate ≡ taker.old.gate }
-    ensures ended { taker.new.ended ≡ taker.old.ended }
-    ensures applied { items_of_records result.0.records ≡ taker.new.taken }
-    ensures same { IsSameLog ready result.0 }
-    ensures clock { GoesByClock (K.state clock.old) (K.state clock.new) ready result.0 }
-    ensures not_full { result.1 ≢ attempt.LogFull }
-{
-    match taker.take(rt, gate) {
-        Some(item) => {
-            hold.pass(Point::BeforeApply);
-            (
-                apply_item(ready, item, clock.now()),
-                Attempt::Took(Found::Item),
-            )
-        }
-        None => (ready.give_back(), Attempt::Took(Found::Nothing)),
     }
 }
 
@@ -110,16 +71,24 @@ fn turn<R: Wait, K: Clock, H: Hold>(
     ensures log_full { result.1 ≡ attempt.LogFull
         → length result.0.records ≡ result.0.limit }
 {
-    match applier.prepare() {
-        Ok(ready) => apply_next(rt, gate, taker, ready, clock, hold),
-        Err(PrepareFault { cause, applier }) => (applier, refused_attempt(cause)),
+    let ready = match applier.prepare() {
+        Ok(ready) => ready,
+        Err(PrepareFault { cause, applier }) => return (applier, refused_attempt(cause)),
+    };
+    match taker.take(rt, gate) {
+        Some(item) => {
+            hold.pass(Point::BeforeApply);
+            let (applier, _) = ready.apply(item, clock.now());
+            (applier, Attempt::Took(Found::Item))
+        }
+        None => (ready.give_back(), Attempt::Took(Found::Nothing)),
     }
 }
 
 // Goes on to the clock's moment, where it is later.
 fn go_on<K: Clock>(applier: &mut Applier, clock: &mut K)
-    ensures idle { (now : Moment) × Shows (K.state clock.old) (K.state clock.new) now
-        × (applier.new.moment ≡ later applier.old.moment now) }
+    ensures idle { GoesOn (K.state clock.old) (K.state clock.new)
+        applier.old.moment applier.new.moment }
     ensures records { applier.new.records ≡ applier.old.records }
     ensures same { IsSameLog applier.old applier.new }
 {
@@ -145,9 +114,8 @@ fn show_turn<R: Wait, K: Clock>(
     ensures pauses { result.pauses_left ≤ 25 }
     ensures clock { GoesByClock
         (K.state clock.old) (K.state clock.new) applier.old applier.new }
-    ensures idle { found ≡ Nothing
-        → (now : Moment) × Shows (K.state clock.old) (K.state clock.new) now
-        × (applier.new.moment ≡ later applier.old.moment now) }
+    ensures idle { found ≡ Nothing → GoesOn (K.state clock.old) (K.state clock.new)
+        applier.old.moment applier.new.moment }
     ensures records { applier.new.records ≡ applier.old.records }
     ensures same { IsSameLog applier.old applier.new }
 {
@@ -158,6 +126,21 @@ fn show_turn<R: Wait, K: Clock>(
             show(rt, alloc, applier, found, last, board)
         }
     }
+}
+
+// Ends the taking, since the log is full, and shows all of it.
+fn end_full<R: Wait + time::Clock>(
+    rt: &R,
+    alloc: Global,
+    gate: &Gate,
+    applier: &Applier,
+    board: &Mutex<Board>,
+) -> FullLog
+    requires { length applier.now.records ≡ applier.now.limit }
+{
+    gate.stop_taking();
+    show_last(rt, alloc, applier, board);
+    FullLog(())
 }
 
 // The time until the clock's next second.
@@ -183,6 +166,7 @@ fn rest_after<R: Wait + time::Clock>(
     ensures gate { taker.new.gate ≡ taker.old.gate }
     ensures taken { taker.new.taken ≡ taker.old.taken }
     ensures ended { taker.new.ended ≡ taker.old.ended }
+    ensures same { result ≡ record last { pauses_left = result.pauses_left } }
     ensures pauses { result.pauses_left ≤ 25 }
 {
     match attempt {
@@ -213,8 +197,9 @@ fn rest_after<R: Wait + time::Clock>(
 ///
 /// It stops where the gate is closing and the queue is empty or memory for one more record is missing,
 /// and where the log is full, once a board shows all of it or memory for one is missing for a second:
-/// the queue fills up then, and nobody waits for room in it. Where memory is missing and the gate is open, it tries again. It waits for items, and
-/// for other threads at the queue and at the board. Own rule.
+/// the queue fills up then, and nobody waits for room in it. Where memory is missing and the gate is
+/// open, it tries again. It waits for items, and for other threads at the queue and at the board.
+/// Own rule.
 pub fn run_applier<R: Wait + time::Clock, K: Clock, H: Hold + Drop>(
     rt: &R,
     alloc: Global,
@@ -237,7 +222,8 @@ pub fn run_applier<R: Wait + time::Clock, K: Clock, H: Hold + Drop>(
     ensures clock { GoesByClock (K.state clock.old) (K.state clock.new) applier result.1 }
 
     ensures closing { result.2 ≡ Closing → IsSome result.0.known_close }
-    ensures log_full { result.2 ≡ LogFull → length result.1.records ≡ result.1.limit }
+    ensures log_full { (full : FullLog) → result.2 ≡ LogFull full
+        → length result.1.records ≡ result.1.limit }
 {
     let mut taker = taker;
     let mut applier = applier;
@@ -252,9 +238,8 @@ pub fn run_applier<R: Wait + time::Clock, K: Clock, H: Hold + Drop>(
         applier = next;
         let found = match attempt {
             Attempt::LogFull => {
-                gate.stop_taking();
-                show_last(rt, alloc, &applier, board);
-                return (taker, applier, ApplierStop::LogFull);
+                let full = end_full(rt, alloc, gate, &applier, board);
+                return (taker, applier, ApplierStop::LogFull(full));
             }
             Attempt::Took(Found::Item) => Found::Item,
             Attempt::Took(Found::Nothing) | Attempt::OutOfMemory => {

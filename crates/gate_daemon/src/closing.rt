@@ -1,7 +1,7 @@
 ghost use Rattle.std.specs.Prelude.{◌≡◌};
 
-use crate::shared::Shared;
-use gate_queue::{CloseFault, Closer, Notice};
+use crate::shared::{Closable, Shared};
+use gate_queue::{CloseFault, Notice};
 use gate_worker::{Wake, Watch, pause};
 use std::sync::Wait;
 use std::time::Clock;
@@ -9,21 +9,26 @@ use std::time::Clock;
 // Closes the gate where nobody has, and returns a notice of the close. A close for which memory is
 // missing is tried again.
 pub(crate) fn close_gate<R: Wait + Clock, K: Watch, W>(
-    shared: &Shared<'_, R, K, W>,
-    closer: &mut Closer,
+    closable: &Closable<'_, '_, R, K, W>,
 ) -> Notice
-    requires { closer.old.cell ≡ shared.now.gate.now.cell }
-    ensures cell { closer.new.cell ≡ shared.now.gate.now.cell }
-    ensures notice { result.cell ≡ shared.now.gate.now.cell }
+    ensures { result.cell ≡ closable.now.shared.now.gate.now.cell }
 {
-    for _ in shared.rt.forever() {
-        match closer.close(shared.alloc, shared.gate, shared.clock.read()) {
+    let Shared {
+        rt,
+        alloc,
+        gate,
+        clock,
+        ..
+    } = *closable.shared;
+    let mut closer = closable.closer.another();
+    for _ in rt.forever() {
+        match closer.close(alloc, gate, clock.read()) {
             Ok(notice) => return notice,
             Err(CloseFault::AlreadyClosing(_)) => match closer.notice() {
                 Some(notice) => return notice,
                 None => unreachable!(),
             },
-            Err(CloseFault::OutOfMemory) => pause(shared.rt),
+            Err(CloseFault::OutOfMemory) => pause(rt),
         }
     }
     unreachable!()
@@ -31,14 +36,10 @@ pub(crate) fn close_gate<R: Wait + Clock, K: Watch, W>(
 
 // Closes the gate where nobody has, and wakes the agents' workers.
 pub(crate) fn close_and_wake<R: Wait + Clock, K: Watch, W: Wake>(
-    shared: &Shared<'_, R, K, W>,
-    closer: &mut Closer,
-)
-    requires { closer.old.cell ≡ shared.now.gate.now.cell }
-    ensures { closer.new.cell ≡ shared.now.gate.now.cell }
-{
-    let notice = close_gate(shared, closer);
-    wake_agents(shared.wake, &notice);
+    closable: &Closable<'_, '_, R, K, W>,
+) {
+    let notice = close_gate(closable);
+    wake_agents(closable.shared.wake, &notice);
 }
 
 // Wakes the agents' workers. Woken before the close, they would end while agents still come.

@@ -100,17 +100,18 @@ fn finish<R: Wait, K: Watch>(
     clock: &K,
 ) -> Result<Finished, GatewayFault>
     requires clients { gate.limits.clients ≡ workers + 1 }
-    requires joined { AreJoined gate workers joined.applier joined }
+    requires joined { AreJoined gate workers joined }
     ensures holds { IfOk result (λ finished. HoldsAll workers
         (queued_by_each (reports_of_each finished.reports.items))
         (items_of_records finished.closed.applier.records)) }
     ensures served { IfOk result (λ finished. (limits : WorkerLimits)
         (agents : List (Option (List (List ℕ)))) (operators : Option (List (List ℕ)))
         → length agents ≡ workers
-        → AllEnded limits gate agents operators (client_state gate (workers + 1) [] None)
+        → AllEnded limits (K.shows clock.now) gate agents operators (client_state gate (workers + 1) [] None)
         joined.operator joined.collected.ended.items
         (reports_of_each joined.collected.reports.items)
-        → AllServed limits agents operators (reports_of_each finished.reports.items)
+        → AllServed limits (K.shows clock.now) agents operators
+        (reports_of_each finished.reports.items)
         finished.operator (items_of_records finished.closed.applier.records)) }
     ensures same { IfOk result (λ finished.
         IsSameLog joined.applier finished.closed.applier) }
@@ -186,7 +187,7 @@ pub fn run_gateway<
     // Each client's worker served its connections, from the first on, with the limits of the settings:
     // packets of agents and lines of operators. What they mean is what the log holds for it.
     ensures served { IfOk result (λ finished. AllServed settings.worker
-        (map (λ endpoint. A.streams endpoint.connections) endpoints.agents.items)
+        (K.shows clock.now) (map (λ endpoint. A.streams endpoint.connections) endpoints.agents.items)
         (O.streams endpoints.operator.connections) (reports_of_each finished.reports.items)
         finished.operator (items_of_records finished.closed.applier.records)) }
     // State and pages are what these records mean for the objects of the configuration.
@@ -227,8 +228,9 @@ pub fn run_gateway<
         move |scope| -> Result<Joined, Unstarted>
             requires { IsStart shared.gate.now start }
             ensures { IfOk result (λ joined. AreJoined shared.entry.gate.now
-                (length start.workers.endpoints.items) start.applier joined
-                × AllEnded shared.entry.limits shared.entry.gate.now
+                (length start.workers.endpoints.items) joined
+                × IsSameLog start.applier joined.applier × AllEnded shared.entry.limits
+                (K.shows shared.entry.clock.now) shared.entry.gate.now
                 (map (λ endpoint. A.streams endpoint.connections) start.workers.endpoints.items)
                 (O.streams start.workers.operator_endpoint.connections) start.workers.operator
                 joined.operator joined.collected.ended.items

@@ -18,7 +18,7 @@ mod starting;
 mod threads;
 mod workers;
 
-pub use applying::{ApplierStop, run_applier};
+pub use applying::{ApplierStop, FullLog, run_applier};
 pub use endpoints::{Endpoint, Endpoints};
 pub use gateway::{Finished, GatewayFault, run_gateway};
 pub use settings::GatewaySettings;

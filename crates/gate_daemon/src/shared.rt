@@ -1,4 +1,6 @@
-use gate_queue::Gate;
+ghost use Rattle.std.specs.Prelude.{◌≡◌};
+
+use gate_queue::{Closer, Gate};
 use gate_worker::WorkerLimits;
 use std::alloc::Global;
 
@@ -11,4 +13,12 @@ pub(crate) struct Shared<'s, R, K, W> {
     pub(crate) clock: &'s K,
     pub(crate) wake: &'s W,
     pub(crate) limits: WorkerLimits,
+}
+
+// What they share, with the right to close its gate.
+#[derive(Drop)]
+pub(crate) struct Closable<'a, 's, R, K, W> {
+    pub(crate) shared: &'a Shared<'s, R, K, W>,
+    pub(crate) closer: &'a Closer,
+    pub(crate) ghost of_gate: { closer.now.cell ≡ shared.now.gate.now.cell },
 }

@@ -16,23 +16,24 @@ use std::thread::{Promise, PromisedHandle, Scope, Threads};
 use std::time::Clock;
 
 // No thread could be started.
-#[derive(Clone, Copy, Debug, PartialEq, Eq)]
+#[derive(Clone, Copy)]
 pub(crate) struct Unstarted;
 
-// A worker with these limits serves these connections, from this client on.
+// A worker with these limits serves these connections by this clock, from this client on.
 #[derive(Drop)]
-pub(crate) struct Works<C> {
+pub(crate) struct Works<'a, C, K> {
     is_operator: bool,
     limits: WorkerLimits,
+    clock: &'a K,
     client: Snapshot<Client>,
     connections: Snapshot<C>,
 }
 
-impl<C: Connections> Promise<WorkerEnd> for Works<C> {
+impl<'a, C: Connections, K: Watch> Promise<WorkerEnd> for Works<'a, C, K> {
     ghost use Rattle.gate_daemon.specs.Served.{EndsSo};
 
     ghost kept_by = { λ promise end. EndsSo promise.is_operator promise.limits
-        (C.streams promise.connections.value) promise.client.value
+        (K.shows promise.clock.now) (C.streams promise.connections.value) promise.client.value
         end.reports.items end.ended end.cause };
 }
 
@@ -48,15 +49,17 @@ pub(crate) fn start_worker<
 >(
     shared: &Shared<'s, R, K, W>,
     scope: &Scope<'s, E>,
+    limits: WorkerLimits,
     client: Client,
     closer: Option<Closer>,
     endpoint: Endpoint<C, H>,
-) -> Result<PromisedHandle<WorkerEnd, Works<C>>, Unstarted>
+) -> Result<PromisedHandle<WorkerEnd, Works<'s, C, K>>, Unstarted>
     requires gate { client.gate ≡ shared.now.gate.now }
     requires closer { IfSome closer (λ c. c.cell ≡ shared.now.gate.now.cell) }
     requires fresh { client.queued ≡ [] }
     ensures role { IfOk result (λ handle. handle.promise.is_operator ≡ is_some closer) }
-    ensures limits { IfOk result (λ handle. handle.promise.limits ≡ shared.now.limits) }
+    ensures limits { IfOk result (λ handle. handle.promise.limits ≡ limits) }
+    ensures clock { IfOk result (λ handle. handle.promise.clock.now ≡ shared.now.clock.now) }
     ensures client { IfOk result (λ handle. handle.promise.client.value ≡ client) }
     ensures connections { IfOk result (λ handle.
         handle.promise.connections.value ≡ endpoint.connections) }
@@ -66,21 +69,21 @@ pub(crate) fn start_worker<
         alloc,
         gate,
         clock,
-        wake: _,
-        limits,
+        ..
     } = *shared;
     let Endpoint { connections, hold } = endpoint;
     let promise = Works {
         is_operator: closer.is_some(),
         limits,
+        clock,
         client: Snapshot::of(&client),
         connections: Snapshot::of(&connections),
     };
     let run = move || -> WorkerEnd
         requires { (client.gate ≡ gate.now) × IfSome closer (λ c. c.cell ≡ gate.now.cell)
             × (client.queued ≡ []) }
-        ensures { EndsSo (is_some closer) limits (C.streams connections) client
-            result.reports.items result.ended result.cause }
+        ensures { EndsSo (is_some closer) limits (K.shows clock.entry.now)
+            (C.streams connections) client result.reports.items result.ended result.cause }
     {
         run_worker(
             rt,
@@ -146,8 +149,7 @@ pub(crate) fn start_applier<
         alloc,
         gate,
         clock,
-        wake: _,
-        limits: _,
+        ..
     } = *shared;
     let run = move || -> (Taker, Applier, ApplierStop)
         requires { IsApplied gate.now taker applier }

@@ -1,12 +1,12 @@
 ghost use Rattle.std.specs.Prelude.{◌≡◌, IfOk, length, map};
-ghost use Rattle.gate_daemon.specs.Applying.{AreShown};
+ghost use Rattle.gate_daemon.specs.Applying.{AreShown, IsSameLog};
 ghost use Rattle.gate_daemon.specs.Answered.{reports_of_each};
 ghost use Rattle.gate_daemon.specs.inner.Collecting.{AllEnded};
 ghost use Rattle.gate_daemon.specs.inner.Joining.{AreJoined, IsStart};
 
 use crate::closing::close_gate;
 use crate::joined::Joined;
-use crate::shared::Shared;
+use crate::shared::{Closable, Shared};
 use crate::showing::{run_pages, show_close, wake_pages};
 use crate::starting::{Unstarted, start_applier};
 use crate::workers::{Workers, run_workers};
@@ -47,10 +47,11 @@ pub(crate) fn run_threads<
     board: &'s Mutex<Board>,
 ) -> Result<Joined, Unstarted>
     requires { IsStart shared.now.gate.now start }
-    ensures joined { IfOk result (AreJoined shared.now.gate.now
-        (length start.workers.endpoints.items) start.applier) }
+    ensures joined { IfOk result
+        (AreJoined shared.now.gate.now (length start.workers.endpoints.items)) }
+    ensures same { IfOk result (λ joined. IsSameLog start.applier joined.applier) }
     ensures ended { IfOk result (λ joined. AllEnded shared.now.limits
-        shared.now.gate.now
+        (K.shows shared.now.clock.now) shared.now.gate.now
         (map (λ endpoint. A.streams endpoint.connections) start.workers.endpoints.items)
         (O.streams start.workers.operator_endpoint.connections) start.workers.operator
         joined.operator joined.collected.ended.items
@@ -61,23 +62,27 @@ pub(crate) fn run_threads<
     let Start {
         taker,
         applier,
-        mut closer,
+        closer,
         workers,
         pages,
         hold,
     } = start;
     let Shared { rt, alloc, .. } = *shared;
+    let closable = &Closable {
+        shared,
+        closer: &closer,
+    };
     let Ok(applies) = start_applier(shared, scope, taker, applier, hold, board) else {
         drop((workers, pages));
         return Err(Unstarted);
     };
     let Ok(shows) = scope.spawn(move || run_pages(rt, alloc, pages, board)) else {
-        close_gate(shared, &mut closer);
+        close_gate(closable);
         drop((applies.join(rt), workers));
         return Err(Unstarted);
     };
-    let (collected, cause) = run_workers(shared, scope, workers, &mut closer);
-    let notice = close_gate(shared, &mut closer);
+    let (collected, cause) = run_workers(closable, scope, workers);
+    let notice = close_gate(closable);
     let (mut taker, applier, _) = applies.join(rt);
     taker.learn(&notice);
     let last = show_close(rt, alloc, &applier, board, notice.moment());

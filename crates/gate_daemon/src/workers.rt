@@ -4,9 +4,9 @@ ghost use Rattle.gate_daemon.specs.inner.Joining.{AreCollected, AreNew, HasRoom}
 use crate::closing::close_and_wake;
 use crate::collected::Collected;
 use crate::endpoints::Endpoint;
-use crate::shared::Shared;
+use crate::shared::Closable;
 use crate::starting::{Unstarted, start_worker};
-use gate_queue::{Client, Closer};
+use gate_queue::Client;
 use gate_worker::{Cause, Connections, Hold, Wake, Watch, WorkerLimits};
 use std::sync::Wait;
 use std::thread::{Scope, Threads};
@@ -48,33 +48,29 @@ fn run_operator<
     H: Hold + Send + Drop + 's,
     W: Wake,
 >(
-    shared: &Shared<'s, R, K, W>,
+    closable: &Closable<'_, 's, R, K, W>,
     scope: &Scope<'s, E>,
     client: Client,
     endpoint: Endpoint<C, H>,
-    closer: &mut Closer,
     collected: &mut Collected,
 ) -> Option<Cause>
-    requires gate { client.gate ≡ shared.now.gate.now }
-    requires closer { closer.old.cell ≡ shared.now.gate.now.cell }
+    requires gate { client.gate ≡ closable.now.shared.now.gate.now }
     requires fresh { client.queued ≡ [] }
     requires room { HasRoom 1 collected.old }
-    ensures closer { closer.new.cell ≡ shared.now.gate.now.cell }
-    ensures ends { AreCollected shared.now.limits shared.now.gate.now [] client
+    ensures ends { let shared = closable.now.shared.now in
+        AreCollected shared.limits (K.shows shared.clock.now) shared.gate.now [] client
         (C.streams endpoint.connections) collected.old collected.new result }
 {
-    let spare = Some(closer.another());
-    let of_operator = Shared {
-        limits: unlimited(shared.limits),
-        ..*shared
-    };
-    match start_worker(&of_operator, scope, client, spare, endpoint) {
+    let shared = closable.shared;
+    let limits = unlimited(shared.limits);
+    let closer = Some(closable.closer.another());
+    match start_worker(shared, scope, limits, client, closer, endpoint) {
         Ok(handle) => {
             let end = handle.join(shared.rt);
             let cause = end.cause;
             match cause {
                 Cause::Closing | Cause::TooManySessions | Cause::OutOfMemory => {
-                    close_and_wake(shared, closer);
+                    close_and_wake(closable);
                 }
                 Cause::NoMoreConnections => {}
             }
@@ -82,7 +78,7 @@ fn run_operator<
             Some(cause)
         }
         Err(Unstarted) => {
-            close_and_wake(shared, closer);
+            close_and_wake(closable);
             None
         }
     }
@@ -101,17 +97,15 @@ pub(crate) fn run_workers<
     K: Watch + Sync,
     W: Wake,
 >(
-    shared: &Shared<'s, R, K, W>,
+    closable: &Closable<'_, 's, R, K, W>,
     scope: &Scope<'s, E>,
     workers: Workers<A, O, H>,
-    closer: &mut Closer,
 ) -> (Collected, Option<Cause>)
-    requires new { AreNew shared.now.gate.now
+    requires new { AreNew closable.now.shared.now.gate.now
         workers.clients.items (length workers.endpoints.items) workers.operator }
-    requires closer { closer.old.cell ≡ shared.now.gate.now.cell }
     requires room { HasRoom (length workers.clients.items + 1) workers.collected }
-    ensures closer { closer.new.cell ≡ shared.now.gate.now.cell }
-    ensures ends { AreCollected shared.now.limits shared.now.gate.now
+    ensures ends { let shared = closable.now.shared.now in
+        AreCollected shared.limits (K.shows shared.clock.now) shared.gate.now
         (map (λ endpoint. A.streams endpoint.connections) workers.endpoints.items)
         workers.operator (O.streams workers.operator_endpoint.connections)
         workers.collected result.0 result.1 }
@@ -124,20 +118,14 @@ pub(crate) fn run_workers<
         mut collected,
     } = workers;
     let Some(client) = clients.pop() else {
-        let cause = run_operator(
-            shared,
-            scope,
-            operator,
-            operator_endpoint,
-            closer,
-            &mut collected,
-        );
+        let cause = run_operator(closable, scope, operator, operator_endpoint, &mut collected);
         return (collected, cause);
     };
     let Some(endpoint) = endpoints.pop() else {
         unreachable!()
     };
-    match start_worker(shared, scope, client, None, endpoint) {
+    let shared = closable.shared;
+    match start_worker(shared, scope, shared.limits, client, None, endpoint) {
         Ok(handle) => {
             let others = Workers {
                 clients,
@@ -146,12 +134,12 @@ pub(crate) fn run_workers<
                 operator_endpoint,
                 collected,
             };
-            let (mut collected, cause) = run_workers(shared, scope, others, closer);
+            let (mut collected, cause) = run_workers(closable, scope, others);
             collected.add(handle.join(shared.rt));
             (collected, cause)
         }
         Err(Unstarted) => {
-            close_and_wake(shared, closer);
+            close_and_wake(closable);
             (collected, None)
         }
     }

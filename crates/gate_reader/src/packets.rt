@@ -1,9 +1,9 @@
 ghost use Rattle.std.specs.Prelude.{◌≡◌, ◌<◌, ◌≤◌, [], length, IfOk, IfErr, OnOk, OnErr, IfSome, Some, None, ⊤};
 ghost use Rattle.gate_reader.specs.Sink.{Delivers, FailsOnce};
 ghost use Rattle.gate_reader.specs.Report.{AreOpen};
-ghost use Rattle.gate_reader.specs.Session.{client_view, parties, IsSession, AnswersFront};
+ghost use Rattle.gate_reader.specs.Session.{client_view, parties, AnswersFront};
 ghost use Rattle.gate_reader.specs.Packets.{greeting, packets, IsPacketSession};
-ghost use Rattle.gate_reader.specs.inner.Progress.{AnswersOneBlock, IsLastBlock, stop_by, ServesFront, AreLast};
+ghost use Rattle.gate_reader.specs.inner.Progress.{AnswersOneBlock, IsLastBlock, stop_by, ServesFront, AreLast, Runs};
 
 use crate::clock::Clock;
 use crate::read_buffer::ReadBuffer;
@@ -27,10 +27,10 @@ fn serve_block<C: Clock, S: Submit>(
 ) -> Result<Answer, PacketFault>
     ensures ok { let view = client_view S.Submit (S.named client.old) in
         IfOk result (λ answer. AnswersOneBlock view greatest_age
-        (parties client.old (C.state clock.old).readings) block.now answer
-        (parties client.new (C.state clock.new).readings)) }
+        (parties client.old (C.state clock.old)) block.now answer
+        (parties client.new (C.state clock.new))) }
     ensures err { IfErr result (λ fault. IsLastBlock greatest_age block.now fault
-        (parties client.old (C.state clock.old).readings) (parties client.new (C.state clock.new).readings)) }
+        (parties client.old (C.state clock.old)) (parties client.new (C.state clock.new))) }
     ensures named { S.named client.new ≡ S.named client.old }
     ensures keeps { S.keeps client.old client.new }
 {
@@ -68,11 +68,11 @@ fn serve_front<C: Clock, S: Submit>(
     requires open { AreOpen answers.old.items }
     ensures ok { let view = client_view S.Submit (S.named client.old) in
         IfOk result (λ left. ServesFront view (packets view items greatest_age) items
-        (parties client.old (C.state clock.old).readings) (parties client.new (C.state clock.new).readings)
+        (parties client.old (C.state clock.old)) (parties client.new (C.state clock.new))
         answers.old.items answers.new.items bytes.now (AreLast bytes.now left) None) }
     ensures err { let view = client_view S.Submit (S.named client.old) in
         IfErr result (λ stop. ServesFront view (packets view items greatest_age) items
-        (parties client.old (C.state clock.old).readings) (parties client.new (C.state clock.new).readings)
+        (parties client.old (C.state clock.old)) (parties client.new (C.state clock.new))
         answers.old.items answers.new.items bytes.now (λ _. ⊤) (Some stop)) }
     ensures named { S.named client.new ≡ S.named client.old }
     ensures keeps { S.keeps client.old client.new }
@@ -124,8 +124,8 @@ fn read_packets<R: Source, C: Clock, S: Submit>(
 ) -> Stop
     requires none { answers.old.items ≡ [] }
     ensures served { let view = client_view S.Submit (S.named client.old) in
-        IsSession view (packets view limits.items greatest_age) limits
-        (parties client.old (C.state clock.old).readings) (parties client.new (C.state clock.new).readings)
+        Runs view (packets view limits.items greatest_age) limits
+        (parties client.old (C.state clock.old)) (parties client.new (C.state clock.new))
         (R.state reader.old) (R.state reader.new) answers.new.items result }
     ensures named { S.named client.new ≡ S.named client.old }
     ensures keeps { S.keeps client.old client.new }
@@ -200,7 +200,7 @@ pub fn serve_packets<R: Source, W: Sink, C: Clock, S: Submit>(
 ) -> Report
     ensures session { let view = client_view S.Submit (S.named client.old) in
         IsPacketSession view limits greatest_age
-        (parties client.old (C.state clock.old).readings) (parties client.new (C.state clock.new).readings)
+        (parties client.old (C.state clock.old)) (parties client.new (C.state clock.new))
         (R.state reader.old) (R.state reader.new) (W.state writer.old) (W.state writer.new)
         result.answers result.stop }
     // Where the reader's bytes are known, the answers are those of the packets at their front.

@@ -1,5 +1,5 @@
 -- How the steps before a daemon serves end.
-use Rattle.std.proofs.Common.{◌≡◌, ℕ, ◌<◌, ◌≤◌, ◌⊎◌, List, length, refl, sym, subst, inl, inr}
+use Rattle.std.proofs.Common.{◌≡◌, ℕ, ◌<◌, ◌≤◌, ◌⊎◌, List, length, inl, inr}
 use Rattle.std.specs.Prelude.{Result, Ok, Err}
 use Rattle.toml.specs.Data.{Members}
 use Rattle.gate_config.specs.declared.config.Config.{Config}
@@ -8,15 +8,8 @@ use Rattle.gate_config.specs.declared.fault.ConfigFault.TheVariants as config_fa
 use Rattle.gate_config.specs.Check.{IsFirstFault}
 use Rattle.gate_config.specs.Config.{IsDocument, IsConfigOf}
 use Rattle.gate_config.specs.Document.{document_checks}
-use Rattle.gate_reader.specs.Sink.{SinkState, FailsOnce}
-use Rattle.gate_serve.specs.declared.fault.ServeFault.{ServeFault}
-use Rattle.gate_serve.specs.declared.fault.ServeFault.TheVariants as fault
-use Rattle.gate_serve.specs.BeforeServing.{Configures, IsNoDocument, IsWriteEnd}
+use Rattle.gate_serve.specs.BeforeServing.{Configures, IsNoDocument}
 use Rattle.gate_serve.specs.inner.Reading.{IsReadFault}
-
--- no memory for what was to be written
-pub unwritten : (state : SinkState) (found : ServeFault) → found ≡ fault.OutOfMemory → IsWriteEnd state state found
-unwritten state found same = subst (λ (f : ServeFault). IsWriteEnd state state f) (sym same) (inl refl)
 
 abbrev read : Config → Result Config ConfigFault
 read config = Ok config

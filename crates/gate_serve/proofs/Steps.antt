@@ -1,6 +1,6 @@
 -- The steps of a daemon: how they end, and what they print in all.
 use Rattle.std.proofs.Common.{◌≡◌, ℕ, ◌<◌, ◌≤◌, List, [], ◌++◌, length, replicate, Option, Some, None, refl, sym, ◌∙◌, subst, inl, inr}
-use Rattle.std.specs.Prelude.{Result, Ok, Err, IfOk, IfErr, IfSome, IsOk}
+use Rattle.std.specs.Prelude.{Result, Ok, Err, IfOk, IfErr, IfSome, IsOk, ⊤}
 use Rattle.std.specs.declared.net.socket_addr.SocketAddr.{SocketAddr}
 use Rattle.std.proofs.lemmas.List.{append-nil}
 use Rattle.gate_model.specs.declared.object.ObjectLine.{ObjectLine}
@@ -25,8 +25,8 @@ use Rattle.gate_daemon.specs.declared.gateway.GatewayFault.TheVariants as gatewa
 use Rattle.gate_serve.specs.declared.fault.ServeFault.{ServeFault}
 use Rattle.gate_serve.specs.declared.fault.ServeFault.TheVariants as fault
 use Rattle.gate_serve.specs.BeforeServing.{Configures, AreBoundAs, IsAddressIn, IsBindEnd, IsConfigEnd, IsWriteEnd, address_lines}
-use Rattle.gate_serve.specs.Serve.{ServeEnds, FollowsAddresses, IsRun, page_of, worker_limits}
-use Rattle.gate_serve.specs.inner.Serving.{HasStopped, IsStopCause, IsFaultOf, IsPageGiven, IsCloseEnd, IsLoglessEnd, IsWholeEnd, IsRunEnd, RunsOn, HasRun, fault_after, reports_after}
+use Rattle.gate_serve.specs.Serve.{ServeEnds, FollowsAddresses, IsRun, page_of, worker_limits, addresses_alone, log_so_far, log_whole}
+use Rattle.gate_serve.specs.inner.Serving.{HasStopped, IsStopCause, IsPageGiven, IsCloseEnd, IsWholeEnd, IsRunEnd, RunsOn, HasRun, fault_after, reports_after}
 
 -- nothing was printed before what comes after the addresses
 delivers_after : (before middle after : SinkState) (x y : List ℕ) → Delivers before middle x → Delivers middle after y → Delivers before after (x ++ y)
@@ -116,13 +116,13 @@ faults_of ran workers of_workers capacity of_capacity limit of_limit table of_ta
 pub has_run : (ran : Result Finished GatewayFault) (config : Config) (settings : GatewaySettings) {agents : List (Option (List (List ℕ)))} → replicate config.workers None ≡ agents
     → settings.workers ≡ config.workers → settings.worker ≡ worker_limits config.limits → settings.table ≡ config.table → settings.limit ≡ config.limits.limit
     → IfOk ran (λ finished. HoldsAll settings.workers (queued_by_each (reports_of_each finished.reports.items)) (items_of_records finished.closed.applier.records))
-    → IfOk ran (λ finished. AllServed settings.worker agents None (reports_of_each finished.reports.items) finished.operator (items_of_records finished.closed.applier.records))
+    → IfOk ran (λ finished. AllServed settings.worker (λ moment. ⊤) agents None (reports_of_each finished.reports.items) finished.operator (items_of_records finished.closed.applier.records))
     → IfOk ran (λ finished. finished.closed.applier.table ≡ settings.table) → IfOk ran (λ finished. finished.closed.applier.limit ≡ settings.limit) → IfOk ran (HasRun config)
 has_run (Ok finished) config settings {agents} unknown workers worker table limit holds served of_table of_limit = record {
   holds = subst (λ (n : ℕ). HoldsAll n (queued_by_each (reports_of_each finished.reports.items)) (items_of_records finished.closed.applier.records)) workers holds;
-  served = subst (λ (a : List (Option (List (List ℕ)))). AllServed (worker_limits config.limits) a None (reports_of_each finished.reports.items) finished.operator
+  served = subst (λ (a : List (Option (List (List ℕ)))). AllServed (worker_limits config.limits) (λ moment. ⊤) a None (reports_of_each finished.reports.items) finished.operator
       (items_of_records finished.closed.applier.records)) (sym unknown)
-      (subst (λ (l : WorkerLimits). AllServed l agents None (reports_of_each finished.reports.items) finished.operator (items_of_records finished.closed.applier.records)) worker served);
+      (subst (λ (l : WorkerLimits). AllServed l (λ moment. ⊤) agents None (reports_of_each finished.reports.items) finished.operator (items_of_records finished.closed.applier.records)) worker served);
   table = of_table ∙ table;
   limit = of_limit ∙ limit;
 }
@@ -143,15 +143,10 @@ has_stopped workers capacity limit table gateway_fault.Spawn known = tt
 has_stopped workers capacity limit table (gateway_fault.CloseAll gate drain reports) known =
     stop_cause workers drain.cause (queued_by_each (reports_of_each reports.items)) drain.applier known.fault
 
--- it has no log
-logless_end : (config : Config) (before middle after : SinkState) (reports : List (ℕ × List Report)) (found : ServeFault) → FollowsAddresses config before middle [] → IsLoglessEnd middle after found → RunsOn config before after reports (Some found)
-logless_end config before middle after reports fault.Unreadable printed k = k
-logless_end config before middle after reports (fault.Config text) printed k = k
-logless_end config before middle after reports (fault.Bind text) printed k = k
-logless_end config before middle after reports fault.LogFull printed k = absurd k
-logless_end config before middle after reports fault.OutOfMemory printed k = inr (inr (inl (alone config before middle after printed k)))
-logless_end config before middle after reports fault.Spawn printed k = alone config before middle after printed k
-logless_end config before middle after reports fault.WriteFault printed k = absurd k
+-- it has no log, since memory ran out
+logless_end : (config : Config) (before middle after : SinkState) (found : ServeFault) → FollowsAddresses config before middle [] → (found ≡ fault.OutOfMemory) × (after ≡ middle) → RunsOn config before after [] (Some found)
+logless_end config before middle after found printed (is, same) =
+    subst (λ (f : ServeFault). RunsOn config before after [] (Some f)) (sym is) (inr (inr (addresses_alone (alone config before middle after printed same))))
 
 -- its log page can't be written
 page_end : (config : Config) (before middle after : SinkState) (reports : List (ℕ × List Report)) (found : ServeFault) → FollowsAddresses config before middle [] → IsWriteEnd middle after found → RunsOn config before after reports (Some found)
@@ -159,7 +154,7 @@ page_end config before middle after reports fault.Unreadable printed k = k
 page_end config before middle after reports (fault.Config text) printed k = k
 page_end config before middle after reports (fault.Bind text) printed k = k
 page_end config before middle after reports fault.LogFull printed k = absurd k
-page_end config before middle after reports fault.OutOfMemory printed (inl k) = inr (inr (inl (alone config before middle after printed k)))
+page_end config before middle after reports fault.OutOfMemory printed (inl k) = inr (inr (addresses_alone (alone config before middle after printed k)))
 page_end config before middle after reports fault.OutOfMemory printed (inr k) = inr (inl (fails_after config before middle after printed k))
 page_end config before middle after reports fault.Spawn printed k = absurd k
 page_end config before middle after reports fault.WriteFault printed k = fails_after config before middle after printed k
@@ -191,7 +186,7 @@ whole_end finished config before middle after found printed ran (inl k) =
     page_end config before middle after (reports_of_each finished.reports.items) found printed k
 whole_end finished config before middle after found printed ran (inr (same, given)) =
     subst (λ (f : ServeFault). RunsOn config before after (reports_of_each finished.reports.items) (Some f)) (sym (operators_fault finished.operator found same))
-    (inr (inr (inr (inr (whole_run finished config before middle after printed ran given)))))
+    (inr (inr (log_whole (whole_run finished config before middle after printed ran given))))
 
 -- what it prints where it could not apply all
 undrained_end : (why : CloseAllCause) (drained : ApplierView) (config : Config) (before middle after : SinkState) (reports : List (ℕ × List Report)) (found : ServeFault) → FollowsAddresses config before middle []
@@ -202,26 +197,27 @@ undrained_end why drained config before middle after reports (fault.Bind text) p
 undrained_end why drained config before middle after reports fault.LogFull printed of_table of_limit known (is, given) =
     let d = subst (λ (cause : CloseAllCause). IsDrainFault config.workers cause (queued_by_each reports) drained) is known in
     record { records = drained.records; none_lost = d.0; count = d.1 ∙ of_limit; printed = page_after config before middle after drained printed of_table given }
-undrained_end why drained config before middle after reports fault.OutOfMemory printed of_table of_limit known (inl k) = inr (inr (inl (alone config before middle after printed k)))
+undrained_end why drained config before middle after reports fault.OutOfMemory printed of_table of_limit known (inl k) = inr (inr (addresses_alone (alone config before middle after printed k)))
 undrained_end why drained config before middle after reports fault.OutOfMemory printed of_table of_limit known (inr (inl k)) = inr (inl (fails_after config before middle after printed k))
 undrained_end why drained config before middle after reports fault.OutOfMemory printed of_table of_limit known (inr (inr (is, given))) =
     let d = subst (λ (cause : CloseAllCause). IsDrainFault config.workers cause (queued_by_each reports) drained) is known in
-    inr (inr (inr (inl (record {
+    inr (inr (log_so_far (record {
       records = drained.records;
       none_lost = d.0;
       count = subst (λ (n : ℕ). length drained.records < n) of_limit d.1;
       printed = page_after config before middle after drained printed of_table given;
-    }))))
+    })))
 undrained_end why drained config before middle after reports fault.Spawn printed of_table of_limit known k = absurd k
 undrained_end why drained config before middle after reports fault.WriteFault printed of_table of_limit known k = fails_after config before middle after printed k
 
 -- it ends with a fault
 fault_end : (why : GatewayFault) (config : Config) (before middle after : SinkState) (found : ServeFault) → FollowsAddresses config before middle []
     → IsGatewayFault config.workers config.limits.capacity config.limits.limit config.table why → IsRunEnd (Err why) middle after found → RunsOn config before after (reports_after (Err why)) (Some found)
-fault_end (gateway_fault.Queue cause) config before middle after found printed known k = logless_end config before middle after [] found printed k
-fault_end (gateway_fault.Applier cause) config before middle after found printed known k = logless_end config before middle after [] found printed k
-fault_end gateway_fault.OutOfMemory config before middle after found printed known k = logless_end config before middle after [] found printed k
-fault_end gateway_fault.Spawn config before middle after found printed known k = logless_end config before middle after [] found printed k
+fault_end (gateway_fault.Queue cause) config before middle after found printed known k = logless_end config before middle after found printed k
+fault_end (gateway_fault.Applier cause) config before middle after found printed known k = logless_end config before middle after found printed k
+fault_end gateway_fault.OutOfMemory config before middle after found printed known k = logless_end config before middle after found printed k
+fault_end gateway_fault.Spawn config before middle after found printed known (is, same) =
+    subst (λ (f : ServeFault). RunsOn config before after [] (Some f)) (sym is) (alone config before middle after printed same)
 fault_end (gateway_fault.CloseAll gate drain reports) config before middle after found printed known k =
     undrained_end drain.cause drain.applier config before middle after (reports_of_each reports.items) found printed known.of_table known.of_limit known.fault k
 

@@ -1,6 +1,6 @@
 -- What the daemon prints, how it ends, and what it reports: `ServeEnds`, `IsServeRun`. Of its file and of its
 -- sockets nothing is known: a file holds some bytes, and a socket reports an address of its own.
-use Rattle.std.specs.Prelude.{◌≡◌, ◌⊎◌, ◌<◌, ◌≤◌, ℕ, List, [], ◌++◌, length, replicate, Option, Some, None}
+use Rattle.std.specs.Prelude.{◌≡◌, ◌⊎◌, ◌<◌, ◌≤◌, ℕ, List, [], ◌++◌, length, replicate, Option, Some, None, ⊤}
 use Rattle.std.specs.declared.net.socket_addr.SocketAddr.{SocketAddr}
 use Rattle.gate_model.specs.declared.object.ObjectLine.{ObjectLine}
 use Rattle.gate_model.specs.declared.record.Record.{Record}
@@ -44,12 +44,12 @@ worker_limits limits = record {
 
 -- a daemon of this configuration, whose clients have these reports, ran until it was closed: its addresses were printed,
 -- and then the log page of records that hold all that was answered with Queued. Its workers served as it is configured;
--- of what their connections sent nothing is known
+-- of what their connections sent and their clock showed nothing is known
 pub record IsRun (config : Config) (reports : List (ℕ × List Report)) (before after : SinkState) : Type 0 where
   pub records : List Record
   pub operator : Cause
   pub holds : HoldsAll config.workers (queued_by_each reports) (items_of_records records)
-  pub served : AllServed (worker_limits config.limits) (replicate config.workers None) None reports operator
+  pub served : AllServed (worker_limits config.limits) (λ moment. ⊤) (replicate config.workers None) None reports operator
       (items_of_records records)
   pub few : length records ≤ config.limits.limit
   pub printed : FollowsAddresses config before after (page_of config.table records)
@@ -68,13 +68,13 @@ pub record IsUnfinished (Count : ℕ → Type 0) (config : Config) (reports : Li
 abbrev pub IsFull : Config → List (ℕ × List Report) → SinkState → SinkState → Type 0
 IsFull config reports before after = IsUnfinished (λ count. count ≡ config.limits.limit) config reports before after
 
--- memory ran out for a daemon of this configuration: after its addresses nothing was printed; or the log page of fewer
--- records than the limit, and items are left; or it closed itself, and the log page of all records was printed
-abbrev pub IsStarved : Config → List (ℕ × List Report) → SinkState → SinkState → Type 0
-IsStarved config reports before after =
-    FollowsAddresses config before after []
-    ⊎ IsUnfinished (λ count. count < config.limits.limit) config reports before after
-    ⊎ IsRun config reports before after
+-- memory ran out for a daemon of this configuration: it had printed its addresses alone; or also the log page of fewer
+-- records than the limit, with items left; or it closed itself, and had printed the log page of all records
+pub data IsStarved (config : Config) (reports : List (ℕ × List Report)) (before after : SinkState) : Type 0 where
+  addresses_alone : FollowsAddresses config before after [] → IsStarved config reports before after
+  log_so_far : IsUnfinished (λ count. count < config.limits.limit) config reports before after
+      → IsStarved config reports before after
+  log_whole : IsRun config reports before after → IsStarved config reports before after
 
 -- some text configures a daemon, and this holds for its configuration
 pub record IsServed (Ran : Config → Type 0) : Type 0 where

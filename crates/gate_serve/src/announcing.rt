@@ -1,32 +1,22 @@
-ghost use Rattle.std.specs.Prelude.{◌≡◌, ◌⊎◌, ◌++◌, IfOk, IfErr, OnOk};
+ghost use Rattle.std.specs.Prelude.{◌≡◌, ◌++◌, IfOk, IfErr, OnOk};
 ghost use Rattle.gate_reader.specs.Sink.{Delivers};
 ghost use Rattle.gate_serve.specs.BeforeServing.{address_line, address_lines, IsWriteEnd};
 
 use crate::fault::ServeFault;
 use gate_reader::{Sink, put_last};
 use std::alloc::{AllocError, Global};
-use std::io;
 use std::io::ErrorKind;
 use std::net::SocketAddr;
 
-// The fault that a failed write or flush is: out of memory for what was written, or a failed output.
-fn write_fault(error: &io::Error) -> ServeFault
-    ensures { (result ≡ ServeFault.OutOfMemory) ⊎ (result ≡ ServeFault.WriteFault) }
-{
-    match error.kind() {
-        ErrorKind::OutOfMemory => ServeFault::OutOfMemory,
-        _ => ServeFault::WriteFault,
-    }
-}
-
-/// Prints a text, and flushes.
+/// Prints a text, and flushes. The fault is out of memory for what was written, or a failed output.
 pub(crate) fn print<W: Sink>(output: &mut W, text: &[u8]) -> Result<(), ServeFault>
     ensures ok { OnOk result (Delivers (W.state output.old) (W.state output.new) text.now) }
     ensures err { IfErr result (IsWriteEnd (W.state output.old) (W.state output.new)) }
 {
     match put_last(output, text) {
         Ok(()) => Ok(()),
-        Err(error) => Err(write_fault(&error)),
+        Err(error) if error.kind() == ErrorKind::OutOfMemory => Err(ServeFault::OutOfMemory),
+        Err(_) => Err(ServeFault::WriteFault),
     }
 }
 

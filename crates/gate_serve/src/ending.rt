@@ -3,7 +3,7 @@ ghost use Rattle.gate_reader.specs.Sink.{SinkState, Delivers};
 ghost use Rattle.gate_daemon.specs.Answered.{reports_of_each};
 ghost use Rattle.gate_serve.specs.BeforeServing.{IsWriteEnd};
 ghost use Rattle.gate_serve.specs.Serve.{page_of};
-ghost use Rattle.gate_serve.specs.inner.Serving.{HasStopped, IsCloseEnd, IsFaultOf, IsPageGiven, IsRunEnd, IsStopCause, IsWholeEnd, fault_after, reports_after};
+ghost use Rattle.gate_serve.specs.inner.Serving.{HasStopped, IsCloseEnd, IsPageGiven, IsRunEnd, IsStopCause, IsWholeEnd, fault_after, reports_after};
 
 use crate::announcing::print;
 use crate::fault::ServeFault;
@@ -27,18 +27,6 @@ fn print_log<W: Sink>(alloc: Global, applier: &Applier, output: &mut W) -> Resul
     print(output, &page)
 }
 
-// The fault of a daemon whose gateway did not apply all.
-fn fault_of(cause: CloseAllCause) -> ServeFault
-    requires { IsStopCause cause }
-    ensures { IsFaultOf cause result }
-{
-    match cause {
-        CloseAllCause::LogFull => ServeFault::LogFull,
-        CloseAllCause::OutOfMemory => ServeFault::OutOfMemory,
-        CloseAllCause::Missing(_) | CloseAllCause::NotClosing => unreachable!(),
-    }
-}
-
 // Prints the log page of a gateway that did not apply all.
 fn end_early<W: Sink>(alloc: Global, fault: CloseAllFault, output: &mut W) -> ServeFault
     requires { IsStopCause fault.cause }
@@ -48,9 +36,11 @@ fn end_early<W: Sink>(alloc: Global, fault: CloseAllFault, output: &mut W) -> Se
     let printed = print_log(alloc, &fault.applier, output);
     let cause = fault.cause;
     drop(fault);
-    match printed {
-        Ok(()) => fault_of(cause),
-        Err(fault) => fault,
+    match (printed, cause) {
+        (Err(fault), _) => fault,
+        (Ok(()), CloseAllCause::LogFull) => ServeFault::LogFull,
+        (Ok(()), CloseAllCause::OutOfMemory) => ServeFault::OutOfMemory,
+        (Ok(()), CloseAllCause::Missing(_) | CloseAllCause::NotClosing) => unreachable!(),
     }
 }
 

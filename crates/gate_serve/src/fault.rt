@@ -1,8 +1,7 @@
-ghost use Rattle.std.specs.Prelude.{◌≡◌, ◌++◌, OnOk, OnErr, codes};
-ghost use Rattle.gate_reader.specs.Sink.{Delivers, FailsOnce};
+ghost use Rattle.std.specs.Prelude.{◌≡◌};
 
 use gate_model::Text;
-use gate_reader::{Fault, Sink, put_last};
+use gate_reader::{Fault, Sink, put_last, put_line};
 use std::alloc::AllocError;
 use std::io;
 use thiserror::Error;
@@ -43,17 +42,6 @@ impl From<AllocError> for ServeFault {
     }
 }
 
-// Writes a line of two texts, and flushes.
-fn report_text<E: Sink>(errors: &mut E, before: &[u8], text: &[u8]) -> io::Result<()>
-    ensures ok { OnOk result (Delivers (E.state errors.old) (E.state errors.new)
-        (before.now ++ text.now ++ codes "\n")) }
-    ensures err { OnErr result (FailsOnce (E.state errors.old) (E.state errors.new)) }
-{
-    errors.put(before)?;
-    errors.put(text)?;
-    put_last(errors, b"\n")
-}
-
 impl Fault for ServeFault {
     ghost use Rattle.gate_serve.specs.Fault.{status_of, message_of};
 
@@ -78,8 +66,8 @@ impl Fault for ServeFault {
     fn report<E: Sink>(&self, errors: &mut E) -> io::Result<()> {
         match self {
             ServeFault::Unreadable => put_last(errors, b"nscagate: config: unreadable\n"),
-            ServeFault::Config(text) => report_text(errors, b"nscagate: config: ", text.bytes()),
-            ServeFault::Bind(address) => report_text(errors, b"nscagate: bind ", address.bytes()),
+            ServeFault::Config(text) => put_line(errors, b"nscagate: config: ", text.bytes()),
+            ServeFault::Bind(address) => put_line(errors, b"nscagate: bind ", address.bytes()),
             ServeFault::LogFull => put_last(errors, b"nscagate: LogFull\n"),
             ServeFault::OutOfMemory => put_last(errors, b"nscagate: OutOfMemory\n"),
             ServeFault::Spawn => put_last(errors, b"nscagate: Spawn\n"),

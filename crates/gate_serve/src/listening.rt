@@ -38,18 +38,24 @@ fn is_bound_as(configured: SocketAddr, address: SocketAddr) -> bool
         && (configured.port() == 0 || address.port() == configured.port())
 }
 
-fn bind_socket<R: Net<Listener = TcpListener, Stream = TcpStream>>(
-    rt: &R,
-    socket: SocketAddr,
-) -> io::Result<Bound<TcpListener>>
+// Binds a socket, and opens a port at this very listener.
+fn bind_socket<
+    R: Net<Listener = TcpListener, Stream = TcpStream>,
+    P: Drop,
+    F: FnOnce(TcpListener) -> io::Result<P> + Drop,
+>(rt: &R, socket: SocketAddr, make: F) -> io::Result<Bound<P>>
+    requires { F.IsAlwaysCallable make }
     ensures { IfOk result (λ bound. IsBoundAs socket bound.address) }
 {
-    let port = TcpListener::bind(rt, socket)?;
-    let address = port.local_addr()?;
+    let listener = TcpListener::bind(rt, socket)?;
+    let address = listener.local_addr()?;
     if !is_bound_as(socket, address) {
         return Err(io::Error::from(ErrorKind::AddrNotAvailable));
     }
-    Ok(Bound { port, address })
+    Ok(Bound {
+        port: make(listener)?,
+        address,
+    })
 }
 
 // The fault of an address that can't be bound for this cause.
@@ -65,6 +71,22 @@ fn bind_fault(alloc: Global, address: &Address, error: io::Error) -> ServeFault
     }
 }
 
+// The same at an address of the configuration.
+fn bind<
+    R: Net<Listener = TcpListener, Stream = TcpStream>,
+    P: Drop,
+    F: FnOnce(TcpListener) -> io::Result<P> + Drop,
+>(rt: &R, alloc: Global, address: &Address, make: F) -> Result<Bound<P>, ServeFault>
+    requires { F.IsAlwaysCallable make }
+    ensures bound { IfOk result (λ bound. IsBoundAs address.now.socket bound.address) }
+    ensures err { IfErr result (IsBindEnd (λ text. text ≡ address.now.text)) }
+{
+    match bind_socket(rt, address.socket, make) {
+        Ok(bound) => Ok(bound),
+        Err(error) => Err(bind_fault(alloc, address, error)),
+    }
+}
+
 // Whether the system grants so many descriptors: they are those of peers, once the daemon serves.
 fn grants_descriptors(alloc: Global, listener: &TcpListener, count: u32) -> io::Result<()> {
     let mut taken = Vec::with_capacity(alloc, count as usize)?;
@@ -72,50 +94,6 @@ fn grants_descriptors(alloc: Global, listener: &TcpListener, count: u32) -> io::
         taken.push(listener.try_clone()?)?;
     }
     Ok(())
-}
-
-fn bind_agents<R: Net<Listener = TcpListener, Stream = TcpStream>>(
-    rt: &R,
-    alloc: Global,
-    socket: SocketAddr,
-    workers: u32,
-) -> io::Result<Bound<AgentsPort>>
-    ensures { IfOk result (λ bound. IsBoundAs socket bound.address) }
-{
-    let Bound { port, address } = bind_socket(rt, socket)?;
-    grants_descriptors(alloc, &port, workers.saturating_add(SPARE_DESCRIPTORS))?;
-    Ok(Bound {
-        port: AgentsPort::new(port)?,
-        address,
-    })
-}
-
-fn bind_operators<R: Net<Listener = TcpListener, Stream = TcpStream> + Clock>(
-    rt: &R,
-    alloc: Global,
-    socket: SocketAddr,
-) -> io::Result<Bound<OperatorsPort>>
-    ensures { IfOk result (λ bound. IsBoundAs socket bound.address) }
-{
-    let Bound { port, address } = bind_socket(rt, socket)?;
-    Ok(Bound {
-        port: OperatorsPort::new(rt, alloc, port)?,
-        address,
-    })
-}
-
-fn bind_pages<R: Net<Listener = TcpListener, Stream = TcpStream> + Clock>(
-    rt: &R,
-    alloc: Global,
-    socket: SocketAddr,
-) -> io::Result<Bound<PagesPort>>
-    ensures { IfOk result (λ bound. IsBoundAs socket bound.address) }
-{
-    let Bound { port, address } = bind_socket(rt, socket)?;
-    Ok(Bound {
-        port: PagesPort::new(rt, alloc, port)?,
-        address,
-    })
 }
 
 /// Binds the addresses of agents, of operators and of pages, in this order, each once.
@@ -133,18 +111,17 @@ pub(crate) fn listen<R: Net<Listener = TcpListener, Stream = TcpStream> + Clock>
 
     ensures err { IfErr result (IsBindEnd (IsAddressIn config.now)) }
 {
-    let agents = match bind_agents(rt, alloc, config.agents.socket, config.workers) {
-        Ok(bound) => bound,
-        Err(error) => return Err(bind_fault(alloc, &config.agents, error)),
-    };
-    let operators = match bind_operators(rt, alloc, config.operators.socket) {
-        Ok(bound) => bound,
-        Err(error) => return Err(bind_fault(alloc, &config.operators, error)),
-    };
-    let pages = match bind_pages(rt, alloc, config.pages.socket) {
-        Ok(bound) => bound,
-        Err(error) => return Err(bind_fault(alloc, &config.pages, error)),
-    };
+    let agents = bind(rt, alloc, &config.agents, |listener| {
+        let count = config.workers.saturating_add(SPARE_DESCRIPTORS);
+        grants_descriptors(alloc, &listener, count)?;
+        AgentsPort::new(listener)
+    })?;
+    let operators = bind(rt, alloc, &config.operators, |listener| {
+        OperatorsPort::new(rt, alloc, listener)
+    })?;
+    let pages = bind(rt, alloc, &config.pages, |listener| {
+        PagesPort::new(rt, alloc, listener)
+    })?;
     Ok(Listening {
         ports: Ports {
             agents: agents.port,

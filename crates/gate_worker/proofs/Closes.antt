@@ -19,7 +19,7 @@ use Rattle.gate_reader.specs.declared.report.Stop.{Stop}
 use Rattle.gate_reader.specs.declared.report.Stop.TheVariants as halt
 use Rattle.gate_reader.specs.Source.{SourceState}
 use Rattle.gate_reader.specs.Report.{answer_to, is_open, AreOpen, EndInClose}
-use Rattle.gate_reader.specs.Session.{ClientView, Parties, Submits, Handled, SessionKind, LeadsTo, Stops, IsSession, answers_of}
+use Rattle.gate_reader.specs.Session.{ClientView, Submits, Handled, SessionKind, LeadsTo, Stops, IsSession, answers_of}
 use Rattle.gate_reader.specs.Packets.{AnswersBlock, packets}
 use Rattle.gate_reader.specs.Lines.{OperatorView, Closes, AnswersLine, lines}
 use Rattle.gate_worker.specs.declared.limits.WorkerLimits.{WorkerLimits}
@@ -106,30 +106,30 @@ leads_tell view handles laws old (item ∷ items) new leads = (
 
 -- ---- sessions
 
-packets_after : {S : Type 0} (view : ClientView S) (limits : SessionLimits) (age : ℕ) (why : Stop) (answers : List Answer) (rest : List ℕ) (answered after : Parties S) (calls failures : ℕ) (left : Option (List ℕ))
-    → Stops (packets view limits.items age) limits why answers rest answered after calls failures left → Stays (view.knows answered.client) (view.knows after.client)
-packets_after {S} view limits age halt.End answers rest answered after calls failures left s first e = ap (λ (p : Parties S). view.knows p.client) s.1 ∙ e
-packets_after {S} view limits age (halt.Truncated count) answers rest answered after calls failures left s first e = ap (λ (p : Parties S). view.knows p.client) s.1 ∙ e
-packets_after {S} view limits age halt.ReadFault answers rest answered after calls failures left s first e = ap (λ (p : Parties S). view.knows p.client) s.1 ∙ e
-packets_after {S} view limits age halt.TooMany answers rest answered after calls failures left s first e = ap (λ (p : Parties S). view.knows p.client) s.0.1 ∙ e
-packets_after {S} view limits age halt.OutOfMemory answers rest answered after calls failures left s first e = ap view.knows s.0.1 ∙ e
-packets_after {S} view limits age (halt.BadPacket cause) answers rest answered after calls failures left s first e = ap view.knows s.0.1 ∙ e
-packets_after {S} view limits age halt.Shutdown answers rest answered after calls failures left s first e = ap (λ (p : Parties S). view.knows p.client) s.0.1 ∙ e
-packets_after {S} view limits age halt.WriteFault answers rest answered after calls failures left s first e = absurd s.0
+packets_after : {S : Type 0} (view : ClientView S) (limits : SessionLimits) (age : ℕ) (why : Stop) (answers : List Answer) (rest : List ℕ) (answered : S) (last : List Moment) (new : S) (calls failures : ℕ) (left : Option (List ℕ))
+    → Stops (packets view limits.items age) limits why answers rest answered last new calls failures left → Stays (view.knows answered) (view.knows new)
+packets_after {S} view limits age halt.End answers rest answered last new calls failures left s first e = ap view.knows s.1.0 ∙ e
+packets_after {S} view limits age (halt.Truncated count) answers rest answered last new calls failures left s first e = ap view.knows s.1.0 ∙ e
+packets_after {S} view limits age halt.ReadFault answers rest answered last new calls failures left s first e = ap view.knows s.1.0 ∙ e
+packets_after {S} view limits age halt.TooMany answers rest answered last new calls failures left s first e = ap view.knows s.0.1.0 ∙ e
+packets_after {S} view limits age halt.OutOfMemory answers rest answered last new calls failures left s first e = ap view.knows s.0.1 ∙ e
+packets_after {S} view limits age (halt.BadPacket cause) answers rest answered last new calls failures left s first e = ap view.knows s.0.1 ∙ e
+packets_after {S} view limits age halt.Shutdown answers rest answered last new calls failures left s first e = ap view.knows s.0.1.0 ∙ e
+packets_after {S} view limits age halt.WriteFault answers rest answered last new calls failures left s first e = absurd s.0
 
-lines_after : {S : Type 0} (view : OperatorView S) (limits : SessionLimits) (why : Stop) (answers : List Answer) (rest : List ℕ) (answered after : Parties S) (calls failures : ℕ) (left : Option (List ℕ))
-    → Stops (lines view limits.items) limits why answers rest answered after calls failures left → Stays (view.client.knows answered.client) (view.client.knows after.client)
-lines_after {S} view limits halt.End answers rest answered after calls failures left s first e = ap (λ (p : Parties S). view.client.knows p.client) s.1 ∙ e
-lines_after {S} view limits (halt.Truncated count) answers rest answered after calls failures left s first e = ap (λ (p : Parties S). view.client.knows p.client) s.1 ∙ e
-lines_after {S} view limits halt.ReadFault answers rest answered after calls failures left s first e = ap (λ (p : Parties S). view.client.knows p.client) s.1 ∙ e
-lines_after {S} view limits halt.TooMany answers rest answered after calls failures left s first e = ap (λ (p : Parties S). view.client.knows p.client) s.0.1 ∙ e
-lines_after {S} view limits halt.OutOfMemory answers rest answered after calls failures left s first e = elim s.0.1 [
-  | inl same ↦ ap (λ (p : Parties S). view.client.knows p.client) same ∙ e
-  | inr out ↦ closes_stay view answered.client out.now (Err fault.OutOfMemory) after.client out.refused first e
+lines_after : {S : Type 0} (view : OperatorView S) (limits : SessionLimits) (why : Stop) (answers : List Answer) (rest : List ℕ) (answered : S) (last : List Moment) (new : S) (calls failures : ℕ) (left : Option (List ℕ))
+    → Stops (lines view limits.items) limits why answers rest answered last new calls failures left → Stays (view.client.knows answered) (view.client.knows new)
+lines_after {S} view limits halt.End answers rest answered last new calls failures left s first e = ap view.client.knows s.1.0 ∙ e
+lines_after {S} view limits (halt.Truncated count) answers rest answered last new calls failures left s first e = ap view.client.knows s.1.0 ∙ e
+lines_after {S} view limits halt.ReadFault answers rest answered last new calls failures left s first e = ap view.client.knows s.1.0 ∙ e
+lines_after {S} view limits halt.TooMany answers rest answered last new calls failures left s first e = ap view.client.knows s.0.1.0 ∙ e
+lines_after {S} view limits halt.OutOfMemory answers rest answered last new calls failures left s first e = elim s.0.1 [
+  | inl same ↦ ap view.client.knows same.0 ∙ e
+  | inr out ↦ closes_stay view answered out.now (Err fault.OutOfMemory) new out.refused first e
 ]
-lines_after {S} view limits halt.WriteFault answers rest answered after calls failures left s first e = ap (λ (p : Parties S). view.client.knows p.client) s.0.1 ∙ e
-lines_after {S} view limits halt.Shutdown answers rest answered after calls failures left s first e = ap (λ (p : Parties S). view.client.knows p.client) s.0.1 ∙ e
-lines_after {S} view limits (halt.BadPacket cause) answers rest answered after calls failures left s first e = absurd s.0
+lines_after {S} view limits halt.WriteFault answers rest answered last new calls failures left s first e = ap view.client.knows s.0.1.0 ∙ e
+lines_after {S} view limits halt.Shutdown answers rest answered last new calls failures left s first e = ap view.client.knows s.0.1.0 ∙ e
+lines_after {S} view limits (halt.BadPacket cause) answers rest answered last new calls failures left s first e = absurd s.0
 
 last_known : (known : Option Moment) (front : List Answer) (last : Answer) → AllByRecursion (KnowsOf known) (front ++ last ∷ []) → KnowsOf known last
 last_known known [] last k = k.0
@@ -145,20 +145,20 @@ in_close known answers k end =
     close_known known end.1 end.4 (last_known known end.0 end.1 (subst (λ (l : List Answer). AllByRecursion (KnowsOf known) l) end.2 k))
 
 knows_close : {S : Type 0} (view : ClientView S) (kind : SessionKind S) (limits : SessionLimits) → Tells view kind.handles
-    → ((why : Stop) (answers : List Answer) (rest : List ℕ) (answered after : Parties S) (calls failures : ℕ) (left : Option (List ℕ)) → Stops kind limits why answers rest answered after calls failures left → Stays (view.knows answered.client) (view.knows after.client))
-    → ((answers : List Answer) (rest : List ℕ) (answered after : Parties S) → kind.stops halt.Shutdown answers rest answered after → EndInClose answers)
-    → (before after : Parties S) (source_before source_after : SourceState) (report : Report)
-    → IsSession view kind limits before after source_before source_after report.answers report.stop → KnowsItsClose (view.knows after.client) report
-knows_close view kind limits laws later ends before after source_before source_after report s =
-    let known = view.knows after.client in
+    → ((why : Stop) (answers : List Answer) (rest : List ℕ) (answered : S) (last : List Moment) (new : S) (calls failures : ℕ) (left : Option (List ℕ)) → Stops kind limits why answers rest answered last new calls failures left → Stays (view.knows answered) (view.knows new))
+    → ((answers : List Answer) (rest : List ℕ) (answered : S) (last : List Moment) (new : S) → kind.stops halt.Shutdown answers rest answered last new → EndInClose answers)
+    → (old : S) (readings : List Moment) (new : S) (source_before source_after : SourceState) (report : Report)
+    → IsSession view kind limits old readings new source_before source_after report.answers report.stop → KnowsItsClose (view.knows new) report
+knows_close view kind limits laws later ends old readings new source_before source_after report s =
+    let known = view.knows new in
     let told : AllByRecursion (KnowsOf known) report.answers =
     subst (λ (l : List Answer). AllByRecursion (KnowsOf known) l) (sym s.listed)
-    (all_on (view.knows s.answered.client) known (later report.stop report.answers s.rest s.answered after s.calls s.failures source_after.left s.stops)
-    (answers_of s.items) (leads_tell view kind.handles laws before.client s.items s.answered.client s.serves.leads)) in
+    (all_on (view.knows s.answered) known (later report.stop report.answers s.rest s.answered s.last new s.calls s.failures source_after.left s.stops)
+    (answers_of s.items) (leads_tell view kind.handles laws old s.items s.answered s.serves.leads)) in
     record {
       answers = told;
-      stop = λ e. in_close known report.answers told (ends report.answers s.rest s.answered after
-          (subst (λ (why : Stop). Stops kind limits why report.answers s.rest s.answered after s.calls s.failures source_after.left) e s.stops).0);
+      stop = λ e. in_close known report.answers told (ends report.answers s.rest s.answered s.last new
+          (subst (λ (why : Stop). Stops kind limits why report.answers s.rest s.answered s.last new s.calls s.failures source_after.left) e s.stops).0);
     }
 
 abbrev is_write_fault : Stop → Bool
@@ -166,17 +166,17 @@ is_write_fault halt.WriteFault = true
 is_write_fault why = false
 
 -- of a close that a session met, its client knows
-pub served_knows : (is_operator : Bool) (limits : WorkerLimits) (old : ClientState) (connection : Connection) (new : ClientState)
-    → IsServed is_operator limits old connection new → KnowsItsClose new.known_close connection.report
-served_knows true limits old connection new s =
+pub served_knows : (is_operator : Bool) (limits : WorkerLimits) (shows : Moment → Type 0) (old : ClientState) (connection : Connection) (new : ClientState)
+    → IsServed is_operator limits shows old connection new → KnowsItsClose new.known_close connection.report
+served_knows true limits shows old connection new s =
     let view = operator_of old.number in
     knows_close view.client (lines view limits.session.items) limits.session
     (record {
       stays = λ x item y h. line_stays view x item.bytes item.readings item.body item.answer y h;
       tells = λ x item y h. line_tells view x item.bytes item.readings item.body item.answer y h;
     })
-    (lines_after view limits.session) (λ answers rest answered after h. h.0) _ _ _ _ connection.report s.session.served
-served_knows false limits old connection new s =
+    (lines_after view limits.session) (λ answers rest answered last new h. h.0) _ _ _ _ _ connection.report s.session.served
+served_knows false limits shows old connection new s =
     let view = client_of old.number in
     elim s.session.outcome [
       | inl greeted ↦ knows_close view (packets view limits.session.items limits.greatest_age) limits.session
@@ -184,7 +184,7 @@ served_knows false limits old connection new s =
             stays = λ x item y h. block_stays view limits.greatest_age x item.bytes h.0 item.body item.answer y h.2;
             tells = λ x item y h. block_tells view limits.greatest_age x item.bytes h.0 item.body item.answer y h.2;
           })
-          (packets_after view limits.session limits.greatest_age) (λ answers rest answered after h. h.0) _ _ _ _ connection.report greeted.served
+          (packets_after view limits.session limits.greatest_age) (λ answers rest answered last new h. h.0) _ _ _ _ _ connection.report greeted.served
       | inr ungreeted ↦ record {
         answers = subst (λ (l : List Answer). AllByRecursion (KnowsOf new.known_close) l) (sym ungreeted.none_answered) tt;
         stop = λ e. absurd (true≢false (ap is_write_fault (sym ungreeted.stopped ∙ e)));

@@ -10,6 +10,7 @@ use Rattle.gate_reader.specs.declared.report.Answer.{Answer}
 use Rattle.gate_reader.specs.declared.report.Answer.TheVariants.{Queued}
 use Rattle.gate_reader.specs.declared.report.SessionLimits.{SessionLimits}
 use Rattle.gate_reader.specs.declared.report.Stop.{Stop}
+use Rattle.gate_reader.specs.Clock.{ClockState, ShowsEach, clock_within}
 use Rattle.gate_reader.specs.Source.{SourceState}
 use Rattle.gate_reader.specs.Sink.{SinkState}
 use Rattle.gate_reader.specs.Session.{ClientView, Parties, parties, Handled, SessionKind, LeadsTo, IsSession, queued_as, queued_among, bytes_of, answers_of}
@@ -60,30 +61,30 @@ Grows stands old answers new =
     × (item_numbers more ≡ queued_numbers answers) × (item_numbers more ≡ numbers_after (length list) (length more))
 
 grows_by : {S : Type 0} (view : ClientView S) (kind : SessionKind S) → ((x : S) (item : Handled) (y : S) → kind.handles x item y → QueuedHasBody item.body item.answer)
-    → (limits : SessionLimits) (before after : Parties S) (source_before source_after : SourceState) (answers : List Answer) (stop : Stop)
-    → IsSession view kind limits before after source_before source_after answers stop → Grows view.stands before.client answers after.client
-grows_by view kind has limits before after source_before source_after answers stop s list stands =
+    → (limits : SessionLimits) (old : S) (readings : List Moment) (new : S) (source_before source_after : SourceState) (answers : List Answer) (stop : Stop)
+    → IsSession view kind limits old readings new source_before source_after answers stop → Grows view.stands old answers new
+grows_by view kind has limits old readings new source_before source_after answers stop s list stands =
     let more = queued_among view.number s.items in
     let q = s.queued list stands in
-    (more, q.0, queued_is_answered kind.handles has view.number before.client s.items s.answered.client s.serves.leads ∙ ap queued_numbers (sym s.listed), numbers_of_items (length list) more q.1)
+    (more, q.0, queued_is_answered kind.handles has view.number old s.items s.answered s.serves.leads ∙ ap queued_numbers (sym s.listed), numbers_of_items (length list) more q.1)
 
 packets_grow : {S : Type 0} (view : ClientView S) (limits : SessionLimits) (age : ℕ) (before after : Parties S) (source_before source_after : SourceState) (sink_before sink_after : SinkState) (answers : List Answer) (stop : Stop)
     → IsPacketSession view limits age before after source_before source_after sink_before sink_after answers stop → Grows view.stands before.client answers after.client
 packets_grow {S} view limits age before after source_before source_after sink_before sink_after answers stop s list stands = elim s.outcome [
-  | inl greeted ↦ grows_by view (packets view limits.items age) (λ x item y h. block_has_body view age x item.bytes h.0 item.body item.answer y h.2) limits _ after source_before source_after answers stop greeted.served list stands
-  | inr ungreeted ↦ ([], subst (λ (p : Parties S). view.stands p.client (list ++ [])) (sym ungreeted.parties_stay) (subst (view.stands before.client) (sym (append-nil list)) stands), ap queued_numbers (sym ungreeted.none_answered), refl)
+  | inl greeted ↦ grows_by view (packets view limits.items age) (λ x item y h. block_has_body view age x item.bytes h.0 item.body item.answer y h.2) limits _ _ _ source_before source_after answers stop greeted.served list stands
+  | inr ungreeted ↦ ([], subst (λ (c : S). view.stands c (list ++ [])) (sym ungreeted.stays.0) (subst (view.stands before.client) (sym (append-nil list)) stands), ap queued_numbers (sym ungreeted.none_answered), refl)
 ]
 
 lines_grow : {S : Type 0} (view : OperatorView S) (limits : SessionLimits) (before after : Parties S) (source_before source_after : SourceState) (sink_before sink_after : SinkState) (answers : List Answer) (stop : Stop)
     → IsLineSession view limits before after source_before source_after sink_before sink_after answers stop → Grows view.client.stands before.client answers after.client
 lines_grow view limits before after source_before source_after sink_before sink_after answers stop s =
-    grows_by view.client (lines view limits.items) (λ x item y h. line_has_body view x item.bytes item.readings item.body item.answer y h) limits before after source_before source_after answers stop s.served
+    grows_by view.client (lines view limits.items) (λ x item y h. line_has_body view x item.bytes item.readings item.body item.answer y h) limits _ _ _ source_before source_after answers stop s.served
 
 -- what a session adds to what is queued for a client
-pub served_extends : (is_operator : Bool) (limits : WorkerLimits) (old : ClientState) (connection : Connection) (new : ClientState)
-    → IsServed is_operator limits old connection new → Extends old.queued new.queued connection.report.answers
-served_extends true limits old connection new s = lines_grow (operator_of old.number) limits.session _ _ _ _ _ _ _ _ s.session old.queued refl
-served_extends false limits old connection new s = packets_grow (client_of old.number) limits.session limits.greatest_age _ _ _ _ _ _ _ _ s.session old.queued refl
+pub served_extends : (is_operator : Bool) (limits : WorkerLimits) (shows : Moment → Type 0) (old : ClientState) (connection : Connection) (new : ClientState)
+    → IsServed is_operator limits shows old connection new → Extends old.queued new.queued connection.report.answers
+served_extends true limits shows old connection new s = lines_grow (operator_of old.number) limits.session _ _ _ _ _ _ _ _ s.session old.queued refl
+served_extends false limits shows old connection new s = packets_grow (client_of old.number) limits.session limits.greatest_age _ _ _ _ _ _ _ _ s.session old.queued refl
 
 -- ---- what a session means
 
@@ -95,15 +96,15 @@ front_of cuts later (Some stream) None input rest items read cut = absurd read
 front_of cuts later (Some stream) (Some more) input rest items read cut =
     (rest ++ more, subst (λ (bytes : List ℕ). cuts bytes items (rest ++ more)) (sym read) (later input more items rest cut))
 
-pub means_by : (view : ClientView ClientState) (kind : SessionKind ClientState) → KindLaws view kind → (limits : SessionLimits) (before after : Parties ClientState) (source_before source_after : SourceState) (answers : List Answer) (stop : Stop)
-    → ((client : ClientState) (items : List Numbered) → view.stands client items → client.queued ≡ items) → view.stands before.client before.client.queued → view.number ≡ before.client.number
-    → (s : IsSession view kind limits before after source_before source_after answers stop) → Means kind before.client source_before.left s.items answers after.client
-means_by view kind laws limits before after source_before source_after answers stop stands_for stands named s = record {
-  answered = s.answered.client;
+pub means_by : (view : ClientView ClientState) (kind : SessionKind ClientState) → KindLaws view kind → (limits : SessionLimits) (old : ClientState) (readings : List Moment) (new : ClientState) (source_before source_after : SourceState) (answers : List Answer) (stop : Stop)
+    → ((client : ClientState) (items : List Numbered) → view.stands client items → client.queued ≡ items) → view.stands old old.queued → view.number ≡ old.number
+    → (s : IsSession view kind limits old readings new source_before source_after answers stop) → Means kind old source_before.left s.items answers new
+means_by view kind laws limits old readings new source_before source_after answers stop stands_for stands named s = record {
+  answered = s.answered;
   front = front_of kind.cuts laws.later source_before.left source_after.left s.input s.rest (bytes_of s.items) s.read s.serves.cut;
   handled = s.serves.leads;
   listed = s.listed;
-  queued = stands_for after.client _ (s.queued before.client.queued stands).0 ∙ ap (λ (n : ℕ). before.client.queued ++ queued_among n s.items) named;
+  queued = stands_for new _ (s.queued old.queued stands).0 ∙ ap (λ (n : ℕ). old.queued ++ queued_among n s.items) named;
 }
 
 none_in_front : (kind : SessionKind ClientState) {view : ClientView ClientState} → KindLaws view kind → (sent : Option (List ℕ)) → IfSome sent (λ stream. (left : List ℕ) × kind.cuts stream [] left)
@@ -111,28 +112,28 @@ none_in_front kind laws None = tt
 none_in_front kind laws (Some stream) = (stream, laws.none stream)
 
 -- a session of lines means its items
-pub lines_mean : (limits : WorkerLimits) (old new : ClientState) (source_before source_after : SourceState) (sink_before sink_after : SinkState) (report : Report)
-    → IsSessionBy true limits old new source_before source_after sink_before sink_after report
+pub lines_mean : (limits : WorkerLimits) (shows : Moment → Type 0) (old new : ClientState) (source_before source_after : SourceState) (sink_before sink_after : SinkState) (report : Report)
+    → IsSessionBy true limits shows old new source_before source_after sink_before sink_after report
     → (items : List Handled) × Means (kind_of true limits old.number) old source_before.left items report.answers new
-lines_mean limits old new source_before source_after sink_before sink_after report s =
+lines_mean limits shows old new source_before source_after sink_before sink_after report s =
     let view = operator_of old.number in (
       s.served.items,
-      means_by view.client (lines view limits.session.items) (line_laws view limits.session.items) limits.session (parties old None) (parties new None)
+      means_by view.client (lines view limits.session.items) (line_laws view limits.session.items) limits.session old s.readings new
           source_before source_after report.answers report.stop (λ client items h. h) refl refl s.served,
     )
 
 -- so does one of packets
-pub packets_mean : (limits : WorkerLimits) (old new : ClientState) (source_before source_after : SourceState) (sink_before sink_after : SinkState) (report : Report)
-    → IsSessionBy false limits old new source_before source_after sink_before sink_after report
+pub packets_mean : (limits : WorkerLimits) (shows : Moment → Type 0) (old new : ClientState) (source_before source_after : SourceState) (sink_before sink_after : SinkState) (report : Report)
+    → IsSessionBy false limits shows old new source_before source_after sink_before sink_after report
     → (items : List Handled) × Means (kind_of false limits old.number) old source_before.left items report.answers new
-packets_mean limits old new source_before source_after sink_before sink_after report s =
+packets_mean limits shows old new source_before source_after sink_before sink_after report s =
     let view = client_of old.number in
     let kind = packets view limits.session.items limits.greatest_age in
     let laws = packet_laws view limits.session.items limits.greatest_age in
     elim s.outcome [
       | inl greeted ↦ (
         greeted.served.items,
-        means_by view kind laws limits.session (parties old s.greeted) (parties new None) source_before source_after report.answers report.stop
+        means_by view kind laws limits.session old s.readings new source_before source_after report.answers report.stop
             (λ client items h. h) refl refl greeted.served,
       )
       | inr ungreeted ↦ (
@@ -142,21 +143,26 @@ packets_mean limits old new source_before source_after sink_before sink_after re
           front = none_in_front kind laws source_before.left;
           handled = refl;
           listed = ungreeted.none_answered;
-          queued = ap (λ (p : Parties ClientState). p.client.queued) ungreeted.parties_stay ∙ sym (append-nil old.queued);
+          queued = ap (λ (c : ClientState). c.queued) ungreeted.stays.0 ∙ sym (append-nil old.queued);
         },
       )
     ]
 
+-- a session by a clock of which no more is known than which moments it may show, whatever is known of it afterwards
+same_clock : (shows : Moment → Type 0) (later : ClockState) (moments : List Moment) → ShowsEach (clock_within shows) later moments → ShowsEach (clock_within shows) (clock_within shows) moments
+same_clock shows later moments s = record { read = tt; shown = s.shown; stays = λ moment h. h }
+
 -- an agent's connection was served
-pub agent_served : (limits : WorkerLimits) (old begun after new : ClientState) (source_before source_after : SourceState) (sink_before sink_after : SinkState) (report : Report)
+pub agent_served : (limits : WorkerLimits) (shows : Moment → Type 0) (later : ClockState) (old begun after new : ClientState) (source_before source_after : SourceState) (sink_before sink_after : SinkState) (report : Report)
     → begun ≡ old → new ≡ after → old.known_close ≡ None → IsSameClient begun after
-    → IsPacketSession (client_of begun.number) limits.session limits.greatest_age (parties begun None) (parties after None) source_before source_after sink_before sink_after report.answers report.stop
-    → (items : List Handled) × IsServed false limits old (connection_of source_before.left items report) new
-agent_served limits old begun after new source_before source_after sink_before sink_after report from into knew_none same session =
-    let s : IsSessionBy false limits old new source_before source_after sink_before sink_after report =
-    subst (λ (c : ClientState). IsSessionBy false limits old c source_before source_after sink_before sink_after report) (sym into)
-    (subst (λ (c : ClientState). IsSessionBy false limits c after source_before source_after sink_before sink_after report) from session) in
-    let m = packets_mean limits old new source_before source_after sink_before sink_after report s in (
+    → IsPacketSession (client_of begun.number) limits.session limits.greatest_age (parties begun (clock_within shows)) (parties after later) source_before source_after sink_before sink_after report.answers report.stop
+    → (items : List Handled) × IsServed false limits shows old (connection_of source_before.left items report) new
+agent_served limits shows later old begun after new source_before source_after sink_before sink_after report from into knew_none same session =
+    let s : IsSessionBy false limits shows old new source_before source_after sink_before sink_after report =
+    subst (λ (c : ClientState). IsSessionBy false limits shows old c source_before source_after sink_before sink_after report) (sym into)
+    (subst (λ (c : ClientState). IsSessionBy false limits shows c after source_before source_after sink_before sink_after report) from
+    (record { now = session.now; readings = session.readings; clock = same_clock shows later (session.now ∷ session.readings) session.clock; outcome = session.outcome })) in
+    let m = packets_mean limits shows old new source_before source_after sink_before sink_after report s in (
       m.0,
       record {
         tally = source_before.tally;
@@ -171,15 +177,16 @@ agent_served limits old begun after new source_before source_after sink_before s
     )
 
 -- an operator's connection was served
-pub operator_served : (limits : WorkerLimits) (old begun after new : ClientState) (source_before source_after : SourceState) (sink_before sink_after : SinkState) (report : Report)
+pub operator_served : (limits : WorkerLimits) (shows : Moment → Type 0) (later : ClockState) (old begun after new : ClientState) (source_before source_after : SourceState) (sink_before sink_after : SinkState) (report : Report)
     → begun ≡ old → new ≡ after → old.known_close ≡ None → IsSameClient begun after
-    → IsLineSession (operator_of begun.number) limits.session (parties begun None) (parties after None) source_before source_after sink_before sink_after report.answers report.stop
-    → (items : List Handled) × IsServed true limits old (connection_of source_before.left items report) new
-operator_served limits old begun after new source_before source_after sink_before sink_after report from into knew_none same session =
-    let s : IsSessionBy true limits old new source_before source_after sink_before sink_after report =
-    subst (λ (c : ClientState). IsSessionBy true limits old c source_before source_after sink_before sink_after report) (sym into)
-    (subst (λ (c : ClientState). IsSessionBy true limits c after source_before source_after sink_before sink_after report) from session) in
-    let m = lines_mean limits old new source_before source_after sink_before sink_after report s in (
+    → IsLineSession (operator_of begun.number) limits.session (parties begun (clock_within shows)) (parties after later) source_before source_after sink_before sink_after report.answers report.stop
+    → (items : List Handled) × IsServed true limits shows old (connection_of source_before.left items report) new
+operator_served limits shows later old begun after new source_before source_after sink_before sink_after report from into knew_none same session =
+    let s : IsSessionBy true limits shows old new source_before source_after sink_before sink_after report =
+    subst (λ (c : ClientState). IsSessionBy true limits shows old c source_before source_after sink_before sink_after report) (sym into)
+    (subst (λ (c : ClientState). IsSessionBy true limits shows c after source_before source_after sink_before sink_after report) from
+    (record { readings = session.readings; clock = same_clock shows later session.readings session.clock; served = session.served; written = session.written })) in
+    let m = lines_mean limits shows old new source_before source_after sink_before sink_after report s in (
       m.0,
       record {
         tally = source_before.tally;

@@ -47,18 +47,18 @@ same_client new last middle stays looked =
 
 -- ---- sessions one after the other
 
-each_next : (is_operator : Bool) (limits : WorkerLimits) (old : ClientState) (connections : List Connection) (middle : ClientState) (connection : Connection) (new : ClientState)
-    → ServesEach is_operator limits old connections middle → IsServed is_operator limits middle connection new → ServesEach is_operator limits old (connections ++ connection ∷ []) new
-each_next is_operator limits old [] middle connection new e s = (new, subst (λ (c : ClientState). IsServed is_operator limits c connection new) e s, refl)
-each_next is_operator limits old (first ∷ connections) middle connection new e s = (e.0, e.1, each_next is_operator limits e.0 connections middle connection new e.2 s)
+each_next : (is_operator : Bool) (limits : WorkerLimits) (shows : Moment → Type 0) (old : ClientState) (connections : List Connection) (middle : ClientState) (connection : Connection) (new : ClientState)
+    → ServesEach is_operator limits shows old connections middle → IsServed is_operator limits shows middle connection new → ServesEach is_operator limits shows old (connections ++ connection ∷ []) new
+each_next is_operator limits shows old [] middle connection new e s = (new, subst (λ (c : ClientState). IsServed is_operator limits shows c connection new) e s, refl)
+each_next is_operator limits shows old (first ∷ connections) middle connection new e s = (e.0, e.1, each_next is_operator limits shows e.0 connections middle connection new e.2 s)
 
-each_queued : (is_operator : Bool) (limits : WorkerLimits) (number : ℕ) (old : ClientState) (connections : List Connection) (new : ClientState)
-    → old.number ≡ number → ServesEach is_operator limits old connections new
+each_queued : (is_operator : Bool) (limits : WorkerLimits) (shows : Moment → Type 0) (number : ℕ) (old : ClientState) (connections : List Connection) (new : ClientState)
+    → old.number ≡ number → ServesEach is_operator limits shows old connections new
     → new.queued ≡ old.queued ++ flat_map (λ (c : Connection). queued_among number c.items) connections
-each_queued is_operator limits number old [] new named e = ap (λ (c : ClientState). c.queued) e ∙ sym (append-nil old.queued)
-each_queued is_operator limits number old (connection ∷ connections) new named e =
+each_queued is_operator limits shows number old [] new named e = ap (λ (c : ClientState). c.queued) e ∙ sym (append-nil old.queued)
+each_queued is_operator limits shows number old (connection ∷ connections) new named e =
     let rest = flat_map (λ (c : Connection). queued_among number c.items) connections in
-    each_queued is_operator limits number e.0 connections new (e.1.same.number ∙ named) e.2
+    each_queued is_operator limits shows number e.0 connections new (e.1.same.number ∙ named) e.2
     ∙ ap (λ l. l ++ rest) (e.1.means.queued ∙ ap (λ n. old.queued ++ queued_among n connection.items) named)
     ∙ append_assoc old.queued (queued_among number connection.items) rest
 
@@ -89,10 +89,10 @@ sent_none : (streams : Option (List (List ℕ))) → SendFirst streams [] stream
 sent_none None = tt
 sent_none (Some streams) = (streams, refl, refl)
 
-pub serves_none : (is_operator : Bool) (limits : WorkerLimits) (streams : Option (List (List ℕ))) (begun client : ClientState)
+pub serves_none : (is_operator : Bool) (limits : WorkerLimits) (shows : Moment → Type 0) (streams : Option (List (List ℕ))) (begun client : ClientState)
     → client ≡ client_state begun.gate begun.number begun.queued client.known_close → IfSome begun.known_close (λ first. client.known_close ≡ Some first)
-    → Serves is_operator limits streams streams begun [] client
-serves_none is_operator limits streams begun client stays learns = record {
+    → Serves is_operator limits shows streams streams begun [] client
+serves_none is_operator limits shows streams begun client stays learns = record {
   connections = [];
   last = begun;
   sent = sent_none streams;
@@ -104,11 +104,11 @@ serves_none is_operator limits streams begun client stays learns = record {
 }
 
 -- a look at the close after the last session
-pub serves_look : (is_operator : Bool) (limits : WorkerLimits) (streams left : Option (List (List ℕ))) (begun : ClientState) (reports : List Report) (client looked : ClientState)
-    → Serves is_operator limits streams left begun reports client
+pub serves_look : (is_operator : Bool) (limits : WorkerLimits) (shows : Moment → Type 0) (streams left : Option (List (List ℕ))) (begun : ClientState) (reports : List Report) (client looked : ClientState)
+    → Serves is_operator limits shows streams left begun reports client
     → looked ≡ client_state client.gate client.number client.queued looked.known_close → IfSome client.known_close (λ first. looked.known_close ≡ Some first)
-    → Serves is_operator limits streams left begun reports looked
-serves_look is_operator limits streams left begun reports client looked s stays learns = record {
+    → Serves is_operator limits shows streams left begun reports looked
+serves_look is_operator limits shows streams left begun reports client looked s stays learns = record {
   connections = s.connections;
   last = s.last;
   sent = s.sent;
@@ -120,22 +120,22 @@ serves_look is_operator limits streams left begun reports client looked s stays 
 }
 
 -- one more session, before which the client knew of no close
-pub serves_next : (is_operator : Bool) (limits : WorkerLimits) (streams left later : Option (List (List ℕ))) (begun : ClientState) (reports pushed : List Report) (looked : ClientState) (connection : Connection) (new : ClientState)
-    → Serves is_operator limits streams left begun reports looked → looked.known_close ≡ None → IsServed is_operator limits looked connection new
+pub serves_next : (is_operator : Bool) (limits : WorkerLimits) (shows : Moment → Type 0) (streams left later : Option (List (List ℕ))) (begun : ClientState) (reports pushed : List Report) (looked : ClientState) (connection : Connection) (new : ClientState)
+    → Serves is_operator limits shows streams left begun reports looked → looked.known_close ≡ None → IsServed is_operator limits shows looked connection new
     → ComesNext left (Some connection.sent) later → pushed ≡ reports ++ filter has_answers (connection.report ∷ [])
-    → Serves is_operator limits streams later begun pushed new
-serves_next is_operator limits streams left later begun reports pushed looked connection new s none served next kept =
+    → Serves is_operator limits shows streams later begun pushed new
+serves_next is_operator limits shows streams left later begun reports pushed looked connection new s none served next kept =
     let known = none_before s.last.known_close looked.known_close s.learns none in
     let same : looked ≡ s.last = s.stays ∙ ap (λ k. client_state s.last.gate s.last.number s.last.queued k) (none ∙ sym known) in
     let report : Connection → Report = λ c. c.report in
-    let each = each_next is_operator limits begun s.connections s.last connection new s.each
-    (subst (λ (c : ClientState). IsServed is_operator limits c connection new) same served) in
+    let each = each_next is_operator limits shows begun s.connections s.last connection new s.each
+    (subst (λ (c : ClientState). IsServed is_operator limits shows c connection new) same served) in
     record {
       connections = s.connections ++ connection ∷ [];
       last = new;
       sent = sent_next streams left later s.connections connection s.sent next;
       each = each;
-      queued = each_queued is_operator limits begun.number begun (s.connections ++ connection ∷ []) new refl each;
+      queued = each_queued is_operator limits shows begun.number begun (s.connections ++ connection ∷ []) new refl each;
       reported = kept ∙ ap (λ l. l ++ filter has_answers (connection.report ∷ [])) s.reported
           ∙ sym (filter-append has_answers (map report s.connections) (connection.report ∷ []))
           ∙ ap (filter has_answers) (sym (map-append report s.connections (connection ∷ [])));
@@ -144,18 +144,18 @@ serves_next is_operator limits streams left later begun reports pushed looked co
     }
 
 -- the same of a session before which the client looked for a close
-pub goes_on : (has is_operator : Bool) (limits : WorkerLimits) (streams left middle later : Option (List (List ℕ))) (begun : ClientState) (reports reserved kept : List Report) (client looked : ClientState) (connection : Connection) (new : ClientState) (gate : GateId) (number : ℕ)
-    → Serves is_operator limits streams left begun reports client
+pub goes_on : (has is_operator : Bool) (limits : WorkerLimits) (shows : Moment → Type 0) (streams left middle later : Option (List (List ℕ))) (begun : ClientState) (reports reserved kept : List Report) (client looked : ClientState) (connection : Connection) (new : ClientState) (gate : GateId) (number : ℕ)
+    → Serves is_operator limits shows streams left begun reports client
     → looked ≡ client_state client.gate client.number client.queued looked.known_close → IfSome client.known_close (λ first. looked.known_close ≡ Some first) → looked.known_close ≡ None
-    → IsServed has limits looked connection new → has ≡ is_operator → ComesNext left (Some connection.sent) middle → later ≡ middle
+    → IsServed has limits shows looked connection new → has ≡ is_operator → ComesNext left (Some connection.sent) middle → later ≡ middle
     → reserved ≡ reports → kept ≡ reserved ++ filter has_answers (connection.report ∷ []) → client.gate ≡ gate → client.number ≡ number
-    → (new.gate ≡ gate) × (new.number ≡ number) × Serves is_operator limits streams later begun kept new
-goes_on has is_operator limits streams left middle later begun reports reserved kept client looked connection new gate number s stays learns none served role next parted same listed of_gate named = (
+    → (new.gate ≡ gate) × (new.number ≡ number) × Serves is_operator limits shows streams later begun kept new
+goes_on has is_operator limits shows streams left middle later begun reports reserved kept client looked connection new gate number s stays learns none served role next parted same listed of_gate named = (
   served.same.gate ∙ ap (λ (c : ClientState). c.gate) stays ∙ of_gate,
   served.same.number ∙ ap (λ (c : ClientState). c.number) stays ∙ named,
-  serves_next is_operator limits streams left later begun reports kept looked connection new
-      (serves_look is_operator limits streams left begun reports client looked s stays learns) none
-      (subst (λ (b : Bool). IsServed b limits looked connection new) role served)
+  serves_next is_operator limits shows streams left later begun reports kept looked connection new
+      (serves_look is_operator limits shows streams left begun reports client looked s stays learns) none
+      (subst (λ (b : Bool). IsServed b limits shows looked connection new) role served)
       (subst (λ (o : Option (List (List ℕ))). ComesNext left (Some connection.sent) o) (sym parted) next)
       (listed ∙ ap (λ (l : List Report). l ++ filter has_answers (connection.report ∷ [])) same),
 )
@@ -215,19 +215,19 @@ abbrev Numbers : ClientState → List Report → ClientState → Type 0
 Numbers old reports new =
     (item_numbers new.queued ≡ item_numbers old.queued ++ reported_numbers reports) × (item_numbers new.queued ≡ numbers_after 0 (length new.queued))
 
-each_numbers : (is_operator : Bool) (limits : WorkerLimits) (old : ClientState) (connections : List Connection) (new : ClientState)
-    → item_numbers old.queued ≡ numbers_after 0 (length old.queued) → ServesEach is_operator limits old connections new
+each_numbers : (is_operator : Bool) (limits : WorkerLimits) (shows : Moment → Type 0) (old : ClientState) (connections : List Connection) (new : ClientState)
+    → item_numbers old.queued ≡ numbers_after 0 (length old.queued) → ServesEach is_operator limits shows old connections new
     → Numbers old (filter has_answers (map (λ (c : Connection). c.report) connections)) new
-each_numbers is_operator limits old [] new counted e =
+each_numbers is_operator limits shows old [] new counted e =
     subst (λ (c : ClientState). Numbers old [] c) (sym e) (sym (append-nil (item_numbers old.queued)), counted)
-each_numbers is_operator limits old (connection ∷ connections) new counted e =
+each_numbers is_operator limits shows old (connection ∷ connections) new counted e =
     let middle = e.0 in
-    let x = served_extends is_operator limits old connection middle e.1 in
+    let x = served_extends is_operator limits shows old connection middle e.1 in
     let more = x.0 in
     let rest = filter has_answers (map (λ (c : Connection). c.report) connections) in
     let next : item_numbers middle.queued ≡ numbers_after 0 (length middle.queued) =
     ap item_numbers x.1 ∙ numbers_go_on old.queued more counted x.3 ∙ ap (λ l. numbers_after 0 (length l)) (sym x.1) in
-    let r = each_numbers is_operator limits middle connections new next e.2 in (
+    let r = each_numbers is_operator limits shows middle connections new next e.2 in (
       r.0 ∙ ap (λ l. item_numbers l ++ reported_numbers rest) x.1 ∙ ap (λ l. l ++ reported_numbers rest) (item_numbers-append old.queued more)
           ∙ ap (λ l. (item_numbers old.queued ++ l) ++ reported_numbers rest) x.2
           ∙ append_assoc (item_numbers old.queued) (queued_numbers connection.report.answers) (reported_numbers rest)
@@ -236,13 +236,13 @@ each_numbers is_operator limits old (connection ∷ connections) new counted e =
     )
 
 -- what is queued for a new client has the numbers that the reports answer with Queued, from 1
-pub serves_numbers : (is_operator : Bool) (limits : WorkerLimits) (streams left : Option (List (List ℕ))) (begun : ClientState) (reports : List Report) (ended : ClientState)
-    → begun.queued ≡ [] → Serves is_operator limits streams left begun reports ended
+pub serves_numbers : (is_operator : Bool) (limits : WorkerLimits) (shows : Moment → Type 0) (streams left : Option (List (List ℕ))) (begun : ClientState) (reports : List Report) (ended : ClientState)
+    → begun.queued ≡ [] → Serves is_operator limits shows streams left begun reports ended
     → (item_numbers ended.queued ≡ reported_numbers reports) × (reported_numbers reports ≡ numbers_after 0 (length ended.queued))
-serves_numbers is_operator limits streams left begun reports ended fresh s =
+serves_numbers is_operator limits shows streams left begun reports ended fresh s =
     let counted : item_numbers begun.queued ≡ numbers_after 0 (length begun.queued) =
     subst (λ l. item_numbers l ≡ numbers_after 0 (length l)) (sym fresh) refl in
-    let n = each_numbers is_operator limits begun s.connections s.last counted s.each in
+    let n = each_numbers is_operator limits shows begun s.connections s.last counted s.each in
     let same : ended.queued ≡ s.last.queued = ap (λ (c : ClientState). c.queued) s.stays in
     let first : item_numbers ended.queued ≡ reported_numbers reports =
     ap item_numbers same ∙ n.0 ∙ ap (λ l. item_numbers l ++ reported_numbers (filter has_answers (map (λ (c : Connection). c.report) s.connections))) fresh
@@ -256,39 +256,39 @@ keeps_close : (known : Option Moment) (has : Bool) (report : Report) (reports : 
 keeps_close known true report reports k met rest = (k, met, rest)
 keeps_close known false report reports k met rest = rest
 
-each_closes : (is_operator : Bool) (limits : WorkerLimits) (old : ClientState) (connections : List Connection) (new : ClientState) (known : Option Moment)
-    → Stays new.known_close known → ServesEach is_operator limits old connections new
+each_closes : (is_operator : Bool) (limits : WorkerLimits) (shows : Moment → Type 0) (old : ClientState) (connections : List Connection) (new : ClientState) (known : Option Moment)
+    → Stays new.known_close known → ServesEach is_operator limits shows old connections new
     → EndsAtClose known (filter has_answers (map (λ (c : Connection). c.report) connections))
-each_closes is_operator limits old [] new known stays e = tt
-each_closes is_operator limits old (connection ∷ []) new known stays e =
+each_closes is_operator limits shows old [] new known stays e = tt
+each_closes is_operator limits shows old (connection ∷ []) new known stays e =
     let middle = e.0 in
     keeps_close known (has_answers connection.report) connection.report []
     (knows_later middle.known_close known connection.report
-    (λ first m. stays first (ap (λ (c : ClientState). c.known_close) e.2 ∙ m)) (served_knows is_operator limits old connection middle e.1))
+    (λ first m. stays first (ap (λ (c : ClientState). c.known_close) e.2 ∙ m)) (served_knows is_operator limits shows old connection middle e.1))
     (inr refl) tt
-each_closes is_operator limits old (connection ∷ next ∷ connections) new known stays e =
+each_closes is_operator limits shows old (connection ∷ next ∷ connections) new known stays e =
     let middle = e.0 in
-    let met = met_none middle.known_close connection.report e.2.1.knew_none (served_knows is_operator limits old connection middle e.1) in
+    let met = met_none middle.known_close connection.report e.2.1.knew_none (served_knows is_operator limits shows old connection middle e.1) in
     keeps_close known (has_answers connection.report) connection.report _ (knows_none known connection.report met) (inl met)
-    (each_closes is_operator limits middle (next ∷ connections) new known stays e.2)
+    (each_closes is_operator limits shows middle (next ∷ connections) new known stays e.2)
 
-pub serves_closes : (is_operator : Bool) (limits : WorkerLimits) (streams left : Option (List (List ℕ))) (begun : ClientState) (reports : List Report) (ended : ClientState)
-    → Serves is_operator limits streams left begun reports ended → EndsAtClose ended.known_close reports
-serves_closes is_operator limits streams left begun reports ended s =
+pub serves_closes : (is_operator : Bool) (limits : WorkerLimits) (shows : Moment → Type 0) (streams left : Option (List (List ℕ))) (begun : ClientState) (reports : List Report) (ended : ClientState)
+    → Serves is_operator limits shows streams left begun reports ended → EndsAtClose ended.known_close reports
+serves_closes is_operator limits shows streams left begun reports ended s =
     subst (EndsAtClose ended.known_close) (sym s.reported)
-    (each_closes is_operator limits begun s.connections s.last ended.known_close (stays_of s.last.known_close ended.known_close s.learns) s.each)
+    (each_closes is_operator limits shows begun s.connections s.last ended.known_close (stays_of s.last.known_close ended.known_close s.learns) s.each)
 
 -- ---- the end
 
-pub ended_work : (is_operator : Bool) (limits : WorkerLimits) (streams left later : Option (List (List ℕ))) (begun : ClientState) (reports kept : List Report) (looked ended : ClientState) (cause why : Cause)
-    → Serves is_operator limits streams left begun reports looked → ended ≡ looked → kept ≡ reports → why ≡ cause
-    → (cause ≡ NoMoreConnections → ComesNext left None later) → IsWork is_operator limits streams begun kept ended why
-ended_work is_operator limits streams left later begun reports kept looked ended cause why s same listed is none =
-    let serves = subst (λ (c : ClientState). Serves is_operator limits streams left begun kept c) (sym same)
-    (subst (λ (l : List Report). Serves is_operator limits streams left begun l looked) (sym listed) s) in
+pub ended_work : (is_operator : Bool) (limits : WorkerLimits) (shows : Moment → Type 0) (streams left later : Option (List (List ℕ))) (begun : ClientState) (reports kept : List Report) (looked ended : ClientState) (cause why : Cause)
+    → Serves is_operator limits shows streams left begun reports looked → ended ≡ looked → kept ≡ reports → why ≡ cause
+    → (cause ≡ NoMoreConnections → ComesNext left None later) → IsWork is_operator limits shows streams begun kept ended why
+ended_work is_operator limits shows streams left later begun reports kept looked ended cause why s same listed is none =
+    let serves = subst (λ (c : ClientState). Serves is_operator limits shows streams left begun kept c) (sym same)
+    (subst (λ (l : List Report). Serves is_operator limits shows streams left begun l looked) (sym listed) s) in
     record {
       left = left;
       serves = serves;
       all = λ e. none_left left later (none (sym is ∙ e));
-      closes = serves_closes is_operator limits streams left begun kept ended serves;
+      closes = serves_closes is_operator limits shows streams left begun kept ended serves;
     }

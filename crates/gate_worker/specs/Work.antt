@@ -5,6 +5,7 @@ use Rattle.gate_model.specs.declared.record.Moment.{Moment}
 use Rattle.gate_queue.specs.Client.{ClientState, client_state}
 use Rattle.gate_queue.specs.GateClient.{StandsFor, IsSameClient}
 use Rattle.gate_queue.specs.GateOperator.{Closes}
+use Rattle.gate_reader.specs.Clock.{clock_within}
 use Rattle.gate_reader.specs.Source.{Tally, SourceState}
 use Rattle.gate_reader.specs.Sink.{SinkState}
 use Rattle.gate_reader.specs.Report.{AreOpen}
@@ -59,39 +60,42 @@ pub record Connection : Type 0 where
 abbrev pub connection_of : Option (List ℕ) → List Handled → Report → Connection
 connection_of sent items report = record { sent = sent; items = items; report = report }
 
--- a session with these limits, of lines if it is an operator's and else of packets
-abbrev pub IsSessionBy : Bool → WorkerLimits → ClientState → ClientState → SourceState → SourceState → SinkState
-    → SinkState → Report → Type 0
-IsSessionBy true limits old new source_before source_after sink_before sink_after report =
-    IsLineSession (operator_of old.number) limits.session (parties old None) (parties new None)
+-- a session with these limits, of lines if it is an operator's and else of packets, by a clock that may show these
+-- moments
+abbrev pub IsSessionBy : Bool → WorkerLimits → (Moment → Type 0) → ClientState → ClientState → SourceState
+    → SourceState → SinkState → SinkState → Report → Type 0
+IsSessionBy true limits shows old new source_before source_after sink_before sink_after report =
+    IsLineSession (operator_of old.number) limits.session
+    (parties old (clock_within shows)) (parties new (clock_within shows))
     source_before source_after sink_before sink_after report.answers report.stop
-IsSessionBy false limits old new source_before source_after sink_before sink_after report =
-    IsPacketSession (client_of old.number) limits.session limits.greatest_age (parties old None) (parties new None)
+IsSessionBy false limits shows old new source_before source_after sink_before sink_after report =
+    IsPacketSession (client_of old.number) limits.session limits.greatest_age
+    (parties old (clock_within shows)) (parties new (clock_within shows))
     source_before source_after sink_before sink_after report.answers report.stop
 
 -- the connection was served by such a session, which began while the client knew of no close. In short: its items mean
 -- what its report answers and what was queued
-pub record IsServed (is_operator : Bool) (limits : WorkerLimits) (old : ClientState) (connection : Connection)
-    (new : ClientState) : Type 0 where
+pub record IsServed (is_operator : Bool) (limits : WorkerLimits) (shows : Moment → Type 0) (old : ClientState)
+    (connection : Connection) (new : ClientState) : Type 0 where
   pub tally : Option Tally
   pub source_after : SourceState
   pub sink_before : SinkState
   pub sink_after : SinkState
   pub knew_none : old.known_close ≡ None
   pub same : IsSameClient old new
-  pub session : IsSessionBy is_operator limits old new (record { left = connection.sent; tally = tally }) source_after
-      sink_before sink_after connection.report
+  pub session : IsSessionBy is_operator limits shows old new (record { left = connection.sent; tally = tally })
+      source_after sink_before sink_after connection.report
   pub means : Means (kind_of is_operator limits old.number) old connection.sent connection.items
       connection.report.answers new
 
 -- ---- one session after the other
 
 -- the connections were served in order, the first from this state of the client on, the last up to that one
-abbrev pub ServesEach : Bool → WorkerLimits → ClientState → List Connection → ClientState → Type 0
-ServesEach is_operator limits old [] new = new ≡ old
-ServesEach is_operator limits old (connection ∷ connections) new =
-    (middle : ClientState) × IsServed is_operator limits old connection middle
-    × ServesEach is_operator limits middle connections new
+abbrev pub ServesEach : Bool → WorkerLimits → (Moment → Type 0) → ClientState → List Connection → ClientState → Type 0
+ServesEach is_operator limits shows old [] new = new ≡ old
+ServesEach is_operator limits shows old (connection ∷ connections) new =
+    (middle : ClientState) × IsServed is_operator limits shows old connection middle
+    × ServesEach is_operator limits shows middle connections new
 
 -- there are answers
 abbrev pub are_some : List Answer → Bool
@@ -105,12 +109,13 @@ has_answers report = are_some report.answers
 -- connections that sent the first of these streams were served, and the others are left; what was queued is what their
 -- items name, in order; the reports are those of which something was answered. Of a close the client may have learned
 -- after the last session
-pub record Serves (is_operator : Bool) (limits : WorkerLimits) (streams left : Option (List (List ℕ)))
-    (begun : ClientState) (reports : List Report) (ended : ClientState) : Type 0 where
+pub record Serves (is_operator : Bool) (limits : WorkerLimits) (shows : Moment → Type 0)
+    (streams left : Option (List (List ℕ))) (begun : ClientState) (reports : List Report) (ended : ClientState)
+    : Type 0 where
   pub connections : List Connection
   pub last : ClientState
   pub sent : SendFirst streams (map (λ connection. connection.sent) connections) left
-  pub each : ServesEach is_operator limits begun connections last
+  pub each : ServesEach is_operator limits shows begun connections last
   pub queued : last.queued ≡ begun.queued ++ flat_map (λ connection. queued_among begun.number connection.items) connections
   pub reported : reports ≡ filter has_answers (map (λ connection. connection.report) connections)
   pub stays : ended ≡ client_state last.gate last.number last.queued ended.known_close
@@ -142,11 +147,13 @@ EndsAtClose known (report ∷ reports) =
 
 -- ---- a worker
 
--- a worker with these limits, of operators or of agents, began with this client and ended with that one for this cause:
--- its connections sent these streams, as far as it served them, and all where they ended; and these are its reports
-pub record IsWork (is_operator : Bool) (limits : WorkerLimits) (streams : Option (List (List ℕ)))
-    (begun : ClientState) (reports : List Report) (ended : ClientState) (cause : Cause) : Type 0 where
+-- a worker with these limits, of operators or of agents, by a clock that may show these moments, began with this client
+-- and ended with that one for this cause: its connections sent these streams, as far as it served them, and all where
+-- they ended; and these are its reports
+pub record IsWork (is_operator : Bool) (limits : WorkerLimits) (shows : Moment → Type 0)
+    (streams : Option (List (List ℕ))) (begun : ClientState) (reports : List Report) (ended : ClientState)
+    (cause : Cause) : Type 0 where
   pub left : Option (List (List ℕ))
-  pub serves : Serves is_operator limits streams left begun reports ended
+  pub serves : Serves is_operator limits shows streams left begun reports ended
   pub all : cause ≡ NoMoreConnections → AreSent left
   pub closes : EndsAtClose ended.known_close reports

@@ -73,9 +73,9 @@ pub trait Watch {
 pub struct SharedClock<'a, K: Watch>(pub &'a K);
 
 impl<'a, K: Watch> Clock for SharedClock<'a, K> {
-    ghost use Rattle.std.specs.Prelude.{None};
+    ghost use Rattle.gate_reader.specs.Clock.{clock_within};
 
-    ghost state = { λ clock. record { readings = None; shows = K.shows clock.0.now } };
+    ghost state = { λ clock. clock_within (K.shows clock.0.now) };
 
     fn now(&mut self) -> Moment {
         self.0.read()

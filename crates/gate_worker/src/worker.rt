@@ -66,8 +66,8 @@ fn serve<R: Wait + Clock, I: Source + Drop, O: Sink + Drop, K: Watch>(
     ensures closer { IfSome result.1 (λ c. (c.cell ≡ serving.now.gate.now.cell)
         × (c.known_close ≡ result.0.known_close)) }
     ensures role { is_some result.1 ≡ is_some closer }
-    ensures served { (items : List Handled) × IsServed (is_some closer) serving.now.limits client
-        (connection_of (I.state connection.old.0).left items result.2) result.0 }
+    ensures served { (items : List Handled) × IsServed (is_some closer) serving.now.limits
+        (K.shows serving.now.clock.now) client (connection_of (I.state connection.old.0).left items result.2) result.0 }
 {
     let Serving {
         rt,
@@ -225,9 +225,9 @@ pub fn run_worker<R: Wait + Clock, C: Connections + Drop, K: Watch, H: Hold + Dr
     ensures stops { StopsAt
         limits.sessions result.cause (vec_len result.reports) result.ended.known_close }
 
-    // Its reports are those of its connections, from the first on, each served with these limits, and
-    // what is queued for its client is what they mean.
-    ensures work { IsWork (is_some closer) limits (C.streams connections) client
+    // Its reports are those of its connections, from the first on, each served with these limits by
+    // what the clock shows, and what is queued for its client is what they mean.
+    ensures work { IsWork (is_some closer) limits (K.shows clock.now) (C.streams connections) client
         result.reports.items result.ended result.cause }
 {
     let serving = Serving {

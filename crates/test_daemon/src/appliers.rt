@@ -101,7 +101,7 @@ fn shows_both<R: Wait + Clock>(rt: &R, alloc: Global, gate: &Gate, taker: Taker)
     drop(applier);
     let is_shown = is_shown(rt, alloc, &board, LAST_PAGE);
     drop(board);
-    stop == ApplierStop::LogFull && is_shown
+    matches!(stop, ApplierStop::LogFull(_)) && is_shown
 }
 
 // Queues three results and applies them to a log for two: whether the page shows both.

@@ -1,5 +1,6 @@
 -- Only proofs and private functions use this: what joined workers returned.
 use Rattle.std.specs.Prelude.{◌≡◌, ℕ, suc, true, false, List, [], ◌∷◌, map, All, Option, None, ⊤}
+use Rattle.gate_model.specs.declared.record.Moment.{Moment}
 use Rattle.gate_queue.specs.Gate.{GateId}
 use Rattle.gate_queue.specs.Client.{ClientState, client_state}
 use Rattle.gate_reader.specs.declared.report.Report.{Report}
@@ -22,19 +23,20 @@ AreOf gate clients = All (λ client. client.gate ≡ gate) clients
 
 -- workers of agents, of the clients of this gate after this number, served these streams, and ended with these clients
 -- and reports
-abbrev pub EachEnded : WorkerLimits → GateId → ℕ → List (Option (List (List ℕ))) → List ClientState
+abbrev pub EachEnded : WorkerLimits → (Moment → Type 0) → GateId → ℕ → List (Option (List (List ℕ))) → List ClientState
     → List (ℕ × List Report) → Type 0
-EachEnded limits gate number [] [] [] = ⊤
-EachEnded limits gate number (streams ∷ agents) (client ∷ clients) (reports ∷ others) =
+EachEnded limits shows gate number [] [] [] = ⊤
+EachEnded limits shows gate number (streams ∷ agents) (client ∷ clients) (reports ∷ others) =
     (reports.0 ≡ client.number)
-    × ((cause : Cause) × EndsSo false limits streams (client_state gate (suc number) [] None) reports.1 client cause)
-    × EachEnded limits gate (suc number) agents clients others
-EachEnded limits gate number agents clients reports = ⊥
+    × ((cause : Cause)
+    × EndsSo false limits shows streams (client_state gate (suc number) [] None) reports.1 client cause)
+    × EachEnded limits shows gate (suc number) agents clients others
+EachEnded limits shows gate number agents clients reports = ⊥
 
 -- so did the worker of operators, who began with this client and ended for this cause, and then those of agents
-pub record AllEnded (limits : WorkerLimits) (gate : GateId) (agents : List (Option (List (List ℕ))))
-    (operators : Option (List (List ℕ))) (operator : ClientState) (cause : Cause) (clients : List ClientState)
-    (reports : List (ℕ × List Report)) : Type 0 where
+pub record AllEnded (limits : WorkerLimits) (shows : Moment → Type 0) (gate : GateId)
+    (agents : List (Option (List (List ℕ)))) (operators : Option (List (List ℕ))) (operator : ClientState)
+    (cause : Cause) (clients : List ClientState) (reports : List (ℕ × List Report)) : Type 0 where
   pub first : ClientState
   pub others : List ClientState
   pub reported : ℕ × List Report
@@ -42,5 +44,5 @@ pub record AllEnded (limits : WorkerLimits) (gate : GateId) (agents : List (Opti
   pub clients_are : clients ≡ first ∷ others
   pub reports_are : reports ≡ reported ∷ others_reported
   pub named : reported.0 ≡ first.number
-  pub ends : EndsSo true (unlimited limits) operators operator reported.1 first cause
-  pub each : EachEnded limits gate 0 agents others others_reported
+  pub ends : EndsSo true (unlimited limits) shows operators operator reported.1 first cause
+  pub each : EachEnded limits shows gate 0 agents others others_reported

@@ -1,5 +1,6 @@
 -- Only proofs and private functions use this: workers before they start, and what all threads returned.
 use Rattle.std.specs.Prelude.{◌≡◌, ℕ, ◌+◌, ◌≤◌, Option, None, IsSome, IfSome, List, [], ◌∷◌, length}
+use Rattle.gate_model.specs.declared.record.Moment.{Moment}
 use Rattle.gate_queue.specs.Gate.{GateId}
 use Rattle.gate_queue.specs.Client.{ClientState, client_state}
 use Rattle.gate_queue.specs.Taker.{TakerState}
@@ -9,7 +10,6 @@ use Rattle.gate_applier.specs.Applier.{ApplierView}
 use Rattle.gate_worker.specs.Numbers.{numbers_after}
 use Rattle.gate_worker.specs.declared.limits.WorkerLimits.{WorkerLimits}
 use Rattle.gate_worker.specs.declared.worker.Cause.{Cause}
-use Rattle.gate_daemon.specs.Applying.{IsSameLog}
 use Rattle.gate_daemon.specs.declared.collected.Collected.{Collected}
 use Rattle.gate_daemon.specs.declared.joined.Joined.{Joined}
 use Rattle.gate_daemon.specs.declared.threads.Start.{Start}
@@ -32,10 +32,10 @@ pub record AreNew (gate : GateId) (clients : List ClientState) (endpoints : ℕ)
 
 -- the ends of agents' workers, who served these streams, and of the operators', who began with this client, are
 -- collected; where the operators' ended for a cause that is known, all were started, and it is the ends of all
-pub record AreCollected (limits : WorkerLimits) (gate : GateId) (agents : List (Option (List (List ℕ))))
-    (operator : ClientState) (operators : Option (List (List ℕ))) (before after : Collected) (cause : Option Cause)
-    : Type 0 where
-  pub ended : IfSome cause (λ why. AllEnded limits gate agents operators operator why after.ended.items
+pub record AreCollected (limits : WorkerLimits) (shows : Moment → Type 0) (gate : GateId)
+    (agents : List (Option (List (List ℕ)))) (operator : ClientState) (operators : Option (List (List ℕ)))
+    (before after : Collected) (cause : Option Cause) : Type 0 where
+  pub ended : IfSome cause (λ why. AllEnded limits shows gate agents operators operator why after.ended.items
       (reports_of_each after.reports.items))
   pub few : length after.ended.items ≤ length agents + 1
   pub gates : AreOf gate after.ended.items
@@ -49,10 +49,9 @@ pub record IsApplied (gate : GateId) (taker : TakerState) (applier : ApplierView
   pub applied : items_of_records applier.records ≡ taker.taken
 
 -- the threads of a gate with so many agents' workers are joined, and its taker knows of the close
-pub record AreJoined (gate : GateId) (workers : ℕ) (before : ApplierView) (joined : Joined) : Type 0 where
+pub record AreJoined (gate : GateId) (workers : ℕ) (joined : Joined) : Type 0 where
   pub applied : IsApplied gate joined.taker joined.applier
   pub known_close : IsSome joined.taker.known_close
-  pub same : IsSameLog before joined.applier
   pub all : numbers_of joined.collected.ended.items ≡ (workers + 1) ∷ numbers_after 0 workers
   pub gates : AreOf gate joined.collected.ended.items
 

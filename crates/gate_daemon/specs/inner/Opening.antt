@@ -33,5 +33,4 @@ abbrev pub IsUnopened : ℕ → ℕ → ℕ → GatewayFault → Type 0
 IsUnopened workers capacity limit (fault.Queue why) = IsOpenFault why (workers + 1) default_quota capacity
 IsUnopened workers capacity limit (fault.Applier why) = why ≡ BadLimit → is_limit limit ≡ false
 IsUnopened workers capacity limit fault.OutOfMemory = is_limit limit ≡ true
-IsUnopened workers capacity limit fault.Spawn = ⊥
-IsUnopened workers capacity limit (fault.CloseAll gate drain reports) = ⊥
+IsUnopened workers capacity limit _ = ⊥

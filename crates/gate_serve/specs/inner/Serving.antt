@@ -1,5 +1,5 @@
 -- Only proofs and private functions use this: how the steps of a daemon fail.
-use Rattle.std.specs.Prelude.{◌≡◌, ◌⊎◌, ◌≤◌, ℕ, List, [], length, replicate, Option, Some, None, Result, Ok, Err}
+use Rattle.std.specs.Prelude.{◌≡◌, ◌⊎◌, ◌≤◌, ℕ, List, [], length, replicate, Option, Some, None, Result, Ok, Err, ⊤}
 use Rattle.gate_reader.specs.Sink.{SinkState, Delivers, FailsOnce}
 use Rattle.gate_applier.specs.Applier.{ApplierView}
 use Rattle.gate_close.specs.declared.drained_close.CloseAllCause.{CloseAllCause}
@@ -25,12 +25,6 @@ IsStopCause cause.LogFull = Unit {0}
 IsStopCause cause.OutOfMemory = Unit {0}
 IsStopCause _ = ⊥
 
--- the daemon's fault where its gateway did not apply all for this cause
-abbrev pub IsFaultOf : CloseAllCause → ServeFault → Type 0
-IsFaultOf cause.LogFull found = found ≡ LogFull
-IsFaultOf cause.OutOfMemory found = found ≡ OutOfMemory
-IsFaultOf _ found = ⊥
-
 -- where a gateway did not apply all, it was for one of these causes
 abbrev pub HasStopped : GatewayFault → Type 0
 HasStopped (gateway_fault.CloseAll gate drain reports) = IsStopCause drain.cause
@@ -46,7 +40,7 @@ reports_after (Err _) = []
 pub record HasRun (config : Config) (finished : Finished) : Type 0 where
   pub holds : HoldsAll config.workers (queued_by_each (reports_of_each finished.reports.items))
       (items_of_records finished.closed.applier.records)
-  pub served : AllServed (worker_limits config.limits) (replicate config.workers None) None
+  pub served : AllServed (worker_limits config.limits) (λ moment. ⊤) (replicate config.workers None) None
       (reports_of_each finished.reports.items) finished.operator (items_of_records finished.closed.applier.records)
   pub table : finished.closed.applier.table ≡ config.table
   pub limit : finished.closed.applier.limit ≡ config.limits.limit
@@ -78,18 +72,13 @@ IsCloseEnd why applier before after OutOfMemory =
 IsCloseEnd why applier before after WriteFault = FailsOnce before after
 IsCloseEnd why applier before after _ = ⊥
 
--- a gateway that has no log ended with a fault
-abbrev pub IsLoglessEnd : SinkState → SinkState → ServeFault → Type 0
-IsLoglessEnd before after OutOfMemory = after ≡ before
-IsLoglessEnd before after Spawn = after ≡ before
-IsLoglessEnd before after _ = ⊥
-
--- a gateway, which had ended so, ended with a fault
+-- a gateway, which had ended so, ended with a fault; where it has no log, nothing was printed
 abbrev pub IsRunEnd : Result Finished GatewayFault → SinkState → SinkState → ServeFault → Type 0
 IsRunEnd (Ok finished) before after found = IsWholeEnd finished.operator finished.closed.applier before after found
 IsRunEnd (Err (gateway_fault.CloseAll gate drain reports)) before after found =
     IsCloseEnd drain.cause drain.applier before after found
-IsRunEnd (Err _) before after found = IsLoglessEnd before after found
+IsRunEnd (Err gateway_fault.Spawn) before after found = (found ≡ Spawn) × (after ≡ before)
+IsRunEnd (Err _) before after found = (found ≡ OutOfMemory) × (after ≡ before)
 
 -- a daemon of this configuration, whose clients have these reports, ended without a fault or with this one
 abbrev pub RunsOn : Config → SinkState → SinkState → List (ℕ × List Report) → Option ServeFault → Type 0

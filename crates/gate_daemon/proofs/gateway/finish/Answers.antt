@@ -9,7 +9,7 @@ use Rattle.gate_daemon.proofs.Clocked.{more_shown}
 use Rattle.gate_daemon.proofs.Ended.{all_held}
 use Rattle.gate_daemon.proofs.gateway.finish.Goals as goal
 
-can_drain : (workers : ℕ) (gate : GateId) (joined : Joined) → gate.limits.clients ≡ workers + 1 → AreJoined gate workers joined.applier joined
+can_drain : (workers : ℕ) (gate : GateId) (joined : Joined) → gate.limits.clients ≡ workers + 1 → AreJoined gate workers joined
     → CanDrain workers gate.limits.clients (queued_by_each (reports_of_each joined.collected.reports.items))
     (close_parts joined.taker joined.collected.ended.items joined.applier)
 can_drain workers gate joined count is = record {
@@ -37,7 +37,7 @@ returns-in-Ok-clause-served g c limits agents operators count all =
     let can = can_drain c.args.workers c.args.gate joined c.requires.clients c.requires.joined in
     let log = items_of_records c.in-Ok.closed.applier.records in
     let held = drained_held c.args.workers c.args.gate.limits.clients (queued_by_each (reports_of_each collected.reports.items)) parts log can c.in-Ok.ensures.merge in
-    all_held limits c.args.gate c.args.workers agents operators joined.operator collected.ended.items (reports_of_each collected.reports.items) log count all held.0 held.1
+    all_held limits (g.K.Watch.shows c.args.clock.now) c.args.gate c.args.workers agents operators joined.operator collected.ended.items (reports_of_each collected.reports.items) log count all held.0 held.1
 
 pub returns-in-Err-clause-fault : goal.returns-in-Err-clause-fault
 returns-in-Err-clause-fault g c capacity =

@@ -10,12 +10,12 @@ returns-in-Some-clause-opening c =
     let rest = c.pop.new.self.items in
     let workers = c.args.workers in
     let items = c.in-Ok.clients.items in
-    let long : length items ≡ workers + 1 = ap length c.in-Ok.ensures.clients ∙ length_clients gate (workers + 1) in
+    let long : length items ≡ workers + 1 = ap length c.in-Ok.ensures.opened.3 ∙ length_clients gate (workers + 1) in
     let e : length items ≡ length (rest ++ c.in-Some.last ∷ []) = ap length c.in-Some.ensures.items in
     let f : length (rest ++ c.in-Some.last ∷ []) ≡ length rest + 1 = length-append rest (c.in-Some.last ∷ []) in
     let each : length rest ≡ workers = omega arith in
     let number : suc (length rest) ≡ workers + 1 = omega arith in
-    let cut = last_client gate items rest c.in-Some.last (c.in-Ok.ensures.clients ∙ ap (new_clients gate) (sym long)) c.in-Some.ensures.items in
+    let cut = last_client gate items rest c.in-Some.last (c.in-Ok.ensures.opened.3 ∙ ap (new_clients gate) (sym long)) c.in-Some.ensures.items in
     record {
       count = search rules;
       taker = search rules;

@@ -22,6 +22,9 @@ run_workers-collected-requires-clause-new g c κs within = record {
 pub returns-in-Some-clause-ended : goal.returns-in-Some-clause-ended
 returns-in-Some-clause-ended g c = at_some _ c.run_workers-collected.result.1 c.in-Some.operator c.in-Some.is c.run_workers-collected.ensures.ends.ended
 
+pub returns-in-Some-clause-same : goal.returns-in-Some-clause-same
+returns-in-Some-clause-same g c = subst (λ (a : ApplierView). IsSameLog a c.join-taker.result.1) c.in-Ok.ensures.2 c.join-taker.ensures.1
+
 pub returns-in-Some-clause-shown : goal.returns-in-Some-clause-shown
 returns-in-Some-clause-shown g c =
     shown_on g.K.Watch.shows c.in-Ok.applies.promise.clock.now c.args.shared.now.clock.now c.in-Ok.applies.promise.before.value c.args.start.applier c.join-taker.result.1
@@ -39,8 +42,7 @@ returns-in-Some-clause-joined g c =
         applied = kept.applied ∙ sym (ap (λ (t : TakerState). t.taken) known);
       };
       known_close = subst (λ (k : Option Moment). IsSome k) (sym (ap (λ (t : TakerState). t.known_close) known)) refl;
-      same = subst (λ (a : ApplierView). IsSameLog a end.1) c.in-Ok.ensures.2 c.join-taker.ensures.1;
-      all = joined_numbers c.args.start.workers.endpoints.items (λ endpoint. g.A.Connections.streams endpoint.connections) c.args.shared.now.limits c.args.shared.now.gate.now
+      all = joined_numbers c.args.start.workers.endpoints.items (λ endpoint. g.A.Connections.streams endpoint.connections) c.args.shared.now.limits (g.K.Watch.shows c.args.shared.now.clock.now) c.args.shared.now.gate.now
           (length c.args.start.workers.clients.items) _ c.args.start.workers.operator c.in-Some.operator c.run_workers-collected.result.0.ended.items _
           (returns-in-Some-clause-ended g c) c.requires.each c.requires.operator;
       gates = c.run_workers-collected.ensures.ends.gates;

@@ -9,11 +9,11 @@ use Rattle.gate_daemon.proofs.workers.+run_workers.Goals as goal
 
 pub start_worker-requires-clause-gate : goal.start_worker-requires-clause-gate
 start_worker-requires-clause-gate g t c κs within =
-    ap (λ (x : ClientState). x.gate) (last_client c.args.shared.now.gate.now c.args.workers.clients.items c.pop.new.self.items c.in-Some.client c.requires.new.all c.in-Some.ensures.items).0
+    ap (λ (x : ClientState). x.gate) (last_client c.args.closable.now.shared.now.gate.now c.args.workers.clients.items c.pop.new.self.items c.in-Some.client c.requires.new.all c.in-Some.ensures.items).0
 
 pub start_worker-requires-clause-fresh : goal.start_worker-requires-clause-fresh
 start_worker-requires-clause-fresh g t c κs within =
-    ap (λ (x : ClientState). x.queued) (last_client c.args.shared.now.gate.now c.args.workers.clients.items c.pop.new.self.items c.in-Some.client c.requires.new.all c.in-Some.ensures.items).0
+    ap (λ (x : ClientState). x.queued) (last_client c.args.closable.now.shared.now.gate.now c.args.workers.clients.items c.pop.new.self.items c.in-Some.client c.requires.new.all c.in-Some.ensures.items).0
 
 pub run_workers-collected-requires-clause-new : goal.run_workers-collected-requires-clause-new
 run_workers-collected-requires-clause-new g t c κs within =
@@ -25,15 +25,15 @@ run_workers-collected-requires-clause-new g t c κs within =
     let e : length (endpoints ++ c.in-Some-pop.endpoint ∷ []) ≡ length endpoints + 1 = length-append endpoints (c.in-Some-pop.endpoint ∷ []) in
     let same : length c.args.workers.endpoints.items ≡ length c.args.workers.clients.items = c.requires.new.count in
     record {
-      all = (last_client c.args.shared.now.gate.now c.args.workers.clients.items clients c.in-Some.client c.requires.new.all c.in-Some.ensures.items).1;
+      all = (last_client c.args.closable.now.shared.now.gate.now c.args.workers.clients.items clients c.in-Some.client c.requires.new.all c.in-Some.ensures.items).1;
       count = omega arith;
       operators = c.requires.new.operators;
       fresh = c.requires.new.fresh;
     }
 
-pub returns-in-Ok-clause-ends : goal.returns-in-Ok-clause-ends
-returns-in-Ok-clause-ends g t c =
-    let gate = c.args.shared.now.gate.now in
+pub returns-in-Ok : goal.returns-in-Ok
+returns-in-Ok g t c =
+    let gate = c.args.closable.now.shared.now.gate.now in
     let clients = c.args.workers.clients.items in
     let rest = c.pop.new.self.items in
     let agents = c.args.workers.endpoints.items in
@@ -52,15 +52,17 @@ returns-in-Ok-clause-ends g t c =
     let sent_others = length-map others (λ endpoint. g.A.Connections.streams endpoint.connections) in
     let last = (last_client gate clients rest c.in-Some.client c.requires.new.all c.in-Some.ensures.items).0 in
     record {
-      ended = collected_next agents others c.in-Some-pop.endpoint (λ endpoint. g.A.Connections.streams endpoint.connections) c.args.shared.now.limits gate _ _
-          c.run_workers-collected.result.1 before c.add.new.self.ended.items _ _ c.join.result.ended c.join.result.reports.items c.join.result.cause
-          c.in-Some-pop.ensures.items c.add.ensures.ended c.add.ensures.reports
-          (ended_as c.join.ensures c.in-Ok.ensures.role c.in-Ok.ensures.limits (ap g.A.Connections.streams c.in-Ok.ensures.connections)
-          (c.in-Ok.ensures.client ∙ last ∙ ap (λ (n : ℕ). client_state gate (suc n) [] None) count))
-          ends.ended;
-      few = omega (arith, ends.few, sent, sent_others);
-      gates = subst (AreOf gate) (sym c.add.ensures.ended)
-          (All-push (λ (e : ClientState). e.gate ≡ gate) before c.join.result.ended ends.gates (c.join.ensures.0 ∙ ap (λ (x : ClientState). x.gate) c.in-Ok.ensures.client ∙ ap (λ (x : ClientState). x.gate) last));
-      ended_room = c.add.ensures.room.0 ∙ ends.ended_room;
-      reports_room = c.add.ensures.room.1 ∙ ends.reports_room;
+      ends = record {
+        ended = collected_next agents others c.in-Some-pop.endpoint (λ endpoint. g.A.Connections.streams endpoint.connections) c.args.closable.now.shared.now.limits (g.K.Watch.shows c.args.closable.now.shared.now.clock.now) gate _ _
+            c.run_workers-collected.result.1 before c.add.new.self.ended.items _ _ c.join.result.ended c.join.result.reports.items c.join.result.cause
+            c.in-Some-pop.ensures.items c.add.ensures.ended c.add.ensures.reports
+            (ended_as g.K.Watch.shows c.join.ensures c.in-Ok.ensures.role c.in-Ok.ensures.limits c.in-Ok.ensures.clock (ap g.A.Connections.streams c.in-Ok.ensures.connections)
+            (c.in-Ok.ensures.client ∙ last ∙ ap (λ (n : ℕ). client_state gate (suc n) [] None) count))
+            ends.ended;
+        few = omega (arith, ends.few, sent, sent_others);
+        gates = subst (AreOf gate) (sym c.add.ensures.ended)
+            (All-push (λ (e : ClientState). e.gate ≡ gate) before c.join.result.ended ends.gates (c.join.ensures.0 ∙ ap (λ (x : ClientState). x.gate) c.in-Ok.ensures.client ∙ ap (λ (x : ClientState). x.gate) last));
+        ended_room = c.add.ensures.room.0 ∙ ends.ended_room;
+        reports_room = c.add.ensures.room.1 ∙ ends.reports_room;
+      };
     }

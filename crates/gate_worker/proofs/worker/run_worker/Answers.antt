@@ -17,9 +17,9 @@ loop-init g c =
       both_known _ _ c.args.closer c.requires.closer c.learn.ensures.learned,
       refl,
       search (rules, arith),
-      subst (λ (l : List Report). Serves (is_some c.args.closer) c.args.limits (g.C.Connections.streams c.args.connections) (g.C.Connections.streams c.args.connections)
+      subst (λ (l : List Report). Serves (is_some c.args.closer) c.args.limits (g.K.Watch.shows c.args.clock.now) (g.C.Connections.streams c.args.connections) (g.C.Connections.streams c.args.connections)
           c.args.client l c.learn.new.client) (sym c.new-reports.ensures.items)
-          (serves_none (is_some c.args.closer) c.args.limits (g.C.Connections.streams c.args.connections) c.args.client c.learn.new.client stays c.learn.ensures.knew),
+          (serves_none (is_some c.args.closer) c.args.limits (g.K.Watch.shows c.args.clock.now) (g.C.Connections.streams c.args.connections) c.args.client c.learn.new.client stays c.learn.ensures.knew),
     )
 
 pub serve-served-requires-clause-closer : goal.serve-served-requires-clause-closer
@@ -30,7 +30,7 @@ serve-served-requires-clause-closer g c =
 pub loop-preserved : goal.loop-preserved
 loop-preserved g c =
     let i = c.loop.invariant in
-    let t = goes_on (is_some c.loop.closer) (is_some c.args.closer) c.args.limits (g.C.Connections.streams c.args.connections) (g.C.Connections.streams c.loop.connections)
+    let t = goes_on (is_some c.loop.closer) (is_some c.args.closer) c.args.limits (g.K.Watch.shows c.args.clock.now) (g.C.Connections.streams c.args.connections) (g.C.Connections.streams c.loop.connections)
     (g.C.Connections.streams c.next_connection.new.connections) (g.C.Connections.streams c.part.new.self) c.args.client c.loop.reports.items c.next_connection.new.reports.items
     c.keep_report.new.reports.items c.loop.client c.next_connection.new.client
     (connection_of (g.C.In.Source.state c.in-Ok.connection.0).left c.serve-served.ensures.served.0 c.serve-served.result.2) c.serve-served.result.0 c.args.gate.now
@@ -48,22 +48,22 @@ loop-preserved g c =
 
 pub end_of-requires-clause-reported : goal.end_of-requires-clause-reported
 end_of-requires-clause-reported g c =
-    (serves_numbers _ _ _ _ c.args.client c.loop.reports.items c.next_connection.new.client c.requires.fresh
-    (serves_look _ _ _ _ _ _ c.loop.client c.next_connection.new.client c.loop.invariant.7 c.next_connection.ensures.stays c.next_connection.ensures.knew)).0
+    (serves_numbers _ _ _ _ _ c.args.client c.loop.reports.items c.next_connection.new.client c.requires.fresh
+    (serves_look _ _ _ _ _ _ _ c.loop.client c.next_connection.new.client c.loop.invariant.7 c.next_connection.ensures.stays c.next_connection.ensures.knew)).0
     ∙ ap reported_numbers (sym c.next_connection.ensures.reports)
 
 pub end_of-requires-clause-counted : goal.end_of-requires-clause-counted
 end_of-requires-clause-counted g c =
     ap reported_numbers c.next_connection.ensures.reports
-    ∙ (serves_numbers _ _ _ _ c.args.client c.loop.reports.items c.next_connection.new.client c.requires.fresh
-    (serves_look _ _ _ _ _ _ c.loop.client c.next_connection.new.client c.loop.invariant.7 c.next_connection.ensures.stays c.next_connection.ensures.knew)).1
+    ∙ (serves_numbers _ _ _ _ _ c.args.client c.loop.reports.items c.next_connection.new.client c.requires.fresh
+    (serves_look _ _ _ _ _ _ _ c.loop.client c.next_connection.new.client c.loop.invariant.7 c.next_connection.ensures.stays c.next_connection.ensures.knew)).1
 
 pub returns-in-Err-clause-work : goal.returns-in-Err-clause-work
 returns-in-Err-clause-work g c =
     let e = c.end_of.ensures in
-    ended_work (is_some c.args.closer) c.args.limits (g.C.Connections.streams c.args.connections) (g.C.Connections.streams c.loop.connections)
+    ended_work (is_some c.args.closer) c.args.limits (g.K.Watch.shows c.args.clock.now) (g.C.Connections.streams c.args.connections) (g.C.Connections.streams c.loop.connections)
     (g.C.Connections.streams c.next_connection.new.connections) c.args.client c.loop.reports.items c.end_of.result.reports.items c.next_connection.new.client
     c.end_of.result.ended c.in-Err.cause c.end_of.result.cause
-    (serves_look (is_some c.args.closer) c.args.limits (g.C.Connections.streams c.args.connections) (g.C.Connections.streams c.loop.connections) c.args.client c.loop.reports.items
+    (serves_look (is_some c.args.closer) c.args.limits (g.K.Watch.shows c.args.clock.now) (g.C.Connections.streams c.args.connections) (g.C.Connections.streams c.loop.connections) c.args.client c.loop.reports.items
     c.loop.client c.next_connection.new.client c.loop.invariant.7 c.next_connection.ensures.stays c.next_connection.ensures.knew)
     e.0 (ap (λ v. v.items) e.1 ∙ c.next_connection.ensures.reports) e.2 c.in-Err.ensures.none

@@ -10,5 +10,5 @@ invariant-loop g l =
     × IfSome l.closer (λ c. (c.cell ≡ l.gate.cell) × IfSome c.known_close (λ first. l.client.known_close ≡ Some first))
     × (is_some l.closer ≡ is_some l.fn.closer)
     × (vec_len l.reports ≤ l.fn.limits.sessions)
-    × Serves (is_some l.fn.closer) l.fn.limits (g.C.Connections.streams l.fn.connections) (g.C.Connections.streams l.connections)
+    × Serves (is_some l.fn.closer) l.fn.limits (g.K.Watch.shows l.fn.clock) (g.C.Connections.streams l.fn.connections) (g.C.Connections.streams l.connections)
     l.fn.client l.reports.items l.client

@@ -1,7 +1,7 @@
 use Rattle.gate_serve.proofs.fault.ServeFaultFault.report.Goals as goal
 
 pub returns-in-Bind-clause-ok : goal.returns-in-Bind-clause-ok
-returns-in-Bind-clause-ok g c = rw (c.in-Bind.is) (rw (c.bytes-in-Bind.ensures) at c.report_text-in-Bind.ensures.ok)
+returns-in-Bind-clause-ok g c = rw (c.in-Bind.is) (rw (c.bytes-in-Bind.ensures) at c.put_line-in-Bind.ensures.ok)
 
 pub returns-in-LogFull-clause-ok : goal.returns-in-LogFull-clause-ok
 returns-in-LogFull-clause-ok g c = rw (c.in-LogFull.is) c.put_last-in-LogFull.ensures.ok
