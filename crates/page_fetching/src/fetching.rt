@@ -10,10 +10,10 @@ use thiserror::Error;
 /// Why no text of a gateway's page was fetched.
 #[derive(Clone, Copy, Debug, PartialEq, Eq, Error)]
 pub enum FetchFault {
-    /// No connection within a second, or it was refused.
+    /// No connection in time, or it was refused.
     #[error("the gateway doesn't accept a connection")]
     Unreachable,
-    /// The page did not end within four seconds.
+    /// The page did not end in time.
     #[error("the page didn't end in time")]
     TooSlow,
     /// The page is longer than 64 MiB.
@@ -51,19 +51,30 @@ fn read_page<R: Read + Drop>(reader: R, alloc: Global) -> Fetched {
     }
 }
 
-/// Reads a gateway's page of at most 64 MiB: connects within a second, and reads to its end within
-/// four seconds more.
-pub fn fetch<R: Net<Listener = TcpListener, Stream = TcpStream> + Clock>(
+/// Reads a gateway's page of at most 64 MiB: connects within so many seconds, and reads to its end
+/// within the others.
+pub fn fetch_within<R: Net<Listener = TcpListener, Stream = TcpStream> + Clock>(
     rt: &R,
     alloc: Global,
     address: SocketAddr,
+    connects: u64,
+    reads: u64,
 ) -> Fetched {
-    let within = Duration::from_secs(CONNECT_TIMEOUT);
+    let within = Duration::from_secs(connects);
     let Ok(stream) = TcpStream::connect_timeout(rt, &address, within) else {
         return Err(FetchFault::Unreachable);
     };
     let Ok(begun) = Instant::now(rt) else {
         return Err(FetchFault::Broken);
     };
-    read_page(Timed::new(rt, &stream, begun, PAGE_TIMEOUT), alloc)
+    read_page(Timed::new(rt, &stream, begun, reads), alloc)
+}
+
+/// The same within a second, and four seconds more.
+pub fn fetch<R: Net<Listener = TcpListener, Stream = TcpStream> + Clock>(
+    rt: &R,
+    alloc: Global,
+    address: SocketAddr,
+) -> Fetched {
+    fetch_within(rt, alloc, address, CONNECT_TIMEOUT, PAGE_TIMEOUT)
 }

@@ -4,5 +4,5 @@
 mod fetching;
 mod timed;
 
-pub use fetching::{FetchFault, Fetched, fetch};
+pub use fetching::{FetchFault, Fetched, fetch, fetch_within};
 pub use timed::Timed;

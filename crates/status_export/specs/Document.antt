@@ -122,6 +122,7 @@ object_json shown =
     ∷ (codes "host", field_json shown.row.host.now)
     ∷ (codes "service", service_json shown.row.service.now)
     ∷ (codes "state", string (state_name shown.row.state))
+    ∷ (codes "since", number_json shown.since)
     ∷ (codes "last", optional_json shown.row.last)
     ∷ (codes "stale", boolean shown.row.stale)
     ∷ (codes "acknowledgement", string (acknowledgement_word shown.row.acknowledgement))

@@ -137,7 +137,7 @@ object_gauges counts =
     ∷ number_gauge (codes "nscagate_objects_in_downtime") (codes "Objects in active downtime.") counts.in_downtime
     ∷ []
 
--- ---- problems
+-- ---- problems and stale objects
 
 abbrev pub flag_word : Bool → List ℕ
 flag_word flag = if flag then codes "true" else codes "false"
@@ -155,9 +155,9 @@ labelled gateway host service state acknowledged downtime = record {
   number = 1;
 }
 
--- the sample of a problem; a host has the service empty
-abbrev pub problem_sample : MergedObject → Sample
-problem_sample object =
+-- the sample of an object; a host has the service empty
+abbrev pub object_sample : MergedObject → Sample
+object_sample object =
     labelled object.gateway.now
     (plain_text object.row.host.now)
     (plain_text object.row.service.now)
@@ -167,13 +167,24 @@ problem_sample object =
 
 -- none where the object has no problem
 abbrev pub problem_samples : MergedObject → List Sample
-problem_samples object = if is_problem object.row.state then problem_sample object ∷ [] else []
+problem_samples object = if is_problem object.row.state then object_sample object ∷ [] else []
 
 abbrev pub problem_gauge : List MergedObject → Gauge
 problem_gauge objects = record {
   name = codes "nscagate_problem";
   help = codes "Objects with a problem.";
   samples = flat_map problem_samples objects;
+}
+
+-- none where the object is fresh
+abbrev pub stale_samples : MergedObject → List Sample
+stale_samples object = if object.row.stale then object_sample object ∷ [] else []
+
+abbrev pub stale_gauge : List MergedObject → Gauge
+stale_gauge objects = record {
+  name = codes "nscagate_stale";
+  help = codes "Objects without a result for longer than their threshold.";
+  samples = flat_map stale_samples objects;
 }
 
 -- ---- the text
@@ -183,3 +194,4 @@ metrics_page gateways objects =
     flat_map gauge_text (gateway_gauges gateways)
     ++ flat_map gauge_text (object_gauges (counts_of objects))
     ++ gauge_text (problem_gauge objects)
+    ++ gauge_text (stale_gauge objects)

@@ -106,6 +106,7 @@ fn push_object(
     members::field(alloc, writer, "host", row.host)?;
     members::service(alloc, writer, "service", row.service)?;
     members::text(writer, "state", state_name(row.state))?;
+    members::number(writer, "since", shown.since)?;
     members::optional(writer, "last", row.last)?;
     members::flag(writer, "stale", row.stale)?;
     members::text(

@@ -4,7 +4,7 @@ ghost use Rattle.std.specs.Prelude.{◌≡◌, ◌∷◌, ◌++◌, ℕ, List, S
 ghost use Rattle.std.specs.List.{flat_map, list_any};
 ghost use Rattle.status_merge.specs.Ranks.{counts_of};
 ghost use Rattle.status_export.specs.Gauges.{sample_text, gauge_text, value_text, read_value};
-ghost use Rattle.status_export.specs.Metrics.{gateway_sample, is_up, page_samples, age_samples, up_gauge, age_gauge, page_gauge, gateway_gauges, state_sample, state_gauge, number_gauge, object_gauges, flag_word, labelled, problem_sample, problem_samples, problem_gauge, metrics_page};
+ghost use Rattle.status_export.specs.Metrics.{gateway_sample, is_up, page_samples, age_samples, up_gauge, age_gauge, page_gauge, gateway_gauges, state_sample, state_gauge, number_gauge, object_gauges, flag_word, labelled, object_sample, problem_samples, problem_gauge, stale_samples, stale_gauge, metrics_page};
 ghost use Rattle.status_export.specs.inner.Labels.{page_number};
 ghost use Rattle.status_export.specs.inner.Writing.{Appends};
 
@@ -262,6 +262,7 @@ fn flag_word(flag: bool) -> &'static str
 // The sample of these labels.
 fn push_labelled<'a>(
     out: &mut Vec<u8>,
+    name: &str,
     gateway: &'a str,
     host: &'a str,
     service: &'a str,
@@ -270,7 +271,7 @@ fn push_labelled<'a>(
     downtime: &'a str,
 ) -> Result<(), AllocError>
     ensures { OnOk result (Appends out.old.items out.new.items
-        (sample_text (codes "nscagate_problem")
+        (sample_text name.now
         (labelled gateway.now host.now service.now state.now acknowledged.now downtime.now))) }
 {
     let labels = [
@@ -281,23 +282,25 @@ fn push_labelled<'a>(
         ("acknowledged", acknowledged),
         ("downtime", downtime),
     ];
-    push_sample(out, "nscagate_problem", &labels, 1)
+    push_sample(out, name, &labels, 1)
 }
 
-// The sample of a problem.
-fn push_problem(
+// The sample of an object.
+fn push_object(
     alloc: Global,
     out: &mut Vec<u8>,
+    name: &str,
     object: &MergedObject<'_>,
 ) -> Result<(), AllocError>
     ensures { OnOk result (Appends out.old.items out.new.items
-        (sample_text (codes "nscagate_problem") (problem_sample object.now))) }
+        (sample_text name.now (object_sample object.now))) }
 {
     let row = &object.row;
     let host = plain_text(alloc, row.host)?;
     let service = plain_text(alloc, row.service)?;
     push_labelled(
         out,
+        name,
         object.gateway,
         host.as_str(),
         service.as_str(),
@@ -316,7 +319,7 @@ fn push_problem_samples(
         (flat_map (sample_text (codes "nscagate_problem")) (problem_samples object.now))) }
 {
     if object.row.state.is_problem() {
-        push_problem(alloc, out, object)
+        push_object(alloc, out, "nscagate_problem", object)
     } else {
         Ok(())
     }
@@ -333,6 +336,40 @@ fn push_problem_gauge(
     push_head(out, "nscagate_problem", "Objects with a problem.")?;
     for object in objects {
         push_problem_samples(alloc, out, object)?;
+    }
+    Ok(())
+}
+
+fn push_stale_samples(
+    alloc: Global,
+    out: &mut Vec<u8>,
+    object: &MergedObject<'_>,
+) -> Result<(), AllocError>
+    ensures { OnOk result (Appends out.old.items out.new.items
+        (flat_map (sample_text (codes "nscagate_stale")) (stale_samples object.now))) }
+{
+    if object.row.stale {
+        push_object(alloc, out, "nscagate_stale", object)
+    } else {
+        Ok(())
+    }
+}
+
+fn push_stale_gauge(
+    alloc: Global,
+    out: &mut Vec<u8>,
+    objects: &[MergedObject<'_>],
+) -> Result<(), AllocError>
+    ensures { OnOk result
+        (Appends out.old.items out.new.items (gauge_text (stale_gauge objects.now))) }
+{
+    push_head(
+        out,
+        "nscagate_stale",
+        "Objects without a result for longer than their threshold.",
+    )?;
+    for object in objects {
+        push_stale_samples(alloc, out, object)?;
     }
     Ok(())
 }
@@ -358,5 +395,6 @@ pub fn metrics_text(
     push_gateway_gauges(&mut out, gateways)?;
     push_object_gauges(&mut out, &count(objects))?;
     push_problem_gauge(alloc, &mut out, objects)?;
+    push_stale_gauge(alloc, &mut out, objects)?;
     Ok(out)
 }

@@ -1,1 +1,2 @@
 pub mod MemorySteps
+pub mod HistorySteps

@@ -1,7 +1,6 @@
 -- The objects of several gateways' pages as one list: `merged`.
-use Rattle.std.specs.Prelude.{◌≡◌, ℕ, ◌+◌, Bool, false, true, ◌&&◌, ◌||◌, not, nat_lt, min, is_some, List, [], map, filter, find, Option, Some, None, Ok, Err, unwrap_or}
-use Rattle.std.specs.Borrow.{Bor}
-use Rattle.std.specs.List.{All, AllPass, Contains, IsDistinct, list_all, list_any}
+use Rattle.std.specs.Prelude.{◌≡◌, ℕ, ◌+◌, Bool, false, true, ◌&&◌, ◌||◌, not, nat_lt, min, is_some, List, [], map, filter, find, slice_get, Option, Some, None, Ok, Err, unwrap_or}
+use Rattle.std.specs.List.{All, AllPass, Contains, IsDistinct, list_all, list_any, enumerate_from}
 use Rattle.std.specs.Str.{bytes_eq}
 use Rattle.status_reading.specs.declared.rows.ShownObject.{ShownObject}
 use Rattle.status_merge.specs.declared.gateway.Gateway.{Gateway}
@@ -42,16 +41,21 @@ pub record IsListOf (rows shown : List MergedObject) : Type 0 where
 abbrev pub age_of : Gateway → ℕ
 age_of gateway = elim gateway.old [ Some old ↦ old.age | None ↦ 0 ]
 
--- a row of a page, with its gateway's name and a moment; where the page is old, it is stale
-abbrev pub shown_by : Bor (List ℕ) → ℕ → Bool → ShownObject → MergedObject
-shown_by gateway moment is_old row =
-    record { gateway = gateway; moment = moment; row = record row { stale = row.stale || is_old } }
+-- the row of this index on a page of this moment, with its gateway's name, the page's moment and age, and since when it
+-- has its state, which is the page's moment where that isn't known; where the page is old, it is stale
+abbrev pub shown_by : Gateway → ℕ → ℕ → ShownObject → MergedObject
+shown_by gateway moment index row = record {
+  gateway = gateway.name;
+  moment = min (moment + age_of gateway) 4294967295;
+  since = unwrap_or (slice_get gateway.since.now index) moment;
+  row = record row { stale = row.stale || is_some gateway.old };
+}
 
 -- the objects of a gateway's page, in its order, at its moment and its age; none where there is no page
 abbrev pub objects_on : Gateway → List MergedObject
 objects_on gateway = elim gateway.page [
   | Ok page ↦ map
-      (shown_by gateway.name (min (page.moment + age_of gateway) 4294967295) (is_some gateway.old))
-      page.objects.items
+      (λ (item : ℕ × ShownObject). shown_by gateway page.moment item.0 item.1)
+      (enumerate_from 0 page.objects.items)
   | Err fault ↦ []
 ]

@@ -9,6 +9,9 @@ pub struct Gateway<'a> {
     pub old: Option<Old>,
     /// The most objects that a page of it has shown.
     pub most: usize,
+    /// Since when each object of the page has its state, in the order of the page's objects, in
+    /// seconds since 1970.
+    pub since: &'a [u32],
 }
 
 /// An old page: it is still shown, since a later fetch gave none, and its objects are stale.
@@ -27,5 +30,7 @@ pub struct MergedObject<'a> {
     /// The moment of that gateway's page, and of an old page that moment and its age, at most
     /// 4,294,967,295.
     pub moment: u32,
+    /// Since when that gateway's pages show the state, in seconds since 1970.
+    pub since: u32,
     pub row: ShownObject<'a>,
 }

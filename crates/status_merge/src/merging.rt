@@ -1,6 +1,6 @@
 ghost use Rattle.std.specs.Prelude.{◌≡◌, ◌++◌, OnOk, IfOk, find};
 ghost use Rattle.std.specs.List.{flat_map};
-ghost use Rattle.status_merge.specs.Objects.{is_later, is_latest, age_of, objects_on, merged, IsListOf};
+ghost use Rattle.status_merge.specs.Objects.{is_later, is_latest, age_of, shown_by, objects_on, merged, IsListOf};
 
 use crate::gateway::{Gateway, MergedObject};
 use crate::groups::{Keyed, grouped};
@@ -54,6 +54,27 @@ pub fn age_of(gateway: &Gateway<'_>) -> u32
     }
 }
 
+// A row of a page, by its index.
+fn shown_by<'a>(
+    gateway: &Gateway<'a>,
+    moment: u32,
+    index: usize,
+    row: &ShownObject<'a>,
+) -> MergedObject<'a>
+    ensures { result ≡ shown_by gateway.now moment index row.now }
+{
+    let since = gateway.since.get(index).copied();
+    MergedObject {
+        gateway: gateway.name,
+        moment: moment.saturating_add(age_of(gateway)),
+        since: since.unwrap_or(moment),
+        row: ShownObject {
+            stale: row.stale || gateway.old.is_some(),
+            ..*row
+        },
+    }
+}
+
 // Adds the objects of a page.
 fn add_page<'a>(
     objects: &mut Vec<MergedObject<'a>>,
@@ -64,17 +85,9 @@ fn add_page<'a>(
     let Ok(page) = &gateway.page else {
         return Ok(());
     };
-    let moment = page.moment.saturating_add(age_of(gateway));
-    let is_old = gateway.old.is_some();
-    for row in page.objects.as_slice() {
-        objects.push(MergedObject {
-            gateway: gateway.name,
-            moment,
-            row: ShownObject {
-                stale: row.stale || is_old,
-                ..*row
-            },
-        })?;
+    let rows = page.objects.as_slice();
+    for (index, row) in rows.iter().enumerate() {
+        objects.push(shown_by(gateway, page.moment, index, row))?;
     }
     Ok(())
 }

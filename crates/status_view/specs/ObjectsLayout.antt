@@ -41,18 +41,23 @@ marks_nodes row =
     (Markup (codes "<span class=\"badge\">downtime ") ∷ Number row.depth ∷ Markup (codes "</span>") ∷ [])
     ++ (Markup (codes "</td>") ∷ [])
 
--- the age of the last result at the moment of the page, with its moment
-unfoldable pub last_nodes : ℕ → ℕ → List NodeView
-last_nodes moment last =
-    (Markup (codes "<td class=\"num cell\" title=\"") ∷ [])
-    ++ moment_nodes last
+-- how long before the moment of the page a moment was, which stands in the title of the cell that begins so
+unfoldable pub ago_nodes : List ℕ → ℕ → ℕ → List NodeView
+ago_nodes begin moment past =
+    (Markup begin ∷ [])
+    ++ moment_nodes past
     ++ (Markup (codes "\">") ∷ [])
-    ++ span_nodes (moment - last)
+    ++ span_nodes (moment - past)
     ++ (Markup (codes " ago</td>") ∷ [])
 
+-- since when the object has its state
+unfoldable pub since_nodes : ℕ → ℕ → List NodeView
+since_nodes moment since = ago_nodes (codes "<td class=\"num cell\" data-name=\"since\" title=\"") moment since
+
+-- the age of the last result
 unfoldable pub age_nodes : ℕ → Option ℕ → List NodeView
 age_nodes moment None = Markup (codes "<td class=\"num cell soft\">never</td>") ∷ []
-age_nodes moment (Some last) = last_nodes moment last
+age_nodes moment (Some last) = ago_nodes (codes "<td class=\"num cell\" title=\"") moment last
 
 -- the row of the object of this index; with the gateway where the page shows several
 unfoldable pub object_nodes : Bool → ℕ → ObjectShape → List NodeView
@@ -65,6 +70,7 @@ object_nodes several index row =
     ∷ [])
     ++ object_name_nodes index row.is_host
     ++ marks_nodes row
+    ++ since_nodes row.moment row.since
     ++ age_nodes row.moment row.last
     ++ (Markup (codes "<td class=\"out\">") ∷ Text (slot.Object index text.Output) ∷ [])
     ++ nodes_if several
@@ -80,7 +86,7 @@ objects_nodes shape =
     ∷ Markup (codes " of ")
     ∷ Number shape.counts.objects
     ∷ Markup (codes " shown</p>\n<table><thead><tr><th>State</th><th>Object</th><th>Marks</th>")
-    ∷ Markup (codes "<th>Last result</th><th>Output</th>")
+    ∷ Markup (codes "<th>Since</th><th>Last result</th><th>Output</th>")
     ∷ [])
     ++ nodes_if several (Markup (codes "<th>Gateway</th>") ∷ [])
     ++ (Markup (codes "</tr></thead><tbody>\n") ∷ [])

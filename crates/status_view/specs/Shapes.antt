@@ -87,6 +87,7 @@ object_shape object = record {
   depth = object.row.depth;
   is_unhandled = is_unhandled object.row;
   moment = object.moment;
+  since = object.since;
 }
 
 -- the shape of a comment's row

@@ -59,6 +59,7 @@ fn object_shape(shown: &MergedObject<'_>) -> ObjectShape
         depth: row.depth,
         is_unhandled: is_unhandled(row),
         moment: shown.moment,
+        since: shown.since,
     }
 }
 

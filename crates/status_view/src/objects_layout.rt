@@ -3,7 +3,7 @@
 ghost use Rattle.std.specs.Prelude.{◌≡◌, ◌++◌, OnOk};
 ghost use Rattle.status_view.specs.Layout.{each_indexed};
 ghost use Rattle.status_view.specs.Shapes.{shape_view};
-ghost use Rattle.status_view.specs.ObjectsLayout.{object_name_nodes, acknowledgement_nodes, marks_nodes, last_nodes, age_nodes, object_nodes, objects_nodes};
+ghost use Rattle.status_view.specs.ObjectsLayout.{object_name_nodes, acknowledgement_nodes, marks_nodes, ago_nodes, since_nodes, age_nodes, object_nodes, objects_nodes};
 
 use crate::layout::{Layout, Node, ObjectText, Slot};
 use crate::shape::{ObjectShape, PageShape};
@@ -70,14 +70,27 @@ fn lay_out_marks(layout: &mut Layout, row: &ObjectShape) -> Result<(), AllocErro
     layout.put(&[Node::Markup("</td>")])
 }
 
-fn lay_out_last(layout: &mut Layout, moment: u32, last: u32) -> Result<(), AllocError>
-    ensures { OnOk result (layout.new ≡ layout.old ++ last_nodes moment last) }
+fn lay_out_ago(
+    layout: &mut Layout,
+    begin: &'static str,
+    moment: u32,
+    past: u32,
+) -> Result<(), AllocError>
+    ensures { OnOk result (layout.new ≡ layout.old ++ ago_nodes begin.now moment past) }
 {
-    layout.put(&[Node::Markup("<td class=\"num cell\" title=\"")])?;
-    lay_out_moment(layout, last)?;
+    layout.put(&[Node::Markup(begin)])?;
+    lay_out_moment(layout, past)?;
     layout.put(&[Node::Markup("\">")])?;
-    lay_out_span(layout, moment.saturating_sub(last))?;
+    lay_out_span(layout, moment.saturating_sub(past))?;
     layout.put(&[Node::Markup(" ago</td>")])
+}
+
+#[tactic(auto, unfolding(crate::specs::ObjectsLayout::since_nodes))]
+fn lay_out_since(layout: &mut Layout, moment: u32, since: u32) -> Result<(), AllocError>
+    ensures { OnOk result (layout.new ≡ layout.old ++ since_nodes moment since) }
+{
+    let begin = "<td class=\"num cell\" data-name=\"since\" title=\"";
+    lay_out_ago(layout, begin, moment, since)
 }
 
 #[tactic(auto, unfolding(crate::specs::ObjectsLayout::age_nodes))]
@@ -86,7 +99,7 @@ fn lay_out_age(layout: &mut Layout, moment: u32, last: Option<u32>) -> Result<()
 {
     match last {
         None => layout.put(&[Node::Markup("<td class=\"num cell soft\">never</td>")]),
-        Some(last) => lay_out_last(layout, moment, last),
+        Some(last) => lay_out_ago(layout, "<td class=\"num cell\" title=\"", moment, last),
     }
 }
 
@@ -110,6 +123,7 @@ fn lay_out_object(
     ])?;
     lay_out_name(layout, index, row.is_host)?;
     lay_out_marks(layout, row)?;
+    lay_out_since(layout, row.moment, row.since)?;
     lay_out_age(layout, row.moment, row.last)?;
     layout.put(&[
         Node::Markup("<td class=\"out\">"),
@@ -147,7 +161,7 @@ pub fn lay_out_objects(layout: &mut Layout, shape: &PageShape) -> Result<(), All
         Node::Markup(" of "),
         Node::Number(shape.counts.objects as u64),
         Node::Markup(" shown</p>\n<table><thead><tr><th>State</th><th>Object</th><th>Marks</th>"),
-        Node::Markup("<th>Last result</th><th>Output</th>"),
+        Node::Markup("<th>Since</th><th>Last result</th><th>Output</th>"),
     ])?;
     layout.put_if(several, &[Node::Markup("<th>Gateway</th>")])?;
     layout.put(&[Node::Markup("</tr></thead><tbody>\n")])?;

@@ -37,6 +37,7 @@ pub struct ObjectShape {
     pub is_unhandled: bool,
     /// The moment of the page.
     pub moment: u32,
+    pub since: u32,
 }
 
 /// What a comment's row shows beside its texts. The moment is in seconds since 1970.

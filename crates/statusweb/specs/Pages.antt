@@ -1,7 +1,8 @@
 -- What is shown of gateways: the page that is kept of each (`IsShown`); and the pages are merged, selected by the query
 -- of a URL, and laid out as HTML (`IsPage`), as JSON (`json_body`) or as metrics (`metrics_body`).
-use Rattle.std.specs.Prelude.{◌≡◌, ℕ, ◌-◌, min, Bool, true, false, List, map, Option, Some, None, Result, Ok, Err, String, string_bytes}
+use Rattle.std.specs.Prelude.{◌≡◌, ℕ, ◌-◌, min, Bool, true, false, List, [], map, Option, Some, None, Result, Ok, Err, String, string_bytes}
 use Rattle.std.specs.declared.alloc.Global.{Global}
+use Rattle.std.specs.Arc.{arc_value}
 use Rattle.std.specs.List.{flat_map}
 use Rattle.form_urlencoded.specs.Form.{raw_pairs}
 use Rattle.status_reading.specs.declared.page.StatusPage.{StatusPage}
@@ -27,7 +28,7 @@ use Rattle.statusweb.specs.declared.words.Settings.{Settings}
 use Rattle.statusweb.specs.declared.causes.NoPage.{NoPage}
 use Rattle.statusweb.specs.declared.watching.Seen.{Seen}
 use Rattle.statusweb.specs.Causes.{read_cause, cause_of}
-use Rattle.statusweb.specs.Watching.{Text, bytes_of, IsTextOf}
+use Rattle.statusweb.specs.Watching.{Shared, bytes_of, IsTextOf}
 
 -- ---- what is kept
 
@@ -37,18 +38,23 @@ IsReadAs text (Ok page) = IsTextOf text (page_view page)
 IsReadAs text (Err cause) = (fault : ReadFault) × IsFaultOf text fault × (string_bytes cause ≡ read_cause fault)
 
 -- the page that is kept, or the cause why there is none
-abbrev pub IsPageOf : Option (Kept Text) → Option NoPage → Result StatusPage (String Global) → Type 0
+abbrev pub IsPageOf : Option (Kept Shared) → Option NoPage → Result StatusPage (String Global) → Type 0
 IsPageOf (Some kept) fault page = IsReadAs (bytes_of kept.page.text) page
 IsPageOf None fault (Ok page) = ⊥
 IsPageOf None fault (Err cause) = string_bytes cause ≡ cause_of fault
 
 -- whether the page that is kept is old at a moment, how old in seconds, and the cause why there is no newer one
-abbrev pub IsOldOf : Bool → ℕ → Option (Kept Text) → Option NoPage → Option Old → Type 0
+abbrev pub IsOldOf : Bool → ℕ → Option (Kept Shared) → Option NoPage → Option Old → Type 0
 IsOldOf true now (Some kept) fault (Some old) =
     (old.age ≡ min (now - kept.moment) 4294967295) × (string_bytes old.cause ≡ cause_of fault)
 IsOldOf true now (Some kept) fault None = ⊥
 IsOldOf true now None fault old = old ≡ None
 IsOldOf false now last fault old = old ≡ None
+
+-- since when each object of the page that is kept has its state
+abbrev pub since_in : Option (Kept Shared) → List ℕ
+since_in None = []
+since_in (Some kept) = (arc_value kept.page.text).since.items
 
 -- a gateway as it is shown at a moment, of which this is kept
 pub record IsShown (now : ℕ) (seen : Seen) (gateway : Gateway) : Type 0 where
@@ -56,6 +62,7 @@ pub record IsShown (now : ℕ) (seen : Seen) (gateway : Gateway) : Type 0 where
   pub page : IsPageOf seen.memory.last seen.memory.fault gateway.page
   pub old : IsOldOf (is_old now seen.memory) now seen.memory.last seen.memory.fault gateway.old
   pub most : gateway.most ≡ seen.memory.most
+  pub since : gateway.since.now ≡ since_in seen.memory.last
 
 -- ---- what is shown of it
 

@@ -1,5 +1,5 @@
 -- What is kept of each gateway: what a fetch gave, as it is kept (`IsFetchOf`), and what a memory holds, whoever else
--- reads its text (`memory_view`).
+-- reads its page (`memory_view`).
 use Rattle.std.specs.Prelude.{◌≡◌, ℕ, List, length, Option, Some, None, Result, Ok, Err, Vec}
 use Rattle.std.specs.declared.alloc.Global.{Global}
 use Rattle.std.specs.declared.sync.Arc.{Arc}
@@ -17,18 +17,19 @@ use Rattle.statusweb.specs.declared.words.Place.{Place}
 use Rattle.page_fetching.specs.declared.fetching.FetchFault.{FetchFault}
 use Rattle.statusweb.specs.declared.causes.NoPage.{NoPage}
 use Rattle.statusweb.specs.declared.causes.NoPage.TheVariants as none
+use Rattle.statusweb.specs.declared.watching.Contents.{Contents}
 use Rattle.statusweb.specs.declared.watching.Watched.{Watched}
 use Rattle.statusweb.specs.declared.watching.Seen.{Seen}
 
 -- ---- what a fetch gave
 
--- a text that is shared
-abbrev pub Text : Type 0
-Text = Arc (Vec ℕ Global) Global
+-- a page that is shared
+abbrev pub Shared : Type 0
+Shared = Arc Contents Global
 
--- its bytes
-abbrev pub bytes_of : Text → List ℕ
-bytes_of text = (arc_value text).items
+-- the bytes of its text
+abbrev pub bytes_of : Shared → List ℕ
+bytes_of shared = (arc_value shared).text.items
 
 -- what a fetch gave: a text or a fault
 abbrev pub text_of : Result (Vec ℕ Global) FetchFault → Result (List ℕ) FetchFault
@@ -46,18 +47,18 @@ abbrev pub HasObjects : List ℕ → ℕ → Type 0
 HasObjects text objects = (page : PageView) × IsTextOf text page × (objects ≡ length page.objects)
 
 -- the text is that of a page, and is kept with the number of its objects
-abbrev pub IsPageIn : List ℕ → Page Text → Type 0
+abbrev pub IsPageIn : List ℕ → Page Shared → Type 0
 IsPageIn text kept = (bytes_of kept.text ≡ text) × HasObjects text kept.objects
 
 -- a fetch gave this text, or this fault, and this page is kept of it, or this cause why there is none
-abbrev pub IsTaken : Result (List ℕ) FetchFault → Result (Page Text) NoPage → Type 0
+abbrev pub IsTaken : Result (List ℕ) FetchFault → Result (Page Shared) NoPage → Type 0
 IsTaken (Ok text) (Ok page) = IsPageIn text page
 IsTaken (Ok text) (Err (none.Read fault)) = IsFaultOf text fault
 IsTaken (Err fault) (Err (none.Fetch given)) = given ≡ fault
 IsTaken _ _ = ⊥
 
 -- the same of a fetch that ended at this moment
-pub record IsFetchOf (fetched : Result (List ℕ) FetchFault) (now : ℕ) (fetch : Fetch Text NoPage) : Type 0 where
+pub record IsFetchOf (fetched : Result (List ℕ) FetchFault) (now : ℕ) (fetch : Fetch Shared NoPage) : Type 0 where
   pub moment : fetch.moment ≡ now
   pub page : IsTaken fetched fetch.page
 
@@ -71,14 +72,14 @@ seen_place seen = seen.place
 
 -- ---- what a memory holds
 
--- a page with the bytes of its text
-abbrev pub kept_view : Kept Text → Kept (List ℕ)
+-- a page with what is shared of it
+abbrev pub kept_view : Kept Shared → Kept Contents
 kept_view kept =
-    record { page = record { text = bytes_of kept.page.text; objects = kept.page.objects }; moment = kept.moment }
+    record { page = record { text = arc_value kept.page.text; objects = kept.page.objects }; moment = kept.moment }
 
-abbrev pub last_view : Option (Kept Text) → Option (Kept (List ℕ))
+abbrev pub last_view : Option (Kept Shared) → Option (Kept Contents)
 last_view None = None
 last_view (Some kept) = Some (kept_view kept)
 
-abbrev pub memory_view : Memory Text NoPage → Memory (List ℕ) NoPage
+abbrev pub memory_view : Memory Shared NoPage → Memory Contents NoPage
 memory_view memory = record { last = last_view memory.last; fault = memory.fault; most = memory.most }

@@ -2,13 +2,13 @@
 ghost use Rattle.std.specs.Prelude.{◌≡◌, map, IfOk};
 ghost use Rattle.std.specs.List.{AllZip};
 ghost use Rattle.status_memory.specs.Memory.{is_old};
-ghost use Rattle.statusweb.specs.Pages.{IsPageOf, IsOldOf, IsShown, IsPage, json_body, metrics_body};
+ghost use Rattle.statusweb.specs.Pages.{IsPageOf, IsOldOf, since_in, IsShown, IsPage, json_body, metrics_body};
 
 use crate::causes::{NoPage, cause_of, read_cause};
-use crate::watching::{Seen, Text};
+use crate::watching::{Seen, Shared};
 use crate::words::Settings;
 use status_export::{json_text, metrics_text};
-use status_memory::Memory;
+use status_memory::{Kept, Memory};
 use status_merge::{Gateway, Old, merge, merge_comments, merge_downtimes, read_query, select};
 use status_reading::{StatusPage, read_status_page};
 use status_view::{View, html_page};
@@ -17,12 +17,12 @@ use std::alloc::{AllocError, Global};
 // The page that is kept of a gateway, or the cause why there is none.
 fn page_of<'t>(
     alloc: Global,
-    memory: &'t Memory<Text, NoPage>,
+    memory: &'t Memory<Shared, NoPage>,
 ) -> Result<Result<StatusPage<'t>, String>, AllocError>
     ensures { IfOk result (IsPageOf memory.now.last memory.now.fault) }
 {
     match &memory.last {
-        Some(kept) => match read_status_page(alloc, kept.page.text.as_slice()) {
+        Some(kept) => match read_status_page(alloc, kept.page.text.text.as_slice()) {
             Ok(page) => Ok(Ok(page)),
             Err(fault) => Ok(Err(read_cause(alloc, fault)?)),
         },
@@ -31,7 +31,11 @@ fn page_of<'t>(
 }
 
 // Where the page that is kept of a gateway is old: its age, and the cause.
-fn old_of(alloc: Global, memory: &Memory<Text, NoPage>, now: u64) -> Result<Option<Old>, AllocError>
+fn old_of(
+    alloc: Global,
+    memory: &Memory<Shared, NoPage>,
+    now: u64,
+) -> Result<Option<Old>, AllocError>
     ensures { IfOk result (IsOldOf (is_old now memory.now) now memory.now.last memory.now.fault) }
 {
     match &memory.last {
@@ -40,6 +44,16 @@ fn old_of(alloc: Global, memory: &Memory<Text, NoPage>, now: u64) -> Result<Opti
             cause: cause_of(alloc, memory.fault)?,
         })),
         _ => Ok(None),
+    }
+}
+
+// Since when each object of that page has its state.
+fn since_in(last: &Option<Kept<Shared>>) -> &[u32]
+    ensures { result.now ≡ since_in last.now }
+{
+    match last {
+        Some(kept) => kept.page.text.since.as_slice(),
+        None => &[],
     }
 }
 
@@ -59,6 +73,7 @@ pub fn gateways_of<'t>(
             page: page_of(alloc, &one.memory)?,
             old: old_of(alloc, &one.memory, now)?,
             most: one.memory.most,
+            since: since_in(&one.memory.last),
         })?;
     }
     Ok(gateways)

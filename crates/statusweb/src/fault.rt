@@ -1,9 +1,8 @@
-ghost use Rattle.std.specs.Prelude.{◌≡◌, ◌≢◌, ◌++◌, OnOk, OnErr, codes};
+ghost use Rattle.std.specs.Prelude.{◌≡◌, ◌≢◌};
 ghost use Rattle.std.specs.IoError.{error_kind};
-ghost use Rattle.gate_reader.specs.Sink.{Delivers, FailsOnce};
 
 use crate::words::WordsFault;
-use gate_reader::{Fault, Sink, put_last};
+use gate_reader::{Fault, Sink, put_last, put_line};
 use std::alloc::AllocError;
 use std::io;
 use std::io::ErrorKind;
@@ -46,17 +45,6 @@ impl From<WordsFault> for WebFault {
     }
 }
 
-// Writes a line of two texts, and flushes.
-fn report_text<E: Sink>(errors: &mut E, before: &[u8], text: &[u8]) -> io::Result<()>
-    ensures ok { OnOk result (Delivers (E.state errors.old) (E.state errors.new)
-        (before.now ++ text.now ++ codes "\n")) }
-    ensures err { OnErr result (FailsOnce (E.state errors.old) (E.state errors.new)) }
-{
-    errors.put(before)?;
-    errors.put(text)?;
-    put_last(errors, b"\n")
-}
-
 impl Fault for WebFault {
     ghost use Rattle.statusweb.specs.Fault.{status_of, message_of};
 
@@ -77,7 +65,7 @@ impl Fault for WebFault {
     fn report<E: Sink>(&self, errors: &mut E) -> io::Result<()> {
         match self {
             WebFault::BadArguments => put_last(errors, b"statusweb: bad arguments\n"),
-            WebFault::Bind(address) => report_text(errors, b"statusweb: bind ", address.as_bytes()),
+            WebFault::Bind(address) => put_line(errors, b"statusweb: bind ", address.as_bytes()),
             WebFault::OutOfMemory => put_last(errors, b"statusweb: OutOfMemory\n"),
             WebFault::Spawn => put_last(errors, b"statusweb: Spawn\n"),
             WebFault::WriteFault => put_last(errors, b"statusweb: WriteFault\n"),

@@ -2,12 +2,12 @@
 //! so nobody who asks waits for a gateway.
 ghost use Rattle.std.specs.Prelude.{◌≡◌, ◌<◌, length, map, IfOk, MatchResult};
 ghost use Rattle.status_reading.specs.Faults.{IsFaultOf};
-ghost use Rattle.statusweb.specs.Watching.{text_of, place_of, seen_place, last_view, memory_view, HasObjects, IsPageIn, IsFetchOf};
+ghost use Rattle.statusweb.specs.Watching.{text_of, place_of, seen_place, last_view, memory_view, IsPageIn, IsFetchOf};
 
 use crate::causes::NoPage;
 use crate::words::{Place, Settings};
 use page_fetching::{Fetched, fetch};
-use status_memory::{Fetch, Kept, Memory, Page};
+use status_memory::{Fetch, History, Kept, Memory, Page, StateChange};
 use status_reading::{ReadFault, read_status_page};
 use std::alloc::{AllocError, Global};
 use std::net::{Net, TcpListener, TcpStream};
@@ -16,21 +16,33 @@ use std::thread;
 use std::thread::Threads;
 use std::time::{Clock, Duration, SystemTime};
 
-/// The text of a page, which stays as long as anybody reads it.
-pub type Text = Arc<Vec<u8>, Global>;
+/// A page as it is kept.
+#[derive(Drop)]
+pub struct Contents {
+    pub text: Vec<u8>,
+    /// Since when each of its objects has its state, in the order of its rows.
+    pub since: Vec<u32>,
+    /// The last changes of states, the oldest first.
+    pub changes: Vec<StateChange>,
+}
+
+/// The same, which stays as long as anybody reads it.
+pub type Shared = Arc<Contents, Global>;
 
 /// A gateway, and what is kept of it.
 #[derive(Drop)]
 pub struct Watched<'a> {
     place: Place<'a>,
-    memory: Mutex<Memory<Text, NoPage>>,
+    memory: Mutex<Memory<Shared, NoPage>>,
+    // Taken by the thread that fetches alone.
+    history: Mutex<History>,
 }
 
 /// A gateway, and what was kept of it at some moment.
 #[derive(Drop)]
 pub struct Seen<'a> {
     pub place: Place<'a>,
-    pub memory: Memory<Text, NoPage>,
+    pub memory: Memory<Shared, NoPage>,
 }
 
 /// The gateways of the settings.
@@ -52,33 +64,38 @@ pub fn clock<R: Clock>(rt: &R) -> u32 {
     }
 }
 
-// The number of objects of the page that a text is.
-fn objects_in(alloc: Global, text: &[u8]) -> Result<usize, ReadFault>
-    ensures { MatchResult result (HasObjects text.now) (IsFaultOf text.now) }
-{
-    match read_status_page(alloc, text) {
-        Ok(page) => Ok(page.objects.len()),
-        Err(fault) => Err(fault),
-    }
-}
-
-// The page that a text is, as it is kept.
-fn page_in(alloc: Global, text: Vec<u8>) -> Result<Page<Text>, ReadFault>
+// The page that a text is, as it is kept. The history takes it in.
+fn page_in(alloc: Global, history: &mut History, text: Vec<u8>) -> Result<Page<Shared>, ReadFault>
     ensures { MatchResult result (IsPageIn text.items) (IsFaultOf text.items) }
 {
-    let objects = objects_in(alloc, text.as_slice())?;
-    match Arc::new(alloc, text) {
+    let page = read_status_page(alloc, text.as_slice())?;
+    history.observe(alloc, &page)?;
+    let objects = page.objects.len();
+    drop(page);
+    let since = history.since(alloc)?;
+    let changes = history.changes(alloc)?;
+    let contents = Contents {
+        text,
+        since,
+        changes,
+    };
+    match Arc::new(alloc, contents) {
         Ok(text) => Ok(Page { text, objects }),
         Err(_) => Err(ReadFault::OutOfMemory),
     }
 }
 
 // What was fetched, as it is kept.
-fn fetch_of(alloc: Global, fetched: Fetched, moment: u64) -> Fetch<Text, NoPage>
+fn fetch_of(
+    alloc: Global,
+    history: &mut History,
+    fetched: Fetched,
+    moment: u64,
+) -> Fetch<Shared, NoPage>
     ensures { IsFetchOf (text_of fetched) moment result }
 {
     match fetched {
-        Ok(text) => match page_in(alloc, text) {
+        Ok(text) => match page_in(alloc, history, text) {
             Ok(page) => Fetch {
                 moment,
                 page: Ok(page),
@@ -95,8 +112,8 @@ fn fetch_of(alloc: Global, fetched: Fetched, moment: u64) -> Fetch<Text, NoPage>
     }
 }
 
-// The last page once more, with the same text.
-fn last_again(last: &Option<Kept<Text>>) -> Result<Option<Kept<Text>>, AllocError>
+// The last page once more.
+fn last_again(last: &Option<Kept<Shared>>) -> Result<Option<Kept<Shared>>, AllocError>
     ensures { IfOk result (λ again. last_view again ≡ last_view last.now) }
 {
     let Some(kept) = last else {
@@ -111,7 +128,7 @@ fn last_again(last: &Option<Kept<Text>>) -> Result<Option<Kept<Text>>, AllocErro
 }
 
 // The same memory once more.
-fn memory_again(memory: &Memory<Text, NoPage>) -> Result<Memory<Text, NoPage>, AllocError>
+fn memory_again(memory: &Memory<Shared, NoPage>) -> Result<Memory<Shared, NoPage>, AllocError>
     ensures { IfOk result (λ again. memory_view again ≡ memory_view memory.now) }
 {
     Ok(Memory {
@@ -122,13 +139,14 @@ fn memory_again(memory: &Memory<Text, NoPage>) -> Result<Memory<Text, NoPage>, A
 }
 
 impl<'a> Watched<'a> {
-    fn new(place: Place<'a>) -> Watched<'a>
-        ensures { result.place ≡ place.entry }
+    fn new(alloc: Global, place: Place<'a>) -> Result<Watched<'a>, AllocError>
+        ensures { IfOk result (λ watched. watched.place ≡ place.entry) }
     {
-        Watched {
+        Ok(Watched {
             place,
             memory: Mutex::new(Memory::new()),
-        }
+            history: Mutex::new(History::new(alloc)?),
+        })
     }
 
     fn seen<R: Wait>(&self, rt: &R) -> Result<Seen<'a>, AllocError>
@@ -148,7 +166,8 @@ impl<'a> Watched<'a> {
         alloc: Global,
     ) {
         let fetched = fetch(rt, alloc, self.place.address);
-        let fetch = fetch_of(alloc, fetched, u64::from(clock(rt)));
+        let now = u64::from(clock(rt));
+        let fetch = fetch_of(alloc, &mut self.history.lock(rt), fetched, now);
         self.memory.lock(rt).observe(fetch);
     }
 
@@ -171,7 +190,7 @@ impl<'a> Watch<'a> {
     pub fn new(alloc: Global, settings: &'a Settings<'a>) -> Result<Watch<'a>, AllocError> {
         let mut watched = Vec::new(alloc);
         for place in settings.places.as_slice() {
-            watched.push(Watched::new(*place))?;
+            watched.push(Watched::new(alloc, *place)?)?;
         }
         Ok(Watch { settings, watched })
     }

@@ -16,14 +16,14 @@ const JSON: &[u8] = b"{\"gateways\":[\
 {\"name\":\"e\\\"\",\"reachable\":true,\"moment\":1260,\"closing\":null},\
 {\"name\":\"west\",\"reachable\":false,\"fault\":\"it can't be reached\"}],\
 \"objects\":[{\"gateway\":\"e\\\"\",\"host\":\"web1\",\
-\"service\":null,\"state\":\"PENDING\",\"last\":null,\
+\"service\":null,\"state\":\"PENDING\",\"since\":1200,\"last\":null,\
 \"stale\":false,\"acknowledgement\":\"none\",\"depth\":0,\"unhandled\":false,\"output\":\"\"},\
 {\"gateway\":\"e\\\"\",\"host\":\"web1\",\
-\"service\":\"HTTP\",\"state\":\"CRITICAL\",\
+\"service\":\"HTTP\",\"state\":\"CRITICAL\",\"since\":1210,\
 \"last\":1250,\"stale\":false,\"acknowledgement\":\"sticky\",\"depth\":1,\"unhandled\":false,\
 \"output\":\"a \\\"b\\\"\\n\\\\c; 10s\"},\
 {\"gateway\":\"e\\\"\",\"host\":\"db1\",\
-\"service\":null,\"state\":\"PENDING\",\"last\":null,\
+\"service\":null,\"state\":\"PENDING\",\"since\":1260,\"last\":null,\
 \"stale\":false,\"acknowledgement\":\"none\",\"depth\":0,\"unhandled\":false,\"output\":\"\"}],\
 \"comments\":[{\"gateway\":\"e\\\"\",\"id\":1,\"host\":\"web1\",\"service\":null,\"source\":\"user\",\
 \"persistent\":true,\"moment\":1100,\"author\":\"ann\",\"text\":\"rack 4\"}],\
@@ -79,7 +79,9 @@ nscagate_objects_in_downtime 1\n\
 # HELP nscagate_problem Objects with a problem.\n\
 # TYPE nscagate_problem gauge\n\
 nscagate_problem{gateway=\"e\\\"\",host=\"web1\",service=\"HTTP\",state=\"CRITICAL\",\
-acknowledged=\"true\",downtime=\"true\"} 1\n";
+acknowledged=\"true\",downtime=\"true\"} 1\n\
+# HELP nscagate_stale Objects without a result for longer than their threshold.\n\
+# TYPE nscagate_stale gauge\n";
 
 fn gateways(alloc: Global) -> Result<[Gateway<'static>; 2], ReadFault> {
     Ok([
@@ -88,12 +90,14 @@ fn gateways(alloc: Global) -> Result<[Gateway<'static>; 2], ReadFault> {
             page: Ok(read_status_page(alloc, PAGE)?),
             old: None,
             most: 0,
+            since: &[1200, 1210],
         },
         Gateway {
             name: "west",
             page: Err(String::from_str(alloc, "it can't be reached")?),
             old: None,
             most: 0,
+            since: &[],
         },
     ])
 }

@@ -1,4 +1,7 @@
-use status_memory::{Fetch, Memory, Page};
+use gate_model::push_number;
+use status_memory::{Fetch, History, Memory, Page, StateChange};
+use status_reading::{read_status_page, state_name};
+use std::alloc::{AllocError, Global};
 use std::test::Fail;
 
 // Fetches of a page, of a fault, and of a page with fewer objects.
@@ -58,5 +61,52 @@ fn a_new_page_is_old_after_60_seconds(rt: HostRuntime) -> Result<(), Fail> {
     });
     assert!(rt; !memory.is_old(160));
     assert!(rt; memory.is_old(161));
+    Ok(())
+}
+
+const PAGES: [&[u8]; 4] = [
+    b"status 100\nobject;web1;;UP;90;fresh;-;0;\nobject;web1;HTTP;OK;95;fresh;-;0;\n",
+    b"status 105\nobject;web1;;UP;104;fresh;-;0;\nobject;web1;HTTP;CRITICAL;104;fresh;-;0;\n",
+    b"status 110\nobject;db1;;DOWN;109;fresh;-;0;\nobject;web1;;UP;104;fresh;-;0;\nobject;web1;HTTP;CRITICAL;104;fresh;-;0;\n",
+    b"status 115\nobject;db1;;UP;114;fresh;-;0;\nobject;web1;;UP;104;fresh;-;0;\nobject;web1;HTTP;WARNING;114;fresh;-;0;\n",
+];
+
+fn push_part(text: &mut Vec<u8>, part: &[u8]) -> Result<(), AllocError> {
+    text.push(b' ')?;
+    text.extend_from_slice(part)
+}
+
+// The changes as lines of a moment, a host, a service and two states.
+fn lines(alloc: Global, changes: &[StateChange]) -> Result<Vec<u8>, AllocError> {
+    let mut text = Vec::new(alloc);
+    for change in changes {
+        push_number(&mut text, u64::from(change.moment))?;
+        push_part(&mut text, change.host.as_slice())?;
+        push_part(&mut text, change.service.as_slice())?;
+        push_part(&mut text, state_name(change.from).as_bytes())?;
+        push_part(&mut text, state_name(change.to).as_bytes())?;
+        text.push(b'\n')?;
+    }
+    Ok(text)
+}
+
+#[test]
+fn changes_of_states_are_kept(rt: HostRuntime) -> Result<(), Fail> {
+    let alloc = rt.alloc();
+    let mut history = History::new(alloc)?;
+    for text in PAGES {
+        let page = read_status_page(alloc, text)?;
+        history.observe(alloc, &page)?;
+    }
+    assert_eq!(rt;
+        history.since(alloc)?.as_slice(),
+        [115, 100, 115].as_slice()
+    );
+    let changes = history.changes(alloc)?;
+    let text = lines(alloc, changes.as_slice())?;
+    assert_eq!(rt;
+        text.as_slice(),
+        b"105 web1 HTTP OK CRITICAL\n115 db1  DOWN UP\n115 web1 HTTP CRITICAL WARNING\n".as_slice()
+    );
     Ok(())
 }

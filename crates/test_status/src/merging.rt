@@ -19,18 +19,21 @@ fn gateways(alloc: Global) -> Result<[Gateway<'static>; 3], ReadFault> {
             page: Ok(read_status_page(alloc, EAST)?),
             old: None,
             most: 0,
+            since: &[],
         },
         Gateway {
             name: "north",
             page: Err(String::new(alloc)),
             old: None,
             most: 0,
+            since: &[],
         },
         Gateway {
             name: "west",
             page: Ok(read_status_page(alloc, WEST)?),
             old: None,
             most: 0,
+            since: &[],
         },
     ])
 }

@@ -33,14 +33,16 @@ nreachable</option><option>up</option><option>pending</option></select></label> 
 <input name=\"host\" value=\"\"></label> <label>Refresh <input name=\"refresh\" type=\"numbe\
 r\" min=\"0\" max=\"3600\" value=\"30\"></label> <button>Show</button></form>\n<h2>Hosts an\
 d services</h2><p class=\"soft\">2 of 2 shown</p>\n<table><thead><tr><th>State</th><th>Objec\
-t</th><th>Marks</th><th>Last result</th><th>Output</th></tr></thead><tbody>\n\
+t</th><th>Marks</th><th>Since</th><th>Last result</th><th>Output</th></tr></thead><tbody>\n\
 <tr class=\"up handled\"><td class=\"cell\"><span class=\"badge state\">UP</span></td><td cl\
 ass=\"name\"><a href=\"/?host=web%2F1\">web/1</a></td><td class=\"cell\"></td><td class=\"nu\
+m cell\" data-name=\"since\" title=\"2026-11-23 20:11:00Z\">4 min ago</td><td class=\"nu\
 m cell\" title=\"2026-11-23 20:14:00Z\">60 s ago</td><td class=\"out\"></td></tr>\n\
 <tr class=\"critical handled\"><td class=\"cell\"><span class=\"badge state\">CRITICAL</span></td>\
 <td class=\"name\"><a href=\"/?host=web%2F1\">web/1</a> <span class=\"soft\">/</span> HTTP</td><td cl\
 ass=\"cell\"><span class=\"badge stale\">stale</span> <span class=\"badge\">acknowledged, st\
-icky</span> <span class=\"badge\">downtime 1</span></td><td class=\"num cell\" title=\"2026-\
+icky</span> <span class=\"badge\">downtime 1</span></td><td class=\"num cell\" data-name=\"si\
+nce\" title=\"2026-11-23 20:15:00Z\">0 s ago</td><td class=\"num cell\" title=\"2026-\
 11-23 20:13:30Z\">90 s ago</td><td class=\"out\">a &lt;b&gt;\n10s</td></tr>\n\
 </tbody></table>\n\
 <footer><a href=\"/status.json\">status.json</a> &middot; <a href=\"/metrics\">metrics</a\
@@ -53,6 +55,7 @@ fn shown(alloc: Global) -> Result<Vec<u8>, ReadFault> {
         page: Ok(read_status_page(alloc, PAGE)?),
         old: None,
         most: 0,
+        since: &[1795464660],
     }];
     let query = read_query(alloc, "", 30)?;
     let objects = merge(alloc, &gateways)?;

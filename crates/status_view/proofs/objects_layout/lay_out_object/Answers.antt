@@ -13,6 +13,7 @@ returns c =
       c.in_ok-put_if-2.ensures,
       c.in_ok-put-3.ensures,
       c.in_ok-lay_out_age.ensures,
+      c.in_ok-lay_out_since.ensures,
       c.in_ok-lay_out_marks.ensures,
       c.in_ok-lay_out_name.ensures,
       c.in_ok-put-2.ensures,

@@ -1,12 +1,12 @@
 use Rattle.std.proofs.Common.{append_assoc, ◌++◌}
-use Rattle.status_view.specs.ObjectsLayout.{last_nodes}
+use Rattle.status_view.specs.ObjectsLayout.{ago_nodes}
 use Rattle.status_view.proofs.LayoutSteps.{ended}
-use Rattle.status_view.proofs.objects_layout.lay_out_last.Goals as goal
+use Rattle.status_view.proofs.objects_layout.lay_out_ago.Goals as goal
 
 pub returns : goal.returns
-unfolding last_nodes
+unfolding ago_nodes
 returns c =
-    ended c.put-3.result _ _ (c.args.layout.now ++ last_nodes c.args.moment c.args.last) c.put-3.ensures
+    ended c.put-3.result _ _ (c.args.layout.now ++ ago_nodes c.args.begin.now c.args.moment c.args.past) c.put-3.ensures
     (rw (
       c.in_ok-lay_out_span.ensures,
       c.in_ok-put-2.ensures,
