@@ -8,7 +8,7 @@ use Rattle.operator_effects.specs.declared.commands.PlanFault.TheVariants as pla
 use Rattle.page_fetching.specs.declared.fetching.FetchFault.{FetchFault}
 use Rattle.page_fetching.specs.declared.fetching.FetchFault.TheVariants as fetches
 use Rattle.nscagatectl.specs.declared.fault.ControlFault.{ControlFault}
-use Rattle.nscagatectl.specs.declared.fault.ControlFault.TheVariants.{BadWords, BadAddress, BadWait, Unreadable, Config, Plan, NoPage, BadPage, NoClock, OutOfMemory, WriteFault}
+use Rattle.nscagatectl.specs.declared.fault.ControlFault.TheVariants.{BadWords, NotUtf8, BadAddress, BadWait, BadAge, BadInterval, BadState, Unreadable, Config, Plan, NoPage, BadPage, NoClock, OutOfMemory, WriteFault}
 
 -- why words are faulty
 abbrev pub request_text : RequestFault → List ℕ
@@ -38,8 +38,12 @@ page_text fetches.OutOfMemory = codes "out of memory"
 -- the cause of a fault
 abbrev pub cause : ControlFault → List ℕ
 cause BadWords = codes "bad words"
+cause NotUtf8 = codes "a word is no UTF-8: write its bytes as \\xe9, with --escaped"
 cause BadAddress = codes "an address is an IP address and a port"
 cause BadWait = codes "--wait is 1 to 3600"
+cause BadAge = codes "--age is a number of seconds"
+cause BadInterval = codes "--interval is 1 to 3600"
+cause BadState = codes "--state is a state, or all, problems, unhandled or stale"
 cause Unreadable = codes "the configuration can't be read"
 cause BadPage = codes "what the pages port gives is no status page"
 cause NoClock = codes "the clock can't be read"
@@ -62,8 +66,12 @@ plan_status plans.OutOfMemory = 3
 -- the exit status: 2 where the words or the configuration are faulty, 3 where there is no answer
 abbrev pub status_of : ControlFault → ℕ
 status_of BadWords = 2
+status_of NotUtf8 = 2
 status_of BadAddress = 2
 status_of BadWait = 2
+status_of BadAge = 2
+status_of BadInterval = 2
+status_of BadState = 2
 status_of Unreadable = 2
 status_of (Config text) = 2
 status_of (Plan fault) = plan_status fault

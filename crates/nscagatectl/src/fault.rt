@@ -1,26 +1,33 @@
-ghost use Rattle.std.specs.Prelude.{◌≡◌, ◌≢◌, ◌++◌, OnOk, OnErr, codes};
+ghost use Rattle.std.specs.Prelude.{◌≡◌, ◌≢◌};
 ghost use Rattle.std.specs.IoError.{error_kind};
-ghost use Rattle.gate_reader.specs.Sink.{Delivers, FailsOnce};
 ghost use Rattle.nscagatectl.specs.Fault.{cause, page_text, plan_status, plan_text, request_text};
 
 use gate_model::Text;
-use gate_reader::{Fault, Sink, put_last};
+use gate_reader::{Fault, Sink, put_line};
 use operator_commands::RequestFault;
 use operator_effects::PlanFault;
 use page_fetching::FetchFault;
-use std::alloc::AllocError;
+use std::alloc::{AllocError, AllocFailed};
 use std::io;
 use std::io::ErrorKind;
 
 /// Why the program ends before it has sent all commands.
 #[derive(Debug, Drop)]
 pub enum ControlFault {
-    /// The words after the program's name ask for nothing, or can't be read as text.
+    /// The words after the program's name ask for nothing.
     BadWords,
+    /// A word is no UTF-8.
+    NotUtf8,
     /// An address is no IP address and port.
     BadAddress,
     /// `--wait` is no number of 1 to 3600.
     BadWait,
+    /// `--age` is no number.
+    BadAge,
+    /// `--interval` is no number of 1 to 3600.
+    BadInterval,
+    /// `status --state` is no state, and none of the other words.
+    BadState,
     /// The configuration can't be read.
     Unreadable,
     /// The configuration is faulty: `config: ` and its fault.
@@ -45,6 +52,16 @@ impl From<AllocError> for ControlFault {
     ghost from_gives = { λ _ fault. fault ≡ OutOfMemory };
 
     fn from(_: AllocError) -> ControlFault {
+        ControlFault::OutOfMemory
+    }
+}
+
+impl<T: Drop> From<AllocFailed<T>> for ControlFault {
+    ghost use Rattle.nscagatectl.specs.declared.fault.ControlFault.TheVariants.{OutOfMemory};
+
+    ghost from_gives = { λ _ fault. fault ≡ OutOfMemory };
+
+    fn from(_: AllocFailed<T>) -> ControlFault {
         ControlFault::OutOfMemory
     }
 }
@@ -88,14 +105,18 @@ fn page_text(fault: FetchFault) -> &'static [u8]
     }
 }
 
-// The cause of a fault.
-fn cause(fault: &ControlFault) -> &[u8]
+/// The cause of a fault.
+pub fn cause(fault: &ControlFault) -> &[u8]
     ensures { result.now ≡ cause fault.now }
 {
     match fault {
         ControlFault::BadWords => b"bad words",
+        ControlFault::NotUtf8 => b"a word is no UTF-8: write its bytes as \\xe9, with --escaped",
         ControlFault::BadAddress => b"an address is an IP address and a port",
         ControlFault::BadWait => b"--wait is 1 to 3600",
+        ControlFault::BadAge => b"--age is a number of seconds",
+        ControlFault::BadInterval => b"--interval is 1 to 3600",
+        ControlFault::BadState => b"--state is a state, or all, problems, unhandled or stale",
         ControlFault::Unreadable => b"the configuration can't be read",
         ControlFault::BadPage => b"what the pages port gives is no status page",
         ControlFault::NoClock => b"the clock can't be read",
@@ -116,17 +137,6 @@ fn plan_status(fault: PlanFault) -> u8
     }
 }
 
-// Writes a line of two texts, and flushes.
-fn report_text<E: Sink>(errors: &mut E, before: &[u8], text: &[u8]) -> io::Result<()>
-    ensures ok { OnOk result (Delivers (E.state errors.old) (E.state errors.new)
-        (before.now ++ text.now ++ codes "\n")) }
-    ensures err { OnErr result (FailsOnce (E.state errors.old) (E.state errors.new)) }
-{
-    errors.put(before)?;
-    errors.put(text)?;
-    put_last(errors, b"\n")
-}
-
 impl Fault for ControlFault {
     ghost use Rattle.nscagatectl.specs.Fault.{status_of, message_of};
 
@@ -138,8 +148,12 @@ impl Fault for ControlFault {
     fn status(&self) -> u8 {
         match self {
             ControlFault::BadWords
+            | ControlFault::NotUtf8
             | ControlFault::BadAddress
             | ControlFault::BadWait
+            | ControlFault::BadAge
+            | ControlFault::BadInterval
+            | ControlFault::BadState
             | ControlFault::Unreadable
             | ControlFault::Config(_) => 2,
             ControlFault::Plan(fault) => plan_status(*fault),
@@ -153,19 +167,19 @@ impl Fault for ControlFault {
 
     /// Own rule: the text of the line.
     fn report<E: Sink>(&self, errors: &mut E) -> io::Result<()> {
-        report_text(errors, b"nscagatectl: ", cause(self))
+        put_line(errors, b"nscagatectl: ", cause(self))
     }
 }
 
-/// The fault of an error on the words: out of memory, or words that are no text.
+/// The fault of an error on the words: out of memory, or a word that is no text.
 pub fn words_fault(error: &io::Error) -> ControlFault
     ensures memory { error_kind error.now ≡ ErrorKind.OutOfMemory
         → result ≡ ControlFault.OutOfMemory }
     ensures other { error_kind error.now ≢ ErrorKind.OutOfMemory
-        → result ≡ ControlFault.BadWords }
+        → result ≡ ControlFault.NotUtf8 }
 {
     match error.kind() {
         ErrorKind::OutOfMemory => ControlFault::OutOfMemory,
-        _ => ControlFault::BadWords,
+        _ => ControlFault::NotUtf8,
     }
 }

@@ -3,11 +3,15 @@
 //! reads its answer, and watches the page until it shows the effect.
 #![tactic(auto)]
 
+mod checking;
 mod fault;
+mod following;
 mod pages;
 mod places;
 mod running;
 mod sending;
+mod showing;
+mod testing;
 
 use fault::{ControlFault, words_fault};
 use gate_reader::end_with;

@@ -3,7 +3,7 @@
 ghost use Rattle.std.specs.Prelude.{◌≡◌, ◌≤◌, IfOk};
 
 use crate::fault::ControlFault;
-use gate_config::read_config;
+use gate_config::{Config, read_config};
 use gate_grammar::read_number;
 use gate_model::{DOCUMENT_BYTES, Text};
 use operator_commands::Options;
@@ -37,15 +37,20 @@ fn reachable(address: SocketAddr) -> SocketAddr {
     SocketAddr::new(ip, address.port())
 }
 
-fn address_in(text: &Text) -> Result<SocketAddr, ControlFault> {
-    match SocketAddr::parse_ascii(text.bytes()) {
-        Ok(address) => Ok(reachable(address)),
-        Err(_) => Err(ControlFault::BadAddress),
+/// The address that a text is, where it can be connected to.
+pub fn read_address(text: &[u8]) -> Option<SocketAddr> {
+    match SocketAddr::parse_ascii(text) {
+        Ok(address) => Some(reachable(address)),
+        Err(_) => None,
     }
 }
 
-// Reads a file, and no more of it than one byte beyond the greatest configuration.
-fn read_file<F: Files>(files: &F, alloc: Global, path: &str) -> Result<Vec<u8>, ControlFault> {
+fn address_in(text: &Text) -> Result<SocketAddr, ControlFault> {
+    read_address(text.bytes()).ok_or(ControlFault::BadAddress)
+}
+
+/// Reads a file, and no more of it than one byte beyond the greatest configuration.
+pub fn read_file<F: Files>(files: &F, alloc: Global, path: &str) -> Result<Vec<u8>, ControlFault> {
     let Ok(file) = File::open(files, path) else {
         return Err(ControlFault::Unreadable);
     };
@@ -56,13 +61,10 @@ fn read_file<F: Files>(files: &F, alloc: Global, path: &str) -> Result<Vec<u8>, 
     }
 }
 
-// The operators port and the pages port of the daemon's configuration.
-fn configured(alloc: Global, text: &[u8]) -> Result<(SocketAddr, SocketAddr), ControlFault> {
+// What a text configures.
+fn configured(alloc: Global, text: &[u8]) -> Result<Config, ControlFault> {
     match read_config(alloc, text) {
-        Ok(config) => Ok((
-            reachable(config.operators.socket),
-            reachable(config.pages.socket),
-        )),
+        Ok(config) => Ok(config),
         Err(fault) => {
             let mut text = Vec::from_slice(alloc, b"config: ")?;
             text.extend_from_slice(fault.text(alloc)?.as_slice())?;
@@ -85,16 +87,16 @@ fn path_of(options: &Options) -> Result<&str, ControlFault> {
 fn address_or(option: &Option<Text>, default: SocketAddr) -> Result<SocketAddr, ControlFault> {
     match option {
         Some(text) => address_in(text),
-        None => Ok(default),
+        None => Ok(reachable(default)),
     }
 }
 
-// The ports of the configuration that the options name, or else of the daemon's own.
-fn read_ports<F: Files>(
+/// The configuration that the options name, or else the daemon's own.
+pub fn configuration<F: Files>(
     files: &F,
     alloc: Global,
     options: &Options,
-) -> Result<(SocketAddr, SocketAddr), ControlFault> {
+) -> Result<Config, ControlFault> {
     let text = read_file(files, alloc, path_of(options)?)?;
     configured(alloc, text.as_slice())
 }
@@ -110,8 +112,11 @@ pub fn places_for<F: Files>(
     let (operators, pages) = match (&options.operators, &options.pages) {
         (Some(operators), Some(pages)) => (address_in(operators)?, address_in(pages)?),
         (operators, pages) => {
-            let ports = read_ports(files, alloc, options)?;
-            (address_or(operators, ports.0)?, address_or(pages, ports.1)?)
+            let config = configuration(files, alloc, options)?;
+            (
+                address_or(operators, config.operators.socket)?,
+                address_or(pages, config.pages.socket)?,
+            )
         }
     };
     Ok(Places {
@@ -121,8 +126,8 @@ pub fn places_for<F: Files>(
     })
 }
 
-// `--wait`, which is 1 to 3600, by default 10.
-fn wait_in(options: &Options) -> Result<u32, ControlFault>
+/// `--wait`, which is 1 to 3600, by default 10.
+pub fn wait_in(options: &Options) -> Result<u32, ControlFault>
     ensures { IfOk result (λ seconds. (1 ≤ seconds) × (seconds ≤ 3600)) }
 {
     let Some(text) = &options.wait else {

@@ -30,7 +30,7 @@ pub enum RequestFault {
     /// Neither `--for` nor `--until` is there, or both are.
     #[error("downtime ends by one of --for and --until")]
     NoEnd,
-    /// The request is not one command by itself: it names ids or times, or it only reads.
+    /// The request is not one command by itself: it names ids or times.
     #[error("the request is not one command")]
     NoCommand,
 }
@@ -113,10 +113,9 @@ pub fn body_for(user: Text, request: Request) -> Result<Body, RequestFault>
             None => Err(RequestFault::BadState),
         },
         Request::Shutdown => Ok(Body::Shutdown),
-        Request::Uncomment { .. }
-        | Request::Downtime { .. }
-        | Request::Cancel { .. }
-        | Request::Status => Err(RequestFault::NoCommand),
+        Request::Uncomment { .. } | Request::Downtime { .. } | Request::Cancel { .. } => {
+            Err(RequestFault::NoCommand)
+        }
     }
 }
 

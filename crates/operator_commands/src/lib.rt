@@ -8,6 +8,6 @@ mod texts;
 mod times;
 
 pub use bodies::{RequestFault, Times, body_for, schedule};
-pub use request::{Asked, Object, Options, Remark, Request, Window};
+pub use request::{Asked, Object, Options, Remark, Request, Task, Window};
 pub use texts::Texts;
 pub use times::{read_span, times_of};

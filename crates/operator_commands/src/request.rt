@@ -31,7 +31,7 @@ pub struct Window {
     pub trigger: Option<Text>,
 }
 
-/// What is asked for.
+/// A command that is asked for.
 #[derive(Debug, Drop)]
 pub enum Request {
     /// `ack HOST [SERVICE] -c TEXT [--author NAME] [--sticky] [--persistent]`
@@ -80,11 +80,34 @@ pub enum Request {
     },
     /// `shutdown`
     Shutdown,
-    /// `status`
-    Status,
 }
 
-/// The options that every command has, as they were written.
+/// What is asked for. A gateway is asked for all but `test-config`.
+#[derive(Debug, Drop)]
+pub enum Task {
+    Command(Request),
+    /// `status [--state WORD] [--host TEXT]`
+    Status {
+        state: Option<Text>,
+        host: Option<Text>,
+    },
+    /// `watch [--interval SECONDS]`
+    Watch {
+        interval: Option<Text>,
+    },
+    /// `check [[NAME=]ADDRESS].. [--agents ADDRESS] [--age SECONDS]`
+    Check {
+        gateways: Texts,
+        agents: Option<Text>,
+        age: Option<Text>,
+    },
+    /// `test-config FILE`
+    TestConfig {
+        file: Text,
+    },
+}
+
+/// The options that several tasks have, as they were written.
 #[derive(Debug, Drop)]
 pub struct Options {
     /// `--config FILE`
@@ -95,11 +118,15 @@ pub struct Options {
     pub pages: Option<Text>,
     /// `--wait SECONDS`
     pub wait: Option<Text>,
+    /// `--json`
+    pub json: bool,
+    /// `--escaped`
+    pub escaped: bool,
 }
 
-/// A request, with the options that every command has.
+/// A task, with the options that many have.
 #[derive(Debug, Drop)]
 pub struct Asked {
     pub options: Options,
-    pub request: Request,
+    pub task: Task,
 }

@@ -60,5 +60,4 @@ commands_of page now user (request.Uncomment words false) = map (comment_deletio
 commands_of page now user (request.Cancel ids) = map (downtime_deletion page) ids
 commands_of page now user (request.Downtime object remark window services) =
     downtime user now object remark window services ∷ []
-commands_of page now user request.Status = []
 commands_of page now user other = result_ok (body_for user other) ∷ []

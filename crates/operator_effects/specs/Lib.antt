@@ -3,3 +3,5 @@ pub mod Endings
 pub mod Messages
 pub mod Effects
 pub mod Watching
+pub mod Plain
+pub mod Refusals

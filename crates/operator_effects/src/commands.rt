@@ -184,8 +184,8 @@ fn one(alloc: Global, body: Body) -> Result<Vec<Body>, PlanFault>
     Ok(bodies)
 }
 
-/// The commands of a request that is asked for now by this user, on a page: none for `status`, one
-/// for each id, and otherwise one. An id is of a host's comment or downtime, or of a service's, as
+/// The commands of a request that is asked for now by this user, on a page: one for each id, and
+/// otherwise one. An id is of a host's comment or downtime, or of a service's, as
 /// the page has it.
 ///
 /// `Request` and `NoObject` are the first fault of the words. `OutOfMemory` may be returned in
@@ -218,7 +218,6 @@ pub fn commands_for(
             alloc,
             downtime(user, now, object, remark, &window, services)?,
         ),
-        Request::Status => Ok(Vec::new(alloc)),
         request => match body_for(user, request) {
             Ok(body) => one(alloc, body),
             Err(fault) => Err(PlanFault::Request(fault)),

@@ -58,8 +58,9 @@ fn read_byte<R: Read>(reader: &mut R) -> Result<u8, AskFault>
     }
 }
 
-// Reads the line of an answer, byte by byte, and nothing after it.
-fn read_answer<R: Read>(reader: &mut R) -> Result<Reply, AskFault>
+/// Reads the line of an answer, byte by byte, and nothing after it. An error is `ReadFault`,
+/// `Ended`, `TooLong` or `NoAnswer`.
+pub fn read_answer<R: Read>(reader: &mut R) -> Result<Reply, AskFault>
     ensures read { IfOk result (λ reply.
         Consumes (R.remaining reader.old) (R.remaining reader.new) (reply_line reply)) }
     ensures none { IfErr result (λ fault. (line : List ℕ) × IsOfReading fault

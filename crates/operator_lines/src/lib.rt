@@ -6,6 +6,6 @@ mod asking;
 mod replies;
 mod sending;
 
-pub use asking::{AskFault, ask, converse};
+pub use asking::{AskFault, ask, converse, read_answer};
 pub use replies::{Reply, read_reply};
 pub use sending::{SendFault, sent_lines};

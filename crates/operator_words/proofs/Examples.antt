@@ -3,10 +3,11 @@ use Rattle.std.proofs.Common.{◌≡◌, [], ◌∷◌, true, false, Some, None,
 use Rattle.clap.proofs.OnLiterals.{clap_on_literals}
 use Rattle.operator_commands.specs.declared.request.Asked.{Asked}
 use Rattle.operator_commands.specs.declared.request.Request.TheVariants as request
+use Rattle.operator_commands.specs.declared.request.Task.TheVariants as task
 use Rattle.operator_words.specs.Words.{asked_of}
 
-a_service : option_map (λ (asked : Asked). asked.request) (asked_of (codes "unack" ∷ codes "web1" ∷ codes "HTTP" ∷ []))
-    ≡ Some (request.Unack (record { host = codes "web1"; service = Some (codes "HTTP") }))
+a_service : option_map (λ (asked : Asked). asked.task) (asked_of (codes "unack" ∷ codes "web1" ∷ codes "HTTP" ∷ []))
+    ≡ Some (task.Command (request.Unack (record { host = codes "web1"; service = Some (codes "HTTP") })))
 unfolding clap_on_literals
 a_service = refl
 
@@ -14,13 +15,13 @@ no_comment : asked_of (codes "ack" ∷ codes "web1" ∷ []) ≡ None
 unfolding clap_on_literals
 no_comment = refl
 
-short_comment : option_map (λ (asked : Asked). asked.request) (asked_of (codes "ack" ∷ codes "web1" ∷ codes "-c" ∷ codes "on it" ∷ codes "--sticky" ∷ []))
-    ≡ Some (request.Ack (record { host = codes "web1"; service = None }) (record { text = codes "on it"; author = None }) true false)
+short_comment : option_map (λ (asked : Asked). asked.task) (asked_of (codes "ack" ∷ codes "web1" ∷ codes "-c" ∷ codes "on it" ∷ codes "--sticky" ∷ []))
+    ≡ Some (task.Command (request.Ack (record { host = codes "web1"; service = None }) (record { text = codes "on it"; author = None }) true false))
 unfolding clap_on_literals
 short_comment = refl
 
-two_ids : option_map (λ (asked : Asked). asked.request) (asked_of (codes "cancel" ∷ codes "3" ∷ codes "7" ∷ []))
-    ≡ Some (request.Cancel (codes "3" ∷ codes "7" ∷ []))
+two_ids : option_map (λ (asked : Asked). asked.task) (asked_of (codes "cancel" ∷ codes "3" ∷ codes "7" ∷ []))
+    ≡ Some (task.Command (request.Cancel (codes "3" ∷ codes "7" ∷ [])))
 unfolding clap_on_literals
 two_ids = refl
 

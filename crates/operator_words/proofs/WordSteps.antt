@@ -7,9 +7,9 @@ use Rattle.clap.specs.declared.error.Error.{Error as Refusal}
 use Rattle.clap.specs.declared.error.kind.ErrorKind.{ErrorKind}
 use Rattle.operator_commands.specs.declared.request.Asked.{Asked}
 use Rattle.operator_commands.specs.declared.request.Options.{Options}
-use Rattle.operator_commands.specs.declared.request.Request.{Request}
+use Rattle.operator_commands.specs.declared.request.Task.{Task}
 use Rattle.operator_words.specs.Found.{options_in}
-use Rattle.operator_words.specs.Words.{request_on, asked_with, asked_of, unless_faulty}
+use Rattle.operator_words.specs.Words.{task_on, asked_with, asked_of, unless_faulty}
 use Rattle.operator_words.specs.CommandLine.{program}
 
 pub names_same : {A B C : Type 0} (name : A → B) (rows : A → C) (met : Option A)
@@ -29,10 +29,10 @@ pub none_met : {A B : Type 0} (met : Option (A × B)) → None ≡ option_map (�
 none_met None is_name = refl
 none_met (Some p) is_name = absurd (false≢true (ap is_some is_name))
 
-pub asked_as : (met : Option (Text × List Row)) (name : Text) (rows : List Row) (options : Options) (request : Request)
-    → met ≡ Some (name, rows) → options ≡ options_in rows → request ≡ request_on name rows
-    → Some (record { options = options; request = request }) ≡ asked_with met
-asked_as met name rows options request is same_options same_request = rw (is, same_options, same_request) refl
+pub asked_as : (met : Option (Text × List Row)) (name : Text) (rows : List Row) (options : Options) (task : Task)
+    → met ≡ Some (name, rows) → options ≡ options_in rows → task ≡ task_on name rows
+    → Some (record { options = options; task = task }) ≡ asked_with met
+asked_as met name rows options task is same_options same_task = rw (is, same_options, same_task) refl
 
 pub asked_words : (words : List Text) (met : Option (Text × List Row)) → fault_of program words ≡ []
     → met ≡ subcommand_of program words → asked_with met ≡ asked_of words

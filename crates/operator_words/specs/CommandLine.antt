@@ -1,7 +1,18 @@
 -- The command line of `nscagatectl`, as clap reads it: `program`.
-use Rattle.std.specs.Prelude.{ℕ, Bool, true, false, List, Some, codes}
-use Rattle.clap.specs.Words.{App, Rule, new_app, new_rule, with_rule, with_subcommand}
+use Rattle.std.specs.Prelude.{◌≡◌, ℕ, Bool, true, false, List, Some, codes}
+use Rattle.clap.specs.Words.{App, Rule, app_of, rule_of, new_app, new_rule, with_rule, with_subcommand}
+use Rattle.clap.specs.declared.builder.arg.Arg.{Arg}
+use Rattle.clap.specs.declared.builder.command.Command.{Command}
+use Rattle.clap.specs.declared.builder.command.Command.TheViews.{out-Command as fields_of}
 use Rattle.clap.specs.declared.builder.ArgAction.TheVariants.{Set, Append, SetTrue}
+
+-- an argument has this rule, and is of its own command alone
+abbrev pub IsArgument : Rule → Arg → Type 0
+IsArgument rule argument = (rule_of argument ≡ rule) × (argument.global ≡ false)
+
+-- a command has this shape, and arguments of its own alone
+abbrev pub IsCommand : App → Command → Type 0
+IsCommand app command = (app_of command ≡ app) × ((fields_of command).has_globals ≡ false)
 
 -- ---- arguments
 
@@ -40,16 +51,28 @@ with_flag name app = with_rule app (flag_of name)
 
 -- ---- subcommands
 
--- a subcommand with the options that all have
-abbrev pub plain : List ℕ → App
-plain name =
+-- a subcommand that asks a gateway
+abbrev pub asking : List ℕ → App
+asking name =
     with_option (codes "wait") false
     (with_option (codes "pages") false
     (with_option (codes "operators") false (with_option (codes "config") false (new_app name))))
 
+-- one whose outcome may be JSON
+abbrev pub plain : List ℕ → App
+plain name = with_flag (codes "json") (asking name)
+
+-- one whose words may be escaped as a page's are
+abbrev pub worded : List ℕ → App
+worded name = with_flag (codes "escaped") (plain name)
+
+-- `HOST [SERVICE]`
+abbrev pub with_object : App → App
+with_object app = with_word (codes "service") false (with_word (codes "host") true app)
+
 -- `NAME HOST [SERVICE]`
 abbrev pub on_object : List ℕ → App
-on_object name = with_word (codes "service") false (with_word (codes "host") true (plain name))
+on_object name = with_object (worded name)
 
 -- `NAME HOST [SERVICE] --comment TEXT [--author NAME]`
 abbrev pub with_remark : List ℕ → App
@@ -62,7 +85,7 @@ abbrev pub comment_command : App
 comment_command = with_flag (codes "persistent") (with_remark (codes "comment"))
 
 abbrev pub uncomment : App
-uncomment = with_flag (codes "all") (with_words (codes "words") true (plain (codes "uncomment")))
+uncomment = with_flag (codes "all") (with_words (codes "words") true (worded (codes "uncomment")))
 
 abbrev pub windowed : App
 windowed =
@@ -77,9 +100,7 @@ abbrev pub cancel : App
 cancel = with_words (codes "ids") true (plain (codes "cancel"))
 
 abbrev pub passive : App
-passive =
-    with_word (codes "service") false
-    (with_word (codes "host") true (with_word (codes "setting") true (plain (codes "passive"))))
+passive = with_object (with_word (codes "setting") true (worded (codes "passive")))
 
 abbrev pub result_command : App
 result_command = with_option (codes "output") true (with_option (codes "state") true (on_object (codes "result")))
@@ -88,7 +109,18 @@ abbrev pub shutdown : App
 shutdown = plain (codes "shutdown")
 
 abbrev pub status : App
-status = plain (codes "status")
+status = with_option (codes "host") false (with_option (codes "state") false (plain (codes "status")))
+
+abbrev pub watch : App
+watch = with_option (codes "interval") false (plain (codes "watch"))
+
+abbrev pub check : App
+check =
+    with_words (codes "gateways") false
+    (with_option (codes "age") false (with_option (codes "agents") false (asking (codes "check"))))
+
+abbrev pub test_config : App
+test_config = with_word (codes "file") true (new_app (codes "test-config"))
 
 -- ---- the program
 
@@ -108,9 +140,13 @@ with_objects app = with_command result_command (with_command passive (with_comma
 abbrev pub with_ids : App → App
 with_ids app = with_command cancel (with_command uncomment app)
 
--- the subcommands on the gateway
+-- the subcommands that look at a gateway
+abbrev pub with_looks : App → App
+with_looks app = with_command check (with_command watch (with_command status app))
+
+-- the subcommands on a whole gateway
 abbrev pub with_gateway : App → App
-with_gateway app = with_command status (with_command shutdown app)
+with_gateway app = with_command test_config (with_command shutdown app)
 
 -- the words are all that follows the program's name, and one of them is a subcommand; there is a version
 abbrev pub top : App
@@ -120,4 +156,4 @@ top =
 
 -- all of them
 abbrev pub program : App
-program = with_gateway (with_ids (with_objects (with_remarks top)))
+program = with_gateway (with_looks (with_ids (with_objects (with_remarks top))))

@@ -47,11 +47,13 @@ window_in found = record {
   trigger = option_in (codes "trigger") found;
 }
 
--- the options that every command has
+-- the options that several tasks have
 abbrev pub options_in : List Row → Options
 options_in found = record {
   config = option_in (codes "config") found;
   operators = option_in (codes "operators") found;
   pages = option_in (codes "pages") found;
   wait = option_in (codes "wait") found;
+  json = is_set (codes "json") found;
+  escaped = is_set (codes "escaped") found;
 }

@@ -1,10 +1,9 @@
-//! The command line as clap reads it: a subcommand for each request, each with the options that all
-//! of them have.
+//! The command line as clap reads it: a subcommand for each task.
 
 ghost use Rattle.std.specs.Prelude.{◌≡◌, IfOk, false};
-ghost use Rattle.clap.specs.Words.{app_of, rule_of, new_app, with_subcommand};
+ghost use Rattle.clap.specs.Words.{app_of, new_app, with_subcommand};
 ghost use Rattle.clap.specs.declared.builder.command.Command.TheViews.{out-Command as fields_of};
-ghost use Rattle.operator_words.specs.CommandLine.{word_of, words_of, option_of, comment, flag_of, with_remark, plain, on_object, ack, comment_command, uncomment, windowed, downtime, cancel, passive, result_command, shutdown, status, with_remarks, with_objects, with_ids, with_gateway, top, program};
+ghost use Rattle.operator_words.specs.CommandLine.{IsArgument, IsCommand, word_of, words_of, option_of, comment, flag_of, with_remark, asking, plain, worded, with_object, on_object, ack, comment_command, uncomment, windowed, downtime, cancel, passive, result_command, shutdown, status, watch, check, test_config, with_remarks, with_objects, with_ids, with_looks, with_gateway, top, program};
 
 use clap::{Arg, ArgAction, Command};
 use std::alloc::{AllocError, Global};
@@ -14,8 +13,7 @@ const VERSION: &str = "0.1.0";
 
 // A word without a name, which has to be there or may be.
 fn word<'a>(alloc: Global, name: &'a str, required: bool, help: &'a str) -> Arg<'a>
-    ensures rule { rule_of result ≡ word_of name.entry.now required }
-    ensures local { result.global ≡ false }
+    ensures { IsArgument (word_of name.entry.now required) result }
 {
     Arg::new(alloc, name)
         .required(required)
@@ -25,8 +23,7 @@ fn word<'a>(alloc: Global, name: &'a str, required: bool, help: &'a str) -> Arg<
 
 // Words without a name, one or more if they have to be there.
 fn words<'a>(alloc: Global, name: &'a str, required: bool, help: &'a str) -> Arg<'a>
-    ensures rule { rule_of result ≡ words_of name.entry.now required }
-    ensures local { result.global ≡ false }
+    ensures { IsArgument (words_of name.entry.now required) result }
 {
     Arg::new(alloc, name)
         .required(required)
@@ -36,8 +33,7 @@ fn words<'a>(alloc: Global, name: &'a str, required: bool, help: &'a str) -> Arg
 
 // `--NAME VALUE`
 fn option<'a>(alloc: Global, name: &'a str, required: bool, help: &'a str) -> Arg<'a>
-    ensures rule { rule_of result ≡ option_of name.entry.now required }
-    ensures local { result.global ≡ false }
+    ensures { IsArgument (option_of name.entry.now required) result }
 {
     Arg::new(alloc, name)
         .long(name)
@@ -48,16 +44,14 @@ fn option<'a>(alloc: Global, name: &'a str, required: bool, help: &'a str) -> Ar
 
 // `-c TEXT`, `--comment TEXT`
 fn comment<'a>(alloc: Global) -> Arg<'a>
-    ensures rule { rule_of result ≡ comment }
-    ensures local { result.global ≡ false }
+    ensures { IsArgument comment result }
 {
     option(alloc, "comment", true, "What is said of the object").short('c')
 }
 
 // `--NAME`
 fn flag<'a>(alloc: Global, name: &'a str, help: &'a str) -> Arg<'a>
-    ensures rule { rule_of result ≡ flag_of name.entry.now }
-    ensures local { result.global ≡ false }
+    ensures { IsArgument (flag_of name.entry.now) result }
 {
     Arg::new(alloc, name)
         .long(name)
@@ -67,16 +61,14 @@ fn flag<'a>(alloc: Global, name: &'a str, help: &'a str) -> Arg<'a>
 
 // A subcommand without arguments.
 fn begun<'a>(alloc: Global, name: &'a str, about: &'a str) -> Command<'a>
-    ensures app { app_of result ≡ new_app name.entry.now }
-    ensures local { (fields_of result).has_globals ≡ false }
+    ensures { IsCommand (new_app name.entry.now) result }
 {
     Command::new(alloc, name).about(about)
 }
 
-// A subcommand with the options that all have.
-fn plain<'a>(alloc: Global, name: &'a str, about: &'a str) -> Result<Command<'a>, AllocError>
-    ensures app { IfOk result (λ command. app_of command ≡ plain name.entry.now) }
-    ensures local { IfOk result (λ command. (fields_of command).has_globals ≡ false) }
+// A subcommand that asks a gateway.
+fn asking<'a>(alloc: Global, name: &'a str, about: &'a str) -> Result<Command<'a>, AllocError>
+    ensures { IfOk result (IsCommand (asking name.entry.now)) }
 {
     begun(alloc, name, about)
         .arg(option(alloc, "config", false, "The daemon's configuration"))?
@@ -91,24 +83,48 @@ fn plain<'a>(alloc: Global, name: &'a str, about: &'a str) -> Result<Command<'a>
             alloc,
             "wait",
             false,
-            "How many seconds a page may take to show it",
+            "How many seconds an answer or a page may take",
         ))
 }
 
-// A subcommand on `HOST [SERVICE]`.
-fn on_object<'a>(alloc: Global, name: &'a str, about: &'a str) -> Result<Command<'a>, AllocError>
-    ensures app { IfOk result (λ command. app_of command ≡ on_object name.entry.now) }
-    ensures local { IfOk result (λ command. (fields_of command).has_globals ≡ false) }
+// One whose outcome may be JSON.
+fn plain<'a>(alloc: Global, name: &'a str, about: &'a str) -> Result<Command<'a>, AllocError>
+    ensures { IfOk result (IsCommand (plain name.entry.now)) }
 {
-    plain(alloc, name, about)?
+    asking(alloc, name, about)?.arg(flag(alloc, "json", "Print JSON, an object a line"))
+}
+
+// One whose words may be escaped as a page's are.
+fn worded<'a>(alloc: Global, name: &'a str, about: &'a str) -> Result<Command<'a>, AllocError>
+    ensures { IfOk result (IsCommand (worded name.entry.now)) }
+{
+    plain(alloc, name, about)?.arg(flag(
+        alloc,
+        "escaped",
+        "Names and texts have a page's escapes, as \\xe9",
+    ))
+}
+
+// Adds `HOST [SERVICE]`.
+fn with_object<'a>(alloc: Global, command: Command<'a>) -> Result<Command<'a>, AllocError>
+    requires { (fields_of command).has_globals ≡ false }
+    ensures { IfOk result (IsCommand (with_object (app_of command.entry))) }
+{
+    command
         .arg(word(alloc, "host", true, "The host"))?
         .arg(word(alloc, "service", false, "The service of the host"))
 }
 
+// A subcommand on `HOST [SERVICE]`.
+fn on_object<'a>(alloc: Global, name: &'a str, about: &'a str) -> Result<Command<'a>, AllocError>
+    ensures { IfOk result (IsCommand (on_object name.entry.now)) }
+{
+    with_object(alloc, worded(alloc, name, about)?)
+}
+
 // A subcommand that says something of an object.
 fn remark<'a>(alloc: Global, name: &'a str, about: &'a str) -> Result<Command<'a>, AllocError>
-    ensures app { IfOk result (λ command. app_of command ≡ with_remark name.entry.now) }
-    ensures local { IfOk result (λ command. (fields_of command).has_globals ≡ false) }
+    ensures { IfOk result (IsCommand (with_remark name.entry.now)) }
 {
     on_object(alloc, name, about)?
         .arg(comment(alloc))?
@@ -116,8 +132,7 @@ fn remark<'a>(alloc: Global, name: &'a str, about: &'a str) -> Result<Command<'a
 }
 
 fn ack<'a>(alloc: Global) -> Result<Command<'a>, AllocError>
-    ensures app { IfOk result (λ command. app_of command ≡ ack) }
-    ensures local { IfOk result (λ command. (fields_of command).has_globals ≡ false) }
+    ensures { IfOk result (IsCommand ack) }
 {
     remark(alloc, "ack", "Acknowledge a problem")?
         .arg(flag(alloc, "sticky", "Keep it until the object recovers"))?
@@ -125,17 +140,15 @@ fn ack<'a>(alloc: Global) -> Result<Command<'a>, AllocError>
 }
 
 fn comment_command<'a>(alloc: Global) -> Result<Command<'a>, AllocError>
-    ensures app { IfOk result (λ command. app_of command ≡ comment_command) }
-    ensures local { IfOk result (λ command. (fields_of command).has_globals ≡ false) }
+    ensures { IfOk result (IsCommand comment_command) }
 {
     remark(alloc, "comment", "Add a comment")?.arg(flag(alloc, "persistent", "Mark it persistent"))
 }
 
 fn uncomment<'a>(alloc: Global) -> Result<Command<'a>, AllocError>
-    ensures app { IfOk result (λ command. app_of command ≡ uncomment) }
-    ensures local { IfOk result (λ command. (fields_of command).has_globals ≡ false) }
+    ensures { IfOk result (IsCommand uncomment) }
 {
-    plain(alloc, "uncomment", "Delete comments")?
+    worded(alloc, "uncomment", "Delete comments")?
         .arg(words(
             alloc,
             "words",
@@ -147,8 +160,7 @@ fn uncomment<'a>(alloc: Global) -> Result<Command<'a>, AllocError>
 
 // A subcommand that has the window of downtime.
 fn windowed<'a>(alloc: Global) -> Result<Command<'a>, AllocError>
-    ensures app { IfOk result (λ command. app_of command ≡ windowed) }
-    ensures local { IfOk result (λ command. (fields_of command).has_globals ≡ false) }
+    ensures { IfOk result (IsCommand windowed) }
 {
     remark(alloc, "downtime", "Schedule downtime")?
         .arg(option(
@@ -172,8 +184,7 @@ fn windowed<'a>(alloc: Global) -> Result<Command<'a>, AllocError>
 }
 
 fn downtime<'a>(alloc: Global) -> Result<Command<'a>, AllocError>
-    ensures app { IfOk result (λ command. app_of command ≡ downtime) }
-    ensures local { IfOk result (λ command. (fields_of command).has_globals ≡ false) }
+    ensures { IfOk result (IsCommand downtime) }
 {
     windowed(alloc)?
         .arg(option(
@@ -196,25 +207,25 @@ fn downtime<'a>(alloc: Global) -> Result<Command<'a>, AllocError>
 }
 
 fn cancel<'a>(alloc: Global) -> Result<Command<'a>, AllocError>
-    ensures app { IfOk result (λ command. app_of command ≡ cancel) }
-    ensures local { IfOk result (λ command. (fields_of command).has_globals ≡ false) }
+    ensures { IfOk result (IsCommand cancel) }
 {
     plain(alloc, "cancel", "Delete downtime entries")?.arg(words(alloc, "ids", true, "Their ids"))
 }
 
 fn passive<'a>(alloc: Global) -> Result<Command<'a>, AllocError>
-    ensures app { IfOk result (λ command. app_of command ≡ passive) }
-    ensures local { IfOk result (λ command. (fields_of command).has_globals ≡ false) }
+    ensures { IfOk result (IsCommand passive) }
 {
-    plain(alloc, "passive", "Enable or disable passive checks")?
-        .arg(word(alloc, "setting", true, "on or off"))?
-        .arg(word(alloc, "host", true, "The host"))?
-        .arg(word(alloc, "service", false, "The service of the host"))
+    let passive = worded(alloc, "passive", "Enable or disable passive checks")?.arg(word(
+        alloc,
+        "setting",
+        true,
+        "on or off",
+    ))?;
+    with_object(alloc, passive)
 }
 
 fn result_command<'a>(alloc: Global) -> Result<Command<'a>, AllocError>
-    ensures app { IfOk result (λ command. app_of command ≡ result_command) }
-    ensures local { IfOk result (λ command. (fields_of command).has_globals ≡ false) }
+    ensures { IfOk result (IsCommand result_command) }
 {
     on_object(alloc, "result", "Submit a passive check result")?
         .arg(option(alloc, "state", true, "The state, as OK, WARNING or DOWN"))?
@@ -222,17 +233,67 @@ fn result_command<'a>(alloc: Global) -> Result<Command<'a>, AllocError>
 }
 
 fn shutdown<'a>(alloc: Global) -> Result<Command<'a>, AllocError>
-    ensures app { IfOk result (λ command. app_of command ≡ shutdown) }
-    ensures local { IfOk result (λ command. (fields_of command).has_globals ≡ false) }
+    ensures { IfOk result (IsCommand shutdown) }
 {
     plain(alloc, "shutdown", "Shut the daemon down")
 }
 
 fn status<'a>(alloc: Global) -> Result<Command<'a>, AllocError>
-    ensures app { IfOk result (λ command. app_of command ≡ status) }
-    ensures local { IfOk result (λ command. (fields_of command).has_globals ≡ false) }
+    ensures { IfOk result (IsCommand status) }
 {
-    plain(alloc, "status", "Print the status page")
+    plain(alloc, "status", "Print the status page")?
+        .arg(option(
+            alloc,
+            "state",
+            false,
+            "Only objects in this state, problems, unhandled or stale",
+        ))?
+        .arg(option(
+            alloc,
+            "host",
+            false,
+            "Only of hosts whose name contains this text",
+        ))
+}
+
+fn watch<'a>(alloc: Global) -> Result<Command<'a>, AllocError>
+    ensures { IfOk result (IsCommand watch) }
+{
+    plain(alloc, "watch", "Print each change of the status page")?.arg(option(
+        alloc,
+        "interval",
+        false,
+        "How many seconds lie between two pages",
+    ))
+}
+
+fn check<'a>(alloc: Global) -> Result<Command<'a>, AllocError>
+    ensures { IfOk result (IsCommand check) }
+{
+    asking(
+        alloc,
+        "check",
+        "Test whether gateways serve, as a plugin of Nagios",
+    )?
+    .arg(option(alloc, "agents", false, "The address of the agents' port"))?
+    .arg(option(alloc, "age", false, "How old a page may be, in seconds"))?
+    .arg(words(
+        alloc,
+        "gateways",
+        false,
+        "The pages ports, as ADDRESS or NAME=ADDRESS",
+    ))
+}
+
+fn test_config<'a>(alloc: Global) -> Result<Command<'a>, AllocError>
+    ensures { IfOk result (IsCommand test_config) }
+{
+    begun(
+        alloc,
+        "test-config",
+        "Read a configuration as the daemon does",
+    )
+    .arg(word(alloc, "file", true, "The configuration"))
 }
 
 // Adds a subcommand.
@@ -273,12 +334,21 @@ fn with_ids<'a>(alloc: Global, command: Command<'a>) -> Result<Command<'a>, Allo
     with(one, cancel(alloc)?)
 }
 
-// The subcommands on the gateway.
+// The subcommands that look at a gateway.
+fn with_looks<'a>(alloc: Global, command: Command<'a>) -> Result<Command<'a>, AllocError>
+    ensures { IfOk result (λ more. app_of more ≡ with_looks (app_of command.entry)) }
+{
+    let one = with(command, status(alloc)?)?;
+    let two = with(one, watch(alloc)?)?;
+    with(two, check(alloc)?)
+}
+
+// The subcommands on a whole gateway.
 fn with_gateway<'a>(alloc: Global, command: Command<'a>) -> Result<Command<'a>, AllocError>
     ensures { IfOk result (λ more. app_of more ≡ with_gateway (app_of command.entry)) }
 {
     let one = with(command, shutdown(alloc)?)?;
-    with(one, status(alloc)?)
+    with(one, test_config(alloc)?)
 }
 
 // The program without its subcommands.
@@ -299,5 +369,6 @@ pub fn command_line<'a>(alloc: Global) -> Result<Command<'a>, AllocError>
     let remarks = with_remarks(alloc, top(alloc))?;
     let objects = with_objects(alloc, remarks)?;
     let ids = with_ids(alloc, objects)?;
-    with_gateway(alloc, ids)
+    let looks = with_looks(alloc, ids)?;
+    with_gateway(alloc, looks)
 }

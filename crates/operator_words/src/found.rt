@@ -98,7 +98,7 @@ pub fn window_in(alloc: Global, found: &ArgMatches<'_>) -> Result<Window, AllocE
     })
 }
 
-/// The options that every command has.
+/// The options that several tasks have.
 pub fn options_in(alloc: Global, found: &ArgMatches<'_>) -> Result<Options, AllocError>
     ensures { IfOk result (λ options. options ≡ options_in (rows_of (found_of found.now))) }
 {
@@ -107,5 +107,7 @@ pub fn options_in(alloc: Global, found: &ArgMatches<'_>) -> Result<Options, Allo
         operators: option_in(alloc, found, "operators")?,
         pages: option_in(alloc, found, "pages")?,
         wait: option_in(alloc, found, "wait")?,
+        json: is_set(found, "json"),
+        escaped: is_set(found, "escaped"),
     })
 }

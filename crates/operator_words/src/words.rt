@@ -2,7 +2,7 @@ ghost use Rattle.std.specs.Prelude.{◌≡◌, ◌≢◌, map, string_bytes, IfO
 ghost use Rattle.clap.specs.Words.{IsAmong, fault_of, found_of, kind_of, rows_of, subcommand_rows_of};
 ghost use Rattle.clap.specs.declared.error.Error.{Error as Refusal};
 ghost use Rattle.operator_words.specs.CommandLine.{program};
-ghost use Rattle.operator_words.specs.Words.{other_on, request_on, asked_with, asked_of};
+ghost use Rattle.operator_words.specs.Words.{remark_on, request_on, look_on, task_on, asked_with, asked_of};
 
 use crate::command_line::command_line;
 use crate::found::{
@@ -10,7 +10,7 @@ use crate::found::{
 };
 use clap::error::ErrorKind;
 use clap::{ArgMatches, Error};
-use operator_commands::{Asked, Request};
+use operator_commands::{Asked, Request, Task};
 use std::alloc::{AllocError, Global};
 
 /// Why the words are no request.
@@ -34,19 +34,20 @@ impl From<AllocError> for WordsFault {
     }
 }
 
-// The request of a subcommand on an object, or of another one.
-fn request_on(alloc: Global, name: &str, found: &ArgMatches<'_>) -> Result<Request, AllocError>
-    ensures { IfOk result (λ request. request ≡ request_on name.now (rows_of (found_of found.now))) }
+fn remark_on(
+    alloc: Global,
+    name: &str,
+    found: &ArgMatches<'_>,
+) -> Result<Option<Request>, AllocError>
+    ensures { IfOk result (λ request.
+        request ≡ remark_on name.now (rows_of (found_of found.now))) }
 {
-    Ok(match name {
+    Ok(Some(match name {
         "ack" => Request::Ack {
             object: object_in(alloc, found)?,
             remark: remark_in(alloc, found)?,
             sticky: is_set(found, "sticky"),
             persistent: is_set(found, "persistent"),
-        },
-        "unack" => Request::Unack {
-            object: object_in(alloc, found)?,
         },
         "comment" => Request::Comment {
             object: object_in(alloc, found)?,
@@ -59,6 +60,22 @@ fn request_on(alloc: Global, name: &str, found: &ArgMatches<'_>) -> Result<Reque
             window: window_in(alloc, found)?,
             services: is_set(found, "services"),
         },
+        _ => return Ok(None),
+    }))
+}
+
+fn request_on(
+    alloc: Global,
+    name: &str,
+    found: &ArgMatches<'_>,
+) -> Result<Option<Request>, AllocError>
+    ensures { IfOk result (λ request.
+        request ≡ request_on name.now (rows_of (found_of found.now))) }
+{
+    Ok(Some(match name {
+        "unack" => Request::Unack {
+            object: object_in(alloc, found)?,
+        },
         "passive" => Request::Passive {
             setting: text_in(alloc, found, "setting")?,
             object: object_in(alloc, found)?,
@@ -68,15 +85,6 @@ fn request_on(alloc: Global, name: &str, found: &ArgMatches<'_>) -> Result<Reque
             state: text_in(alloc, found, "state")?,
             output: text_in(alloc, found, "output")?,
         },
-        name => return other_on(alloc, name, found),
-    })
-}
-
-// The request of a subcommand on ids, or on no object.
-fn other_on(alloc: Global, name: &str, found: &ArgMatches<'_>) -> Result<Request, AllocError>
-    ensures { IfOk result (λ request. request ≡ other_on name.now (rows_of (found_of found.now))) }
-{
-    Ok(match name {
         "uncomment" => Request::Uncomment {
             words: texts_in(alloc, found, "words")?,
             all: is_set(found, "all"),
@@ -85,8 +93,39 @@ fn other_on(alloc: Global, name: &str, found: &ArgMatches<'_>) -> Result<Request
             ids: texts_in(alloc, found, "ids")?,
         },
         "shutdown" => Request::Shutdown,
-        _ => Request::Status,
+        name => return remark_on(alloc, name, found),
+    }))
+}
+
+fn look_on(alloc: Global, name: &str, found: &ArgMatches<'_>) -> Result<Task, AllocError>
+    ensures { IfOk result (λ task. task ≡ look_on name.now (rows_of (found_of found.now))) }
+{
+    Ok(match name {
+        "watch" => Task::Watch {
+            interval: option_in(alloc, found, "interval")?,
+        },
+        "check" => Task::Check {
+            gateways: texts_in(alloc, found, "gateways")?,
+            agents: option_in(alloc, found, "agents")?,
+            age: option_in(alloc, found, "age")?,
+        },
+        "test-config" => Task::TestConfig {
+            file: text_in(alloc, found, "file")?,
+        },
+        _ => Task::Status {
+            state: option_in(alloc, found, "state")?,
+            host: option_in(alloc, found, "host")?,
+        },
     })
+}
+
+fn task_on(alloc: Global, name: &str, found: &ArgMatches<'_>) -> Result<Task, AllocError>
+    ensures { IfOk result (λ task. task ≡ task_on name.now (rows_of (found_of found.now))) }
+{
+    match request_on(alloc, name, found)? {
+        Some(request) => Ok(Task::Command(request)),
+        None => look_on(alloc, name, found),
+    }
 }
 
 // What the found words ask for, if a subcommand is there.
@@ -97,8 +136,8 @@ fn asked_in(alloc: Global, matches: &ArgMatches<'_>) -> Result<Option<Asked>, Al
         return Ok(None);
     };
     let options = options_in(alloc, found)?;
-    let request = request_on(alloc, name, found)?;
-    Ok(Some(Asked { options, request }))
+    let task = task_on(alloc, name, found)?;
+    Ok(Some(Asked { options, task }))
 }
 
 // The request that was found, or that there is none.

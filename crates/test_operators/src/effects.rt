@@ -1,6 +1,10 @@
-use gate_model::{Body, Moment, Text};
+use gate_grammar::Command;
+use gate_model::{Body, Moment, Outcome, Text};
 use operator_commands::{Object, Remark, Request};
-use operator_effects::{Effect, Ending, Next, Pages, commands_for, ending_of, push_message, watch};
+use operator_effects::{
+    Effect, Ending, Next, Pages, commands_for, ending_of, first_refusal, plain_request,
+    push_message, watch,
+};
 use operator_lines::{AskFault, Reply};
 use status_reading::{StatusPage, read_status_page};
 use std::alloc::Global;
@@ -97,6 +101,32 @@ fn a_command_is_watched_until_it_is_shown(rt: HostRuntime) {
             "web1 HTTP: queued, and not shown in time"
         )
     );
+}
+
+// Whether an acknowledgement of web1 HTTP is refused by this page, with the host's name escaped.
+fn is_refused(alloc: Global, page: &str) -> Option<bool> {
+    let page = read_status_page(alloc, page.as_bytes()).ok()?;
+    let request = Request::Unack {
+        object: Object {
+            host: text(alloc, "web\\x31")?,
+            service: Some(text(alloc, "HTTP")?),
+        },
+    };
+    let request = plain_request(alloc, request).ok()?;
+    let user = text(alloc, "ann")?;
+    let mut bodies = commands_for(alloc, &page, Moment(1000), user, request).ok()?;
+    let commands = [Command {
+        entered: Moment(1000),
+        body: bodies.pop()?,
+    }];
+    let refusal = first_refusal(alloc, &page, &commands).ok()?;
+    Some(matches!(refusal, Some((_, Outcome::NotAcknowledged))))
+}
+
+#[test]
+fn a_page_foresees_a_refusal(rt: HostRuntime) {
+    assert!(rt; is_refused(rt.alloc(), BEFORE) == Some(true));
+    assert!(rt; is_refused(rt.alloc(), AFTER) == Some(false));
 }
 
 #[test]

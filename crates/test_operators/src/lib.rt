@@ -7,4 +7,6 @@ mod effects;
 #[cfg(test)]
 mod lines;
 #[cfg(test)]
+mod reports;
+#[cfg(test)]
 mod words;

@@ -1,6 +1,8 @@
 use gate_grammar::Command;
 use gate_model::{Body, Moment, Text};
-use operator_commands::{Asked, Request, RequestFault, body_for, read_span, schedule, times_of};
+use operator_commands::{
+    Asked, Request, RequestFault, Task, body_for, read_span, schedule, times_of,
+};
 use operator_lines::sent_lines;
 use operator_words::{WordsFault, read_words};
 use std::alloc::{AllocError, Global};
@@ -23,12 +25,11 @@ const SENT: [(&str, &str); 9] = [
 
 // Words between bars, and why no command is sent for them.
 #[rattlefmt::skip]
-const UNSENT: [(&str, RequestFault); 5] = [
+const UNSENT: [(&str, RequestFault); 4] = [
     ("passive|yes|web1",                        RequestFault::BadSetting),
     ("result|web1|--state|OK|--output|x",       RequestFault::BadState),
     ("result|web1|HTTP|--state|UP|--output|x",  RequestFault::BadState),
     ("cancel|3",                                RequestFault::NoCommand),
-    ("status",                                  RequestFault::NoCommand),
 ];
 
 // Words of downtime at the second 2000, and the line that is sent for them.
@@ -83,10 +84,19 @@ fn asked(alloc: Global, line: &str) -> Option<Asked> {
     read_words(alloc, words.as_slice()).ok()
 }
 
+// The command of these words.
+fn request_of(alloc: Global, line: &str) -> Option<Request> {
+    let Asked { options, task } = asked(alloc, line)?;
+    drop(options);
+    match task {
+        Task::Command(request) => Some(request),
+        _ => None,
+    }
+}
+
 fn body_of(alloc: Global, line: &str) -> Option<Result<Body, RequestFault>> {
-    let asked = asked(alloc, line)?;
     let user = Text::copied(alloc, b"root").ok()?;
-    Some(body_for(user, asked.request))
+    Some(body_for(user, request_of(alloc, line)?))
 }
 
 // Whether this line is sent for the command, at the second 1000.
@@ -117,10 +127,8 @@ fn sends_nothing(alloc: Global, words: &str, fault: RequestFault) -> bool {
 
 // What is sent for words of downtime by root, at the second 2000.
 fn scheduled(alloc: Global, words: &str) -> Option<Result<Body, RequestFault>> {
-    let Asked { options, request } = asked(alloc, words)?;
-    drop(options);
     let user = Text::copied(alloc, b"root").ok()?;
-    match request {
+    match request_of(alloc, words)? {
         Request::Downtime {
             object,
             remark,
@@ -159,24 +167,18 @@ fn is_refused(alloc: Global, line: &str) -> bool {
 }
 
 fn acknowledges(alloc: Global, line: &str, host: &str, text: &str) -> bool {
-    match asked(alloc, line) {
-        Some(asked) => match &asked.request {
-            Request::Ack { object, remark, .. } => {
-                object.host.bytes() == host.as_bytes() && remark.text.bytes() == text.as_bytes()
-            }
-            _ => false,
-        },
-        None => false,
+    match request_of(alloc, line) {
+        Some(Request::Ack { object, remark, .. }) => {
+            object.host.bytes() == host.as_bytes() && remark.text.bytes() == text.as_bytes()
+        }
+        _ => false,
     }
 }
 
 fn cancels(alloc: Global, line: &str, count: usize) -> bool {
-    match asked(alloc, line) {
-        Some(asked) => match &asked.request {
-            Request::Cancel { ids } => ids.as_slice().len() == count,
-            _ => false,
-        },
-        None => false,
+    match request_of(alloc, line) {
+        Some(Request::Cancel { ids }) => ids.as_slice().len() == count,
+        _ => false,
     }
 }
 
@@ -191,6 +193,27 @@ fn words_are_read_in_any_spelling_of_clap(rt: HostRuntime) {
     }
 }
 
+// The file of `test-config`, and the gateways of `check`.
+fn looks_at(alloc: Global, line: &str, text: &str, count: usize) -> bool {
+    match asked(alloc, line) {
+        Some(Asked { options: _, task }) => match &task {
+            Task::TestConfig { file } => file.bytes() == text.as_bytes() && count == 0,
+            Task::Check { gateways, age, .. } => {
+                gateways.as_slice().len() == count
+                    && matches!(age, Some(age) if age.bytes() == text.as_bytes())
+            }
+            _ => false,
+        },
+        None => false,
+    }
+}
+
+#[test]
+fn what_is_no_command_is_read(rt: HostRuntime) {
+    assert!(rt; looks_at(rt.alloc(), "test-config|a.toml", "a.toml", 0));
+    assert!(rt; looks_at(rt.alloc(), "check|a=1.2.3.4:5|--age|9|b=1.2.3.4:6", "9", 2));
+}
+
 #[test]
 fn several_ids_are_read(rt: HostRuntime) {
     assert!(rt; cancels(rt.alloc(), "cancel|3|7", 2));
@@ -203,6 +226,7 @@ fn faulty_words_and_help_are_refused(rt: HostRuntime) {
         "ack|web1",
         "acknowledge|web1",
         "cancel",
+        "test-config",
         "--help",
         "ack|--help",
         "--version",

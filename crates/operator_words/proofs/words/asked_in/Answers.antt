@@ -11,6 +11,6 @@ returns-in_default c =
 pub returns : goal.returns
 returns c =
     let rows = rows_of (found_of c.in-Some.found.now) in
-    asked_as (subcommand_rows_of c.args.matches.now) c.in-Some.name.now rows c.in_ok-options.options c.in_ok-request.request
+    asked_as (subcommand_rows_of c.args.matches.now) c.in-Some.name.now rows c.in_ok-options.options c.in_ok-task.task
     (entered (subcommand_rows_of c.args.matches.now) _ _ (c.in-Some.ensures.name ∙ names_same _ _ _) c.in-Some.ensures.rows)
-    c.in_ok-options.ensures c.in_ok-request.ensures
+    c.in_ok-options.ensures c.in_ok-task.ensures

@@ -1,0 +1,141 @@
+//! The status page, whole or in part, as it came or as JSON.
+
+use crate::fault::ControlFault;
+use crate::running::{page_of, print};
+use gate_model::{State, Text};
+use gate_reader::Sink;
+use status_export::json_text;
+use status_merge::{Choice, Gateway, MergedObject, Query, choice_name, merge, select};
+use status_reading::StatusPage;
+use std::alloc::{AllocError, Global};
+
+// What `--state` may be.
+const CHOICES: [Choice; 12] = [
+    Choice::All,
+    Choice::Problems,
+    Choice::Unhandled,
+    Choice::Stale,
+    Choice::In(State::Pending),
+    Choice::In(State::Ok),
+    Choice::In(State::Warning),
+    Choice::In(State::Critical),
+    Choice::In(State::Unknown),
+    Choice::In(State::Up),
+    Choice::In(State::Down),
+    Choice::In(State::Unreachable),
+];
+
+// The choice of a word, in any case.
+fn choice_of(word: &[u8]) -> Option<Choice> {
+    for choice in CHOICES {
+        if choice_name(choice).as_bytes().eq_ignore_ascii_case(word) {
+            return Some(choice);
+        }
+    }
+    None
+}
+
+/// The objects that `--state` and `--host` choose.
+pub fn query_in(
+    alloc: Global,
+    state: &Option<Text>,
+    host: &Option<Text>,
+) -> Result<Query, ControlFault> {
+    let choice = match state {
+        Some(word) => choice_of(word.bytes()).ok_or(ControlFault::BadState)?,
+        None => Choice::All,
+    };
+    let host = match host {
+        Some(text) => str::from_utf8(text.bytes()).unwrap_or(""),
+        None => "",
+    };
+    Ok(Query {
+        choice,
+        host: String::from_str(alloc, host)?,
+        refresh: 0,
+    })
+}
+
+// Whether a query chooses an object.
+fn is_chosen(alloc: Global, object: MergedObject<'_>, query: &Query) -> Result<bool, AllocError> {
+    Ok(!select(alloc, &[object], query)?.is_empty())
+}
+
+// The lines of the objects of a page that a query chooses, as this text has them.
+fn chosen_lines(
+    alloc: Global,
+    text: &[u8],
+    page: &StatusPage<'_>,
+    query: &Query,
+) -> Result<Vec<u8>, AllocError> {
+    let mut lines = Vec::new(alloc);
+    let rows = text.split(|byte| *byte == b'\n').skip(1);
+    for (line, row) in rows.zip(page.objects.as_slice()) {
+        let object = MergedObject {
+            gateway: "",
+            moment: page.moment,
+            since: page.moment,
+            row: *row,
+        };
+        if is_chosen(alloc, object, query)? {
+            lines.extend_from_slice(line)?;
+            lines.extend_from_slice(b"\n")?;
+        }
+    }
+    Ok(lines)
+}
+
+// The page as JSON, with the objects that a query chooses, and a line's end.
+fn json_line(
+    alloc: Global,
+    name: &str,
+    page: StatusPage<'_>,
+    query: &Query,
+) -> Result<Vec<u8>, AllocError> {
+    let gateways = [Gateway {
+        name,
+        page: Ok(page),
+        since: &[],
+        old: None,
+        most: 0,
+    }];
+    let objects = merge(alloc, &gateways)?;
+    let chosen = select(alloc, objects.as_slice(), query)?;
+    let mut text = json_text(alloc, &gateways, chosen.as_slice(), query)?;
+    text.extend_from_slice(b"\n")?;
+    Ok(text)
+}
+
+/// Prints a text, where it is a page.
+pub fn show<W: Sink>(alloc: Global, text: &[u8], output: &mut W) -> Result<u8, ControlFault> {
+    let _page = page_of(alloc, text)?;
+    print(output, text)?;
+    Ok(0)
+}
+
+/// Prints the lines of the objects of a page that a query chooses.
+pub fn show_chosen<W: Sink>(
+    alloc: Global,
+    text: &[u8],
+    query: &Query,
+    output: &mut W,
+) -> Result<u8, ControlFault> {
+    let page = page_of(alloc, text)?;
+    let lines = chosen_lines(alloc, text, &page, query)?;
+    print(output, lines.as_slice())?;
+    Ok(0)
+}
+
+/// Prints the page that a text is as JSON, as statusweb has it of a gateway of this name.
+pub fn show_json<W: Sink>(
+    alloc: Global,
+    text: &[u8],
+    name: &str,
+    query: &Query,
+    output: &mut W,
+) -> Result<u8, ControlFault> {
+    let page = page_of(alloc, text)?;
+    let line = json_line(alloc, name, page, query)?;
+    print(output, line.as_slice())?;
+    Ok(0)
+}
