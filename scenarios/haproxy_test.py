@@ -1,6 +1,7 @@
 """Plays senders of three addresses against three gateways after HAProxy:
 python3 haproxy_test.py PROGRAM HELPERS CONFIGURATION. Ends with a line 'N passed, M failed'."""
 import os
+import pwd
 import re
 import shutil
 import socket
@@ -105,9 +106,37 @@ def balancer_files(folder, example, gateways):
         check(f"the example's server {number}", count, 1)
     path = os.path.join(folder, "haproxy.cfg")
     admin = os.path.join(folder, "admin.sock")
+    for line, count in (("    user haproxy\n", 1), ("    group haproxy\n", 1), (" /dev/log ", 1)):
+        check(f"the example's line {line.strip()}", text.count(line), count)
+    if os.geteuid() != 0:
+        # Nobody else can run it as another user.
+        text = text.replace("    user haproxy\n    group haproxy\n", "")
+    text = text.replace("/dev/log", os.path.join(folder, "log.sock"))
     with open(path, "w", encoding="ascii") as file:
         file.write(text.replace("/run/haproxy/nscagate.sock", admin))
     return path, admin, port
+
+
+class Log(threading.Thread):
+    """What HAProxy writes to its log."""
+
+    def __init__(self, folder):
+        super().__init__(daemon=True)
+        self.socket = socket.socket(socket.AF_UNIX, socket.SOCK_DGRAM)
+        self.socket.bind(os.path.join(folder, "log.sock"))
+        # HAProxy's own user writes there.
+        os.chmod(folder, 0o755)
+        os.chmod(os.path.join(folder, "log.sock"), 0o666)
+        self.text = ""
+
+    def run(self):
+        while True:
+            self.text += self.socket.recv(65536).decode("latin-1") + "\n"
+
+
+def owner(pid):
+    """The user of a process."""
+    return pwd.getpwuid(os.stat(f"/proc/{pid}").st_uid).pw_name
 
 
 def command(admin, line):
@@ -148,6 +177,8 @@ def helper(helpers, name, gateway, *words):
 
 
 def play(program, helpers, example, folder):
+    log = Log(folder)
+    log.start()
     gateways = [Gateway(program, folder, f"gw{number}") for number in (1, 2, 3)]
     path, admin, port = balancer_files(folder, example, gateways)
     checked = subprocess.run(["haproxy", "-c", "-q", "-f", path], capture_output=True, text=True, check=False)
@@ -159,7 +190,9 @@ def play(program, helpers, example, folder):
     balancer = subprocess.Popen(["haproxy", "-db", "-f", path], stdout=subprocess.DEVNULL, stderr=subprocess.DEVNULL)
     try:
         wait_for("HAProxy runs", lambda: os.path.exists(admin) and set(states(admin).values()) == {"UP"})
-        play_senders(helpers, folder, gateways, admin, port)
+        check("whose HAProxy is", owner(balancer.pid), "haproxy" if os.geteuid() == 0 else owner(os.getpid()))
+        ended = play_senders(helpers, folder, gateways, admin, port)
+        wait_for("the log has the gateway that ended", lambda: f"Server gateways/{ended} is DOWN" in log.text)
     finally:
         balancer.kill()
         balancer.wait()
@@ -189,6 +222,7 @@ def play_senders(helpers, folder, gateways, admin, port):
             check(f"{gateway.name} is shut down", ask(gateway.daemon, "[1] SHUTDOWN_PROGRAM"), ["closing"])
             gateway.take_log()
     count_results(senders, gateways, first, second)
+    return second.name
 
 
 def restart(helpers, first, others, admin, port):

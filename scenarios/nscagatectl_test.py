@@ -1,4 +1,5 @@
 """Plays an operator with nscagatectl: python3 nscagatectl_test.py DAEMON PROGRAM. Ends with a line 'N passed, M failed'."""
+import json
 import os
 import re
 import socket
@@ -8,7 +9,7 @@ import tempfile
 import threading
 import time
 
-from daemon_clients import CONFIGURATION, TIME_LIMIT, Daemon, check, end_tests
+from daemon_clients import CONFIGURATION, TIME_LIMIT, Daemon, ask, check, end_tests
 
 TABLE = CONFIGURATION + """
 [[host]]
@@ -113,7 +114,8 @@ def play_texts(operator):
 
 
 def play_words(operator, program):
-    for words in ([], ["ack"], ["ack", "web1"], ["acknowledge", "web1"], ["cancel"], ["status", "--quickly"]):
+    for words in ([], ["ack"], ["ack", "web1"], ["acknowledge", "web1"], ["cancel"], ["status", "--quickly"], ["test-config"],
+                  ["watch", "x"]):
         status, output, errors = run(program, *words)
         check(f"bad words {words}", (status, output, errors != ""), (2, "", True))
     for words in (["--help"], ["ack", "--help"], ["--version"]):
@@ -124,7 +126,70 @@ def play_words(operator, program):
     check("the status page", (status, output.splitlines()[1].split(";")[:3]), (0, ["object", "web1", ""]))
     operator.refuses(["status", "--wait=0"], "--wait is 1 to 3600", 2)
     check("a word that is no UTF-8", run(program, "comment", "web1", "-c", b"\xff", *operator.ports),
-          (2, "", "nscagatectl: bad words\n"))
+          (2, "", "nscagatectl: a word is no UTF-8: write its bytes as \\xe9, with --escaped\n"))
+
+
+def play_escapes(operator, daemon):
+    """By --escaped names and texts are those that a page shows so, of every byte that a line can hold."""
+    operator.shows(["comment", "web1", "-c", "caf\\xe9 \\\\ \\x9b", "--author", "J\\xf6rg", "--escaped"],
+                   "commented: web1, comment 10")
+    check("its bytes", "J\u00f6rg;caf\u00e9 \\\\ \u009b\n" in daemon.page(), True)
+    operator.shows(["uncomment", "10", "--escaped"], "deleted: comment 10")
+    operator.refuses(["comment", "web\\x31", "-c", "x"], "web\\\\x31: the gateway has no such host")
+    operator.shows(["comment", "web\\x31", "-c", "x", "--escaped"], "commented: web1, comment 11")
+    operator.shows(["uncomment", "web\\x31", "--all", "--escaped"], "comments deleted: web1")
+
+
+def play_filters(operator):
+    """The lines of some objects, as the page has them."""
+    lines = operator.run("status")[1].splitlines(True)
+    objects = [line for line in lines if line.startswith("object;")]
+    for words, expected in ((["--state", "problems"], [line for line in objects if ";CRITICAL;" in line or ";DOWN;" in line]),
+                            (["--state=Down"], [line for line in objects if ";DOWN;" in line]),
+                            (["--host", "no s"], [line for line in objects if "no services" in line]),
+                            (["--state=critical", "--host=web"], [line for line in objects if ";CRITICAL;" in line]),
+                            (["--host", "x"], []), (["--state=all"], objects)):
+        check(f"status {words}", operator.run("status", *words), (0, "".join(expected), ""))
+    operator.refuses(["status", "--state=bad"], "--state is a state, or all, problems, unhandled or stale", 2)
+
+
+def play_json(operator, program):
+    """What a reader of JSON finds."""
+    def read(*words):
+        status, output, errors = operator.run(*words, "--json")
+        check(f"one line of JSON {words}", (output.count("\n"), errors), (1, ""))
+        return status, json.loads(output.encode("latin-1"))
+
+    status, page = read("status", "--state", "CRITICAL")
+    check("the page as JSON", (status, [(row["host"], row["service"], row["state"]) for row in page["objects"]],
+                               page["gateways"][0]["name"] in operator.ports[1]), (0, [("web1", "HTTP", "CRITICAL")], True))
+    check("a command", read("comment", "web1", "-c", "\u00e9"),
+          (0, {"status": 0, "outcome": "shown", "id": 12, "state": None, "message": "commented: web1, comment 12"}))
+    check("an acknowledgement", read("ack", "web1", "HTTP", "-c", "x"),
+          (0, {"status": 0, "outcome": "shown", "id": 13, "state": "CRITICAL",
+               "message": "acknowledged: web1 HTTP (CRITICAL), comment 13"}))
+    check("a refusal", read("uncomment", "99"),
+          (1, {"status": 1, "outcome": "refused", "id": None, "state": None,
+               "message": "comment 99: there is no comment with this number"}))
+    check("no answer", read("comment", "web1", "-c", "a\nb"),
+          (2, {"status": 2, "outcome": "no answer", "id": None, "state": None,
+               "message": "web1: no line can hold the command"}))
+    operator.shows(["unack", "web1", "HTTP"], "acknowledgement removed: web1 HTTP")
+    watching = subprocess.Popen([program, "watch", "--json", *operator.ports], stdout=subprocess.PIPE)
+    time.sleep(0.5)
+    operator.run("comment", "web1", "HTTP", "-c", "caf\u00e9")
+    change = json.loads(watching.stdout.readline())
+    check("a change as JSON", (change.pop("moment") > 1000000000, change),
+          (True, {"change": "comment", "host": "web1", "service": "HTTP", "id": 14, "before": None, "after": None,
+                  "author": "ann", "text": "caf\u00e9"}))
+    operator.run("result", "web1", "--state=UP", "--output=up")
+    change = json.loads(watching.stdout.readline())
+    check("a state as JSON", (change.pop("moment") > 1000000000, change),
+          (True, {"change": "state", "host": "web1", "service": None, "id": None, "before": "DOWN", "after": "UP",
+                  "author": None, "text": "up"}))
+    watching.kill()
+    watching.communicate()
+    operator.run("result", "web1", "--state=DOWN", "--output=no answer")
 
 
 def play_users(operator, daemon, program):
@@ -202,6 +267,137 @@ def play_gateways_that_fail(program, daemon):
         listener.close()
 
 
+def check_gateways(program, *words):
+    return run(program, "check", *words)
+
+
+def unknown(text):
+    return 3, f"NSCAGATE UNKNOWN - {text}\n", ""
+
+
+COUNTS = "3 objects, 2 problems, 1 unhandled, 0 stale"
+FIGURES = "'{0} problems'=2 '{0} unhandled'=1 '{0} stale'=0"
+
+
+def play_checks(operator, program, daemon, folder):
+    """A gateway that serves, one that closes, one that stands still, and ports that nobody has or that are slow."""
+    check("one problem is acknowledged", operator.run("ack", "web1", "-c", "x")[0], 0)
+    agents, operators, pages = (f"127.0.0.1:{daemon.ports[name]}" for name in ("agents", "operators", "pages"))
+    path = os.path.join(folder, "check.toml")
+    with open(path, "w", encoding="ascii") as file:
+        file.write(f'agents = "{agents}"\noperators = "{operators}"\npages = "{pages}"\n')
+    check("a gateway that serves", check_gateways(program, "--config", path),
+          (0, f"NSCAGATE OK - {pages}: {COUNTS} | {FIGURES.format(pages)}\n", ""))
+    check("a gateway with a name", check_gateways(program, "my gw=" + pages, "--agents", agents, "--operators", operators),
+          (0, f"NSCAGATE OK - my gw: {COUNTS} | {FIGURES.format('my_gw')}\n", ""))
+    for name, silence in (("agents", "greets"), ("operators", "answers")):
+        check(f"an {name}' port that nobody has", check_gateways(program, "--config", path, f"--{name}", "127.0.0.1:9"),
+              (2, f"NSCAGATE CRITICAL - the {name}' port 127.0.0.1:9 {silence} nobody; {pages}: {COUNTS} | "
+               f"{FIGURES.format(pages)}\n", ""))
+        silent = socket.create_server(("127.0.0.1", 0))
+        slow = f"127.0.0.1:{silent.getsockname()[1]}"
+        check(f"a slow {name}' port", check_gateways(program, "--config", path, f"--{name}", slow, "--wait=1"),
+              (1, f"NSCAGATE WARNING - the {name}' port {slow} is slow; {pages}: {COUNTS} | {FIGURES.format(pages)}\n", ""))
+        check(f"a slow pages port beside the {name}' port", check_gateways(program, "a=" + slow, "--wait=1"),
+              (1, f"NSCAGATE WARNING - a: the pages port {slow} is slow\n", ""))
+        silent.close()
+    now = int(time.time())
+    for text, found in ((b"status %d\nclosing;%d\n" % (now, now), (1, "WARNING - a: shutting down; ")),
+                        (b"status %d\n" % (now - 90), (2, "CRITICAL - a: its page has stood still for 9"))):
+        listener, address = serve((text, False))
+        status, output, errors = check_gateways(program, "a=" + address)
+        check(f"a page {text}", ((status, output[9:9 + len(found[1])]), errors), (found, ""))
+        check(f"its figures {text}", output.split(" | ")[1:], ["'a problems'=0 'a unhandled'=0 'a stale'=0\n"])
+        check(f"a greater age {text}", check_gateways(program, "a=" + address, "--age", "100")[0], found[0] % 2)
+        listener.close()
+    listener, mail = serve((b"220 mail\r\n", False))
+    check("one of three is no gateway", check_gateways(program, "a=" + pages, "b=" + mail, "c=" + pages),
+          (3, f"NSCAGATE UNKNOWN - a: {COUNTS}; b: no status page came from {mail}; c: {COUNTS} | "
+           f"{FIGURES.format('a')} {FIGURES.format('c')}\n", ""))
+    check("one of two is not there", check_gateways(program, "b=" + mail, "a=127.0.0.1:9")[:2],
+          (2, f"NSCAGATE CRITICAL - b: no status page came from {mail}; a: no page came from 127.0.0.1:9\n"))
+    listener.close()
+    for words, text in ((("--age", "x"), "--age is a number of seconds"), (("--colour",), BAD_WORDS), (("--age",), BAD_WORDS),
+                        (("--config", path + ".none"), "the configuration can't be read"),
+                        (("web1",), "web1 is no IP address with a port"), (("--wait", "0"), "--wait is 1 to 3600")):
+        check(f"check {words}", check_gateways(program, *words), unknown(text))
+
+
+BAD_WORDS = "bad words: see nscagatectl check --help"
+
+
+def play_a_full_log(program, folder):
+    """A gateway whose log is full stands still, and is CRITICAL."""
+    daemon = Daemon(sys.argv[1], folder, CONFIGURATION.replace("limit = 100000", "limit = 1"))
+    ask(daemon, "[1] ADD_HOST_COMMENT;web1;0;ann;x")
+    daemon.page_with(";ann;x")
+    time.sleep(2.2)
+    status, output, _ = check_gateways(program, "--age=1", f"a=127.0.0.1:{daemon.ports['pages']}")
+    check("a full log", (status, re.sub(r"\d+ seconds.*\n", "N seconds", output)),
+          (2, "NSCAGATE CRITICAL - a: its page has stood still for N seconds"))
+    daemon.process.kill()
+    daemon.end()
+
+
+def play_tests_of_configurations(program, folder):
+    """A configuration is read as the daemon reads it, and its fault has a line."""
+    path = os.path.join(folder, "tested.toml")
+    hosts = '[[host]]\nname = "web1"\n[[host.service]]\nname = "HTTP"\n[[host.service]]\nname = "SSH"\n'
+    for text, found in (
+            (hosts, None), ("", None),
+            ("# a\n" + hosts + '[[host]]\nname = "db1"\nfreshnes = 3\n', "line 10: UnknownKey freshnes: did you mean freshness"),
+            ("colour = 3\n" + hosts, "line 1: UnknownKey colour"),
+            ("\nlimit = 0\nagents = \"127.0.0.1:5667\"\n" + hosts, "line 2: BadValue limit"),
+            (hosts + '[[host]]\nfreshness = 3\n[[host]]\nname = "x"\n', "line 7: MissingName"),
+            (hosts + '[[host.service]]\nname = "HTTP"\n', "line 8: Object 4 DuplicateService: web1 HTTP"),
+            (hosts + '[[host]]\nname = "web1"\n', "line 8: Object 4 DuplicateHost: web1"),
+            (hosts + "limit\n" + hosts, "line 7: NotToml"),
+            ('host = [\n  { name = "a" },\n  { name = "a" },\n]\n', "line 1: Object 2 DuplicateHost: a"),
+            ("#" * 1048577, ": TooLarge")):
+        with open(path, "w", encoding="ascii") as file:
+            file.write(text)
+        if found is None:
+            counts = "1 hosts, 2 services" if text else "0 hosts, 0 services"
+            check(f"the configuration {text[:9]}", run(program, "test-config", path), (0, f"{path}: {counts}\n", ""))
+        else:
+            where = "" if found.startswith(":") else " "
+            check(f"the fault {found}", run(program, "test-config", path), (2, "", f"nscagatectl: {path}{where}{found}\n"))
+            check(f"the daemon's fault {found}", run(sys.argv[1], "serve", "--config", path)[0], 2)
+    check("no configuration to test", run(program, "test-config", path + ".none"),
+          (2, "", "nscagatectl: the configuration can't be read\n"))
+
+
+def play_watching(program, folder):
+    """Each change of the page is a line, until the gateway is gone."""
+    daemon = Daemon(sys.argv[1], folder, TABLE)
+    operator = Operator(program, daemon)
+    watching = subprocess.Popen([program, "watch", *operator.ports, "--interval=1"], stdout=subprocess.PIPE,
+                                stderr=subprocess.PIPE)
+    time.sleep(0.5)
+
+    def changes(count):
+        return [watching.stdout.readline().decode("latin-1").split("] ")[1] for _ in range(count)]
+
+    operator.run("result", "web1", "HTTP", "--state=CRITICAL", "--output=timeout; 10s")
+    check("a result", changes(1), ["web1 HTTP: CRITICAL, was PENDING: timeout; 10s\n"])
+    operator.run("ack", "web1", "HTTP", "-c", "\u00e9", "--sticky")
+    check("an acknowledgement", changes(2), ["web1 HTTP: acknowledged, sticky\n", "web1 HTTP: comment 1 by ann: \u00c3\u00a9\n"])
+    now = int(time.time())
+    operator.run("downtime", "web1", "-c", "disk", f"--from={now}", f"--until={now + 60}")
+    check("downtime", changes(3), ["web1: downtime depth 1, was 0\n", "web1: comment 2 by ann: disk\n",
+                                   f"web1: downtime 1 from {now} to {now + 60} by ann: disk\n"])
+    operator.run("cancel", "1")
+    check("its end", changes(3), ["web1: downtime depth 0, was 1\n", "web1: comment 2 is gone\n", "web1: downtime 1 is gone\n"])
+    operator.run("unack", "web1", "HTTP")
+    check("an acknowledgement that is removed", changes(2), ["web1 HTTP: no longer acknowledged\n", "web1 HTTP: comment 1 is gone\n"])
+    operator.run("shutdown")
+    daemon.end()
+    _, errors = watching.communicate(timeout=TIME_LIMIT)
+    check("the gateway is gone", (watching.returncode, errors),
+          (3, b"nscagatectl: no status page: the gateway accepts no connection\n"))
+    operator.refuses(["watch", "--interval=0"], "--interval is 1 to 3600", 2)
+
+
 def play_a_full_output(operator):
     with open("/dev/full", "wb") as full:
         ran = subprocess.run([operator.program, "status", *operator.ports], stdin=subprocess.DEVNULL, stdout=full,
@@ -220,15 +416,22 @@ def main():
         play_passive_checks(operator)
         play_texts(operator)
         play_words(operator, program)
+        play_escapes(operator, daemon)
+        play_filters(operator)
+        play_json(operator, program)
         play_users(operator, daemon, program)
         play_configurations(program, daemon, folder)
         play_gateways_that_fail(program, daemon)
+        play_checks(operator, program, daemon, folder)
         play_a_full_output(operator)
         operator.shows(["shutdown"], "closing: the gateway")
         status, output, errors = daemon.end()
         check("the daemon's end", (status, errors), (0, ""))
         check("what was refused by its page was not sent",
               sorted(set(re.findall(r"-> (\w+)$", output, re.MULTILINE))), ["Accepted", "PassiveDisabled"])
+        play_a_full_log(program, folder)
+        play_tests_of_configurations(program, folder)
+        play_watching(program, folder)
     end_tests()
 
 

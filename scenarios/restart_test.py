@@ -497,8 +497,6 @@ def play_faulty_words():
     for name in ("nscagate-stop", "nscagate-restore"):
         check(f"{name} with another nc", helper(name, "--config", config, page, path=other + ":"),
               (2, "", f"{name}: the nc of OpenBSD is not installed\n{name}: see {name} --help\n"))
-    check("nscagate-check with another nc", helper("nscagate-check", "--config", config, path=other + ":"),
-          (3, "NSCAGATE UNKNOWN - the nc of OpenBSD is not installed\n", ""))
     closed = ["--config", config, "--pages", "127.0.0.1:9", "--operators", "127.0.0.1:9"]
     check("a restore without a daemon", helper("nscagate-restore", *closed, "--wait", "0", page)[0], 3)
     with subprocess.Popen(["true"]) as ended:
@@ -570,61 +568,9 @@ def play_a_full_log():
     status, _, errors = restore(daemon, kept)
     check("a full log", (status, errors),
           (1, "".join(f"nscagate-restore: {kept} line {line}: answered full\n" for line in (5, 6))))
-    time.sleep(2.2)
-    pages = f"127.0.0.1:{daemon.ports['pages']}"
-    status, output, _ = helper("nscagate-check", "--age", "1", "east=" + pages)
-    check("nscagate-check of a page that stands still", (status, output.split(" seconds")[0].rstrip("0123456789")),
-          (2, "NSCAGATE CRITICAL - east: its page has stood still for "))
     status, ended = stop(daemon, kept)
     check("nscagate-stop with a full log", (status, ended[0], ended[2]), ((0, "", ""), 3, "nscagate: LogFull\n"))
     check("the page of a full log is kept", [row[7] for row in rows(read(kept))["comment"]], ["1"])
-
-
-def answer_with(text):
-    """The address of a server that answers once with this text."""
-    server = socket.create_server(("127.0.0.1", 0))
-
-    def serve():
-        connection, _ = server.accept()
-        with connection:
-            connection.sendall(text)
-        server.close()
-    threading.Thread(target=serve, daemon=True).start()
-    return f"127.0.0.1:{server.getsockname()[1]}"
-
-
-def play_checks():
-    daemon = start()
-    send(daemon, ("web1", "HTTP", 2, "bad"), ("web1", "a\\b", 1, "poor"), ("db1", "", 1, "down"))
-    ask(daemon, "[1] ACKNOWLEDGE_HOST_PROBLEM;db1;2;0;0;ann;x")
-    daemon.page_with(";sticky;")
-    east = f"127.0.0.1:{daemon.ports['pages']}"
-    counts = "6 objects, 3 problems, 2 unhandled, 0 stale"
-    figures = "'{0} problems'=3 '{0} unhandled'=2 '{0} stale'=0"
-    check("nscagate-check", helper("nscagate-check", east),
-          (0, f"NSCAGATE OK - {east}: {counts} | {figures.format(east)}\n", ""))
-    agents = f"127.0.0.1:{daemon.ports['agents']}"
-    check("nscagate-check asks for a greeting", helper("nscagate-check", "--agents", agents, east)[0], 0)
-    check("an agents' port that nobody has", helper("nscagate-check", "--agents", "127.0.0.1:9", east)[:2],
-          (2, f"NSCAGATE CRITICAL - the agents' port 127.0.0.1:9 greets nobody; {east}: {counts} | {figures.format(east)}\n"))
-    now = int(time.time())
-    closing = answer_with(b"status %d\nclosing;%d\n" % (now, now))
-    check("a gateway that closes", helper("nscagate-check", "a=" + closing)[:2],
-          (1, "NSCAGATE WARNING - a: shutting down; 0 objects, 0 problems, 0 unhandled, 0 stale | "
-           "'a problems'=0 'a unhandled'=0 'a stale'=0\n"))
-    mail = answer_with(b"220 mail\r\n")
-    check("one of three is no gateway", helper("nscagate-check", "a=" + east, "b=" + mail, "c=" + east)[:2],
-          (3, f"NSCAGATE UNKNOWN - a: {counts}; b: no status page came from {mail}; c: {counts} | "
-           f"{figures.format('a')} {figures.format('c')}\n"))
-    status, output, _ = helper("nscagate-check", "a=" + east, "b=127.0.0.1:9")
-    check("one of two is not there", (status, output.split(" | ")[0]),
-          (2, f"NSCAGATE CRITICAL - a: {counts}; b: no page came from 127.0.0.1:9"))
-    for words in (("--age", "x"), ("--colour",), ("--age",), ("--config", os.path.join(folder, "none")), ("web1",)):
-        status, output, errors = helper("nscagate-check", *words)
-        check(f"nscagate-check {words}", (status, output[:19], output.count("\n"), errors),
-              (3, "NSCAGATE UNKNOWN - ", 1, ""))
-    daemon.process.kill()
-    daemon.end()
 
 
 def play_two_days():
@@ -645,13 +591,8 @@ def play_pages():
     play_faulty_words()
 
 
-def play_logs():
-    play_a_full_log()
-    play_checks()
-
-
 # Each runs in a process of its own, beside the others.
-PARTS = {"days": play_two_days, "ends": play_ends, "pages": play_pages, "logs": play_logs}
+PARTS = {"days": play_two_days, "ends": play_ends, "pages": play_pages, "logs": play_a_full_log}
 
 
 def main():

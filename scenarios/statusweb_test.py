@@ -351,6 +351,28 @@ def test_old(now):
              and len(gone['objects']) == 2, gone)
 
 
+def test_since(now):
+    """Since when each object has its state, and the changes of states, of all pages that were fetched."""
+    def page(moment, *states):
+        return b'status %d\n' % moment + b''.join(
+            b'object;web1;%s;%s;%d;fresh;-;0;x\n' % (service, state, moment) for service, state in states)
+    pages = [page(now, (b'', b'UP'), (b'HTTP', b'OK')),
+             page(now + 1, (b'', b'UP'), (b'HTTP', b'CRITICAL')),
+             b'HTTP/1.1 400 Bad Request\r\n\r\n',
+             page(now + 3, (b'', b'UP'), (b'HTTP', b'CRITICAL')),
+             page(now + 4, (b'', b'DOWN'), (b'HTTP', b'CRITICAL'), (b'SSH', b'OK'))]
+    wanted = [{'': now, 'HTTP': now}, {'': now, 'HTTP': now + 1}, {'': now, 'HTTP': now + 1}, {'': now, 'HTTP': now + 1},
+              {'': now + 4, 'HTTP': now + 1, 'SSH': now + 4}]
+    text = [pages[0]]
+    gateway = shows(lambda: text[0])
+    with Web(('east', gateway.port)) as web:
+        for number, (text[0], since) in enumerate(zip(pages, wanted)):
+            count = gateway.count
+            soon(lambda: gateway.count >= count + 2)
+            found = {row['service'] or '': row['since'] for row in web.json()['objects']}
+            test(f'since when, of page {number + 1}', found == since, (found, since))
+
+
 def test_slow_browsers(now):
     """Connections that send nothing, a byte a second, or read nothing, hold others for less than 10 s."""
     large = b'status %d\n' % now + b''.join(
@@ -617,8 +639,6 @@ def test_names():
         if shutil.which('promtool'):
             run = promtool('metrics', text)
             test('promtool reads the metrics', run.returncode == 0 and run.stdout + run.stderr == b'', run)
-            run = promtool('rules', example('groups:').encode())
-            test('promtool reads the example of rules', run.returncode == 0 and b'2 rules found' in run.stdout, run)
         else:
             print('promtool ... skipped: it is not installed')
         if shutil.which('prometheus'):
@@ -662,7 +682,7 @@ def main():
     now = int(time.time())
     at_once(*[lambda check=check: run(check) for check in [test_words, test_pages, test_names]], *[
         lambda check=check: run(check, now) for check in [
-            test_texts, test_faults, test_old, test_sharing, test_descriptors, test_ends, test_requests, test_browser]])
+            test_texts, test_faults, test_old, test_since, test_sharing, test_descriptors, test_ends, test_requests, test_browser]])
     # What takes the processors for itself.
     run(test_slow_browsers, int(time.time()))
     run(test_memory, int(time.time()))
