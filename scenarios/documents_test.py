@@ -1,7 +1,7 @@
 """Compares the documents with the tree: python3 documents_test.py [DOCUMENT]... Ends with a line 'N passed, M failed'.
 
-Each name (in backticks, or one that only code has), each link, each command of a console block and each sentence counts as a
-test. The documents are README.md, CHANGELOG.md and docs/*.md; of the pages of crates and of the manuals the names are compared.
+Each name (in backticks, or one that only code has), each clause in a row of a promise, each link, each command of a console
+block and each sentence counts as a test. The documents are README.md, CHANGELOG.md and docs/*.md; of the pages of crates and of the manuals the names are compared.
 A console block is an indented block whose first line begins with '$ ' or '# '.
 """
 import fnmatch
@@ -84,6 +84,7 @@ class Tree:
         self.libraries = {name for uses in self.crates.values() for name in uses} - set(self.crates)
         self.declared = {}  # of each crate: the names that its sources and definitions declare
         self.clauses = {crate: set() for crate in self.crates}
+        self.contracts = {}  # the clauses of each function, of all that have its name
         self.tests_of = {crate: set() for crate in self.crates}  # its functions after #[test]
         self.code_words = set()  # of sources and definitions, whatever they are there
         self.words = set()  # of scripts, scenarios, examples and packages
@@ -113,6 +114,9 @@ class Tree:
                 self.tests_of[crate].update(re.findall(r"#\[test\]\s*(?:#\[.*\]\s*)*fn (\w+)", text))
                 self.clauses[crate].update(re.findall(r"\b(?:ensures|requires)\s+(\w+)", text))
                 self.clauses[crate].update(re.findall(r"\bghost\s+(\w+)", text))
+                parts = re.split(r"\bfn (\w+)", text)
+                for name, rest in zip(parts[1::2], parts[2::2]):
+                    self.contracts.setdefault(name, set()).update(re.findall(r"\bensures\s+(\w+)", rest))
             else:
                 names.update(re.findall(r"^\s*(?:pub\s+)?([\w-]+)\s*[:(]", text, re.M))
                 names.update(re.findall(r"\b(?:abbrev|data|record)\s+(?:pub\s+)?([\w-]+)", text))
@@ -123,7 +127,7 @@ class Tree:
 
 
 def options_of_programs():
-    """The options of each program: of a script by its text, of another by its sources, and by its help where it is built."""
+    """The options of each program: of a script by its text, of another by its sources."""
     found = {}
     for name, path in [(helper, f"packaging/bin/{helper}") for helper in HELPERS] + [("package", "package")]:
         found[name] = set(re.findall(r"--[a-z][a-z0-9-]*", read(path)))
@@ -131,13 +135,6 @@ def options_of_programs():
         text = "".join(read(path) for path in glob.glob(f"crates/{crate}/src/*.rt"))
         found[name] = {f"--{option}" for option in re.findall(r'\b(?:option|flag|long)\(\s*(?:alloc,\s*)?"([a-z-]+)"', text)}
     found["nscagatectl"].update(("--help", "--version"))
-    program = "crates/nscagatectl/out/nscagatectl"
-    if os.path.exists(program):
-        found["nscagatectl"] = {"--help", "--version"}
-        for command in ["", *commands_of_manual()]:
-            ran = subprocess.run([program, *command.split(), "--help"], capture_output=True, text=True, timeout=TIME_LIMIT,
-                                 check=False)
-            found["nscagatectl"].update(re.findall(r"--[a-z][a-z0-9-]*", ran.stdout))
     return found
 
 
@@ -309,6 +306,16 @@ def check_names(tree, path):
             check(f"{path}: clause `{name}` of `{function}`", any(name in tree.clauses[crate] for crate in owners), True)
 
 
+def check_promises(tree, path):
+    """In a row 'promise | `CALL`, `CALL`: `clause`, `clause`; .. | what shows it', each clause is one of these calls."""
+    for cell in re.findall(r"^\|[^|]*\|([^|]*)\|[^|]*\|$", read(path), re.M):
+        for part in re.sub(r"\([^()]*\)", "", cell).split(";"):
+            calls, found, clauses = part.partition("`: `")
+            contracts = [tree.contracts.get(call, set()) for call in re.findall(r"(\w+)`", calls + found[:1])]
+            for clause in re.findall(r"\w+", clauses):
+                check(f"{path}: clause of{calls}`: {clause}", any(clause in contract for contract in contracts), True)
+
+
 def check_manual(tree, path):
     """Options of a manual are the program's, and each path and command in it is there."""
     text = read(path).replace("\\-", "-")
@@ -455,6 +462,8 @@ def main():
             check_manual(tree, path)
             continue
         check_names(tree, path)
+        if path == "docs/PROVED.md":
+            check_promises(tree, path)
         check_links(path)
         if not path.startswith("crates/"):
             check_sentences(path)
