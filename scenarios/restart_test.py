@@ -146,7 +146,7 @@ def compare(what, kept, page):
 
 
 def fill(daemon):
-    """A day with all that can be brought about again. Entries of 2 and 3 seconds have begun and are over at its end."""
+    """A day with all that can be restored. Entries of 2 and 3 seconds have begun and are over at its end."""
     now = int(time.time())
     send(daemon, ("web1", "", 0, "up"), ("web1", "a\\b", 1, "warm"), ("web1", "c\\d \xc3\xa9", 3, EVERY_BYTE),
          ("db1", "", 1, "down"))
@@ -235,7 +235,7 @@ def compare_day(what, kept, restored):
 
 
 def play_the_next_day(daemon, page, kept):
-    """The same again over what was brought about, amid its downtime; this time the daemon is killed after its page was
+    """The same again over what was restored, amid its downtime; this time the daemon is killed after its page was
     kept."""
     write(kept, daemon.page())
     daemon.process.kill()
@@ -338,7 +338,7 @@ def play_a_busy_end():
 
 
 def play_newer_results():
-    """What the daemon was sent before it was brought about stays; it ends an acknowledgement as it does at any time."""
+    """What the daemon was sent before the page was restored stays; it ends an acknowledgement as it does at any time."""
     kept = os.path.join(folder, "kept")
     moment = int(time.time()) - 10
     write(kept, f"status {moment}\n"

@@ -1,4 +1,4 @@
-# Makes of a kept status page the operators' lines that bring it about on a fresh daemon. After config.awk and page.awk.
+# Makes of a kept status page the operators' lines that restore it on a fresh daemon. After config.awk and page.awk.
 # From the environment: CONFIG, KEPT and NOW (a moment); SHOWN, the fresh daemon's page, or nothing; PLAN and EXPECTED,
 # the files to write. A line of PLAN is a number of a line of KEPT; 1 where the line names an id, 2 where no id depends
 # on it, and else 0; and the operators' line, with tabs between. EXPECTED has for each user's comment and each entry how
