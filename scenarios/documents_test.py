@@ -328,6 +328,20 @@ def check_manual(tree, path):
         check(f"{path}: {name}", name in tree.commands or name in tree.words, True)
 
 
+def check_crates(tree):
+    """Each crate but small programs and tests stands in README's map, and in the picture of ARCHITECTURE, whose lowest row is the
+    last one: after the crates that it uses."""
+    names = r"(?:\w+ · )*\w+"
+    rows = re.findall(rf"^    \w+ +({names}(?:\n {{16}}{names})*)$", read("docs/ARCHITECTURE.md").split("\n## ")[0], re.M)
+    order = [name for row in reversed(rows) for name in re.findall(r"\w+", row)]
+    for crate, uses in tree.crates.items():
+        if crate.startswith(("show_", "test_")):
+            continue
+        before = order[:order.index(crate)] if crate in order else []
+        check(f"docs/ARCHITECTURE.md: {crate} in its row", crate in order and set(uses) & set(tree.crates) <= set(before), True)
+        check(f"README.md: {crate} in its map", re.search(rf"\b{crate}\b", read("README.md")) is not None, True)
+
+
 # ---- links
 
 def anchor_of(heading):
@@ -469,6 +483,7 @@ def main():
             check_sentences(path)
     counts = {path: len(re.findall(r"\S*\w\S*", read(path))) for path in documents()}
     if not sys.argv[1:]:
+        check_crates(tree)
         check("words of all documents", sum(counts.values()) if sum(counts.values()) > MOST_WORDS else "few", "few")
     with tempfile.TemporaryDirectory() as folder:
         make_copy(folder)
