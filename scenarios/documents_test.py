@@ -328,15 +328,28 @@ def check_manual(tree, path):
         check(f"{path}: {name}", name in tree.commands or name in tree.words, True)
 
 
+def parts_of(tree):
+    """The crates but small programs and tests."""
+    return [crate for crate in tree.crates if not crate.startswith(("show_", "test_"))]
+
+
+def check_handles(tree):
+    """The crates that take a handle, by ARCHITECTURE, are those whose sources name it, but in imports."""
+    for handle, row in re.findall(r"^\| `(\w+)` \| (.*) \|$", read("docs/ARCHITECTURE.md").split("## Handles")[1], re.M):
+        named = re.compile(rf"^(?!.*\buse ).*\b{handle}\b", re.M)
+        takers = {crate for crate in parts_of(tree) for path in glob.glob(f"crates/{crate}/src/**/*.rt", recursive=True)
+                  if named.search(re.sub("//.*", "", read(path)))}
+        check(f"docs/ARCHITECTURE.md: crates that take {handle}", sorted(row.split(", ")), sorted(takers))
+
+
 def check_crates(tree):
     """Each crate but small programs and tests stands in README's map, and in the picture of ARCHITECTURE, whose lowest row is the
     last one: after the crates that it uses."""
     names = r"(?:\w+ · )*\w+"
     rows = re.findall(rf"^    \w+ +({names}(?:\n {{16}}{names})*)$", read("docs/ARCHITECTURE.md").split("\n## ")[0], re.M)
     order = [name for row in reversed(rows) for name in re.findall(r"\w+", row)]
-    for crate, uses in tree.crates.items():
-        if crate.startswith(("show_", "test_")):
-            continue
+    for crate in parts_of(tree):
+        uses = tree.crates[crate]
         before = order[:order.index(crate)] if crate in order else []
         check(f"docs/ARCHITECTURE.md: {crate} in its row", crate in order and set(uses) & set(tree.crates) <= set(before), True)
         check(f"README.md: {crate} in its map", re.search(rf"\b{crate}\b", read("README.md")) is not None, True)
@@ -484,6 +497,7 @@ def main():
     counts = {path: len(re.findall(r"\S*\w\S*", read(path))) for path in documents()}
     if not sys.argv[1:]:
         check_crates(tree)
+        check_handles(tree)
         check("words of all documents", sum(counts.values()) if sum(counts.values()) > MOST_WORDS else "few", "few")
     with tempfile.TemporaryDirectory() as folder:
         make_copy(folder)
