@@ -328,6 +328,18 @@ def check_manual(tree, path):
         check(f"{path}: {name}", name in tree.commands or name in tree.words, True)
 
 
+def check_definitions():
+    """In a row of DEFINITIONS that ends with '`FILE`, `name`; `FILE`, `name`; `CALL`', each name stands in the file before it."""
+    for cell in re.findall(r"^\|.*\| ([^|]*) \|$", read("docs/DEFINITIONS.md"), re.M):
+        folder = ""
+        for spans in map(spans_of, cell.split(";")):
+            if spans and spans[0].endswith((".antt", ".rt")):
+                folder = os.path.dirname(spans[0]) or folder
+                file = f"{folder}/{os.path.basename(spans[0])}"
+                words = re.findall(r"[\w-]+", read(f"crates/{file}"))
+                check(f"docs/DEFINITIONS.md: names that {file} hasn't", sorted(set(spans[1:]) - set(words)), [])
+
+
 def parts_of(tree):
     """The crates but small programs and tests."""
     return [crate for crate in tree.crates if not crate.startswith(("show_", "test_"))]
@@ -496,6 +508,7 @@ def main():
             check_sentences(path)
     counts = {path: len(re.findall(r"\S*\w\S*", read(path))) for path in documents()}
     if not sys.argv[1:]:
+        check_definitions()
         check_crates(tree)
         check_handles(tree)
         check("words of all documents", sum(counts.values()) if sum(counts.values()) > MOST_WORDS else "few", "few")
