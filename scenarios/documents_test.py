@@ -1,7 +1,8 @@
 """Compares the documents with the tree: python3 documents_test.py [DOCUMENT]... Ends with a line 'N passed, M failed'.
 
 Each name (in backticks, or one that only code has), each clause in a row of a promise, each link, each command of a console
-block and each sentence counts as a test. The documents are README.md, CHANGELOG.md and docs/*.md; of the pages of crates and of the manuals the names are compared.
+block and each sentence counts as a test. The documents are README.md, CHANGELOG.md and docs/*.md; of the pages of crates and of
+the manuals the names are compared.
 A console block is an indented block whose first line begins with '$ ' or '# '.
 """
 import fnmatch
@@ -83,7 +84,7 @@ class Tree:
         self.ends = {"/".join(parts[begin:]) for parts in (path.split("/") for path in self.paths) for begin in range(len(parts))}
         self.libraries = {name for uses in self.crates.values() for name in uses} - set(self.crates)
         self.declared = {}  # of each crate: the names that its sources and definitions declare
-        self.clauses = {crate: set() for crate in self.crates}
+        self.all_clauses = set()
         self.contracts = {}  # the clauses of each function, of all that have its name
         self.tests_of = {crate: set() for crate in self.crates}  # its functions after #[test]
         self.code_words = set()  # of sources and definitions, whatever they are there
@@ -99,7 +100,6 @@ class Tree:
         self.commands = set(re.findall(r'"([A-Z_]+)"', read("crates/gate_grammar/src/commands.rt")))
         self.options = options_of_programs()
         self.all_declared = set().union(*self.declared.values())
-        self.all_clauses = set().union(*self.clauses.values())
 
     def declare(self, crate):
         names = set()
@@ -112,8 +112,7 @@ class Tree:
                 names.update(re.findall(r"\b(?:fn|struct|enum|trait|type|const|static|mod|ghost)\s+(\w+)", text))
                 names.update(re.findall(r"^\s*(?:pub(?:\(\w+\))? )?(\w+)\s*[:,({]", text, re.M))  # fields and variants
                 self.tests_of[crate].update(re.findall(r"#\[test\]\s*(?:#\[.*\]\s*)*fn (\w+)", text))
-                self.clauses[crate].update(re.findall(r"\b(?:ensures|requires)\s+(\w+)", text))
-                self.clauses[crate].update(re.findall(r"\bghost\s+(\w+)", text))
+                self.all_clauses.update(re.findall(r"\b(?:ensures|requires|ghost)\s+(\w+)", text))
                 parts = re.split(r"\bfn (\w+)", text)
                 for name, rest in zip(parts[1::2], parts[2::2]):
                     self.contracts.setdefault(name, set()).update(re.findall(r"\bensures\s+(\w+)", rest))
@@ -121,7 +120,7 @@ class Tree:
                 names.update(re.findall(r"^\s*(?:pub\s+)?([\w-]+)\s*[:(]", text, re.M))
                 names.update(re.findall(r"\b(?:abbrev|data|record)\s+(?:pub\s+)?([\w-]+)", text))
                 names.update(re.findall(r"^\s*pub\s+(?:\w+\s+)?([\w-]+)", text, re.M))
-                self.clauses[crate].update(re.findall(r"^\s*pub\s+(\w+)\s*:", text, re.M))
+                self.all_clauses.update(re.findall(r"^\s*pub\s+(\w+)\s*:", text, re.M))
                 names.add(os.path.basename(path)[:-5])
         return names
 
@@ -301,9 +300,9 @@ def check_names(tree, path):
     for test, crate in re.findall(r"`(\w+)` \((test_\w+)\)", text):
         check(f"{path}: test `{test}` of {crate}", test in tree.tests_of.get(crate, ()), True)
     for function, names in re.findall(r"`([\w:]+)`, clauses? ((?:`\w+`(?:, | and )?)+)", text):
-        owners = [crate for crate in tree.crates if set(function.split("::")) <= tree.declared[crate] | {crate}]
+        contract = tree.contracts.get(function.split("::")[-1], set())
         for name in re.findall(r"`(\w+)`", names):
-            check(f"{path}: clause `{name}` of `{function}`", any(name in tree.clauses[crate] for crate in owners), True)
+            check(f"{path}: clause `{name}` of `{function}`", name in contract, True)
 
 
 def check_promises(tree, path):
