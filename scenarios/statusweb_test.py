@@ -56,7 +56,10 @@ class Gateway:
 
     def run(self):
         while True:
-            connection, _ = self.listener.accept()
+            try:
+                connection, _ = self.listener.accept()
+            except OSError:
+                return
             self.count += 1
             threading.Thread(target=self.serve, args=(connection,), daemon=True).start()
 
