@@ -121,7 +121,7 @@ def play_words(operator, program):
     for words in (["--help"], ["ack", "--help"], ["--version"]):
         status, output, errors = run(program, *words)
         check(f"{words}", (status, output != "", errors), (0, True, ""))
-    check("the version", run(program, "--version")[1], "nscagatectl 0.1.0\n")
+    check("the version", run(program, "--version")[1], "nscagatectl 1.0.0\n")
     status, output, _ = operator.run("status")
     check("the status page", (status, output.splitlines()[1].split(";")[:3]), (0, ["object", "web1", ""]))
     operator.refuses(["status", "--wait=0"], "--wait is 1 to 3600", 2)

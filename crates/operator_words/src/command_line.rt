@@ -8,8 +8,8 @@ ghost use Rattle.operator_words.specs.CommandLine.{IsArgument, IsCommand, word_o
 use clap::{Arg, ArgAction, Command};
 use std::alloc::{AllocError, Global};
 
-// What `--version` prints after the program's name.
-const VERSION: &str = "0.1.0";
+// What `--version` prints after the program's name: that of CHANGELOG.md.
+const VERSION: &str = "1.0.0";
 
 // A word without a name, which has to be there or may be.
 fn word<'a>(alloc: Global, name: &'a str, required: bool, help: &'a str) -> Arg<'a>
