@@ -400,7 +400,10 @@ def main():
               (2, "", "nscagate: config: unreadable\n"))
         with socket.create_server(("127.0.0.1", 0)) as other:
             address = f"127.0.0.1:{other.getsockname()[1]}"
-            refuse(program, folder, f'agents = "{address}"\n', 4, f"bind {address}")
+            for taken in ("agents", "operators", "pages"):
+                addresses = dict.fromkeys(("agents", "operators", "pages"), "127.0.0.1:0") | {taken: address}
+                lines = (f'{port} = "{bound}"\n' for port, bound in addresses.items())
+                refuse(program, folder, "".join(lines), 4, f"bind {address}")
     end_tests()
 
 

@@ -1,6 +1,7 @@
 -- The steps of a daemon: how they end, and what they print in all.
 use Rattle.std.proofs.Common.{◌≡◌, ℕ, ◌<◌, ◌≤◌, List, [], ◌++◌, length, replicate, Option, Some, None, refl, sym, ◌∙◌, subst, inl, inr}
-use Rattle.std.specs.Prelude.{Result, Ok, Err, IfOk, IfErr, IfSome, IsOk, ⊤}
+use Rattle.std.specs.Prelude.{Result, Ok, Err, IfOk, IfErr, IsOkAnd, IsSome, MatchOption, Vec, ⊤}
+use Rattle.std.specs.declared.alloc.AllocError.{AllocError}
 use Rattle.std.specs.declared.net.socket_addr.SocketAddr.{SocketAddr}
 use Rattle.std.proofs.lemmas.List.{append-nil}
 use Rattle.gate_model.specs.declared.object.ObjectLine.{ObjectLine}
@@ -25,15 +26,15 @@ use Rattle.gate_daemon.specs.declared.gateway.GatewayFault.TheVariants as gatewa
 use Rattle.gate_serve.specs.declared.fault.ServeFault.{ServeFault}
 use Rattle.gate_serve.specs.declared.fault.ServeFault.TheVariants as fault
 use Rattle.gate_serve.specs.BeforeServing.{Configures, AreBoundAs, IsAddressIn, IsBindEnd, IsConfigEnd, IsWriteEnd, address_lines}
-use Rattle.gate_serve.specs.Serve.{ServeEnds, FollowsAddresses, IsRun, page_of, worker_limits, addresses_alone, log_so_far, log_whole}
-use Rattle.gate_serve.specs.inner.Serving.{HasStopped, IsStopCause, IsPageGiven, IsCloseEnd, IsWholeEnd, IsRunEnd, RunsOn, HasRun, fault_after, reports_after}
+use Rattle.gate_serve.specs.Serve.{ServeEnds, FollowsAddresses, IsServed, IsRun, IsFull, IsStarved, page_of, worker_limits, addresses_alone, log_so_far, log_whole}
+use Rattle.gate_serve.specs.inner.Serving.{IsStarted, HasRun, IsPageGiven, EndsWith, operator_fault, close_fault, fault_after, reports_after, applier_after}
 
 -- nothing was printed before what comes after the addresses
 delivers_after : (before middle after : SinkState) (x y : List ℕ) → Delivers before middle x → Delivers middle after y → Delivers before after (x ++ y)
 delivers_after before middle after x y p q = delivers_on before middle after x y (record { appended = p.appended; none_failed = p.none_failed }) q
 
 -- the addresses were printed, and nothing else
-pub announced : (config : Config) (agents operators pages : SocketAddr) (before after : SinkState) → AreBoundAs config agents operators pages
+announced : (config : Config) (agents operators pages : SocketAddr) (before after : SinkState) → AreBoundAs config agents operators pages
     → Delivers before after (address_lines agents operators pages) → FollowsAddresses config before after []
 announced config a o p before after bound printed = record {
   agents = a;
@@ -42,6 +43,16 @@ announced config a o p before after bound printed = record {
   bound = bound;
   printed = subst (λ (t : List ℕ). Delivers before after t) (sym (append-nil (address_lines a o p))) printed;
 }
+
+-- a daemon of this configuration has started, whose addresses were printed if there was memory for them
+pub started : {Allocator : Type 0} (lines : Result (Vec ℕ Allocator) AllocError) (text : List ℕ) (config : Config) (agents operators pages : SocketAddr) (before after : SinkState) → Configures text config → AreBoundAs config agents operators pages
+    → IfOk lines (λ made. made.items ≡ address_lines agents operators pages) → IsOkAnd lines (λ made. Delivers before after made.items) → IsStarted config before after
+started (Ok made) text config a o p before after configured bound are printed = record {
+  text = text;
+  configured = configured;
+  printed = announced config a o p before after bound (subst (λ (t : List ℕ). Delivers before after t) are printed);
+}
+started (Err why) text config a o p before after configured bound are printed = absurd printed
 
 addresses_in : (config : Config) (before after : SinkState) (p : FollowsAddresses config before after [])
     → Delivers before after (address_lines p.agents p.operators p.pages)
@@ -53,7 +64,7 @@ alone config before middle after printed same = subst (λ (s : SinkState). Follo
 
 -- the log page came after the addresses
 page_after : (config : Config) (before middle after : SinkState) (applier : ApplierView) → FollowsAddresses config before middle [] → applier.table ≡ config.table
-    → IsPageGiven applier middle after → FollowsAddresses config before after (page_of config.table applier.records)
+    → IsPageGiven middle after applier → FollowsAddresses config before after (page_of config.table applier.records)
 page_after config before middle after applier p of_table given = record {
   agents = p.agents;
   operators = p.operators;
@@ -66,19 +77,6 @@ page_after config before middle after applier p of_table given = record {
 -- a call failed after the addresses
 fails_after : (config : Config) (before middle after : SinkState) → FollowsAddresses config before middle [] → FailsOnce middle after → FailsOnce before after
 fails_after config before middle after printed k = fails_then before.tally middle.tally after.tally 1 printed.printed.none_failed k
-
--- what runs as a text configures it is served
-pub served : (text : List ℕ) (config : Config) (before after : SinkState) (reports : List (ℕ × List Report)) (found : Option ServeFault) → Configures text config → RunsOn config before after reports found → ServeEnds before after reports found
-served text config before after reports None is k = record { text = text; config = config; configured = is; ran = k }
-served text config before after reports (Some fault.Unreadable) is k = absurd k
-served text config before after reports (Some (fault.Config reported)) is k = absurd k
-served text config before after reports (Some (fault.Bind address)) is k = absurd k
-served text config before after reports (Some fault.LogFull) is k = record { text = text; config = config; configured = is; ran = k }
-served text config before after reports (Some fault.OutOfMemory) is (inl k) = inl k
-served text config before after reports (Some fault.OutOfMemory) is (inr (inl k)) = inr (inl k)
-served text config before after reports (Some fault.OutOfMemory) is (inr (inr k)) = inr (inr (record { text = text; config = config; configured = is; ran = k }))
-served text config before after reports (Some fault.Spawn) is k = record { text = text; config = config; configured = is; ran = k }
-served text config before after reports (Some fault.WriteFault) is k = k
 
 -- without a configuration nothing is served
 pub unconfigured : (state : SinkState) (reports : List (ℕ × List Report)) (found : ServeFault) → IsConfigEnd found → ServeEnds state state reports (Some found)
@@ -99,6 +97,16 @@ unbound text config state reports fault.LogFull is k = absurd k
 unbound text config state reports fault.OutOfMemory is k = inl refl
 unbound text config state reports fault.Spawn is k = absurd k
 unbound text config state reports fault.WriteFault is k = absurd k
+
+-- without what is to be printed first nothing is served
+pub unprinted : (before after : SinkState) (reports : List (ℕ × List Report)) (found : ServeFault) → IsWriteEnd before after found → ServeEnds before after reports (Some found)
+unprinted before after reports fault.Unreadable k = absurd k
+unprinted before after reports (fault.Config reported) k = absurd k
+unprinted before after reports (fault.Bind address) k = absurd k
+unprinted before after reports fault.LogFull k = absurd k
+unprinted before after reports fault.OutOfMemory k = inl k
+unprinted before after reports fault.Spawn k = absurd k
+unprinted before after reports fault.WriteFault k = k
 
 -- ---- a gateway
 
@@ -128,108 +136,91 @@ has_run (Ok finished) config settings {agents} unknown workers worker table limi
 }
 has_run (Err why) config settings {agents} unknown workers worker table limit holds served of_table of_limit = tt
 
-stop_cause : (workers : ℕ) (why : CloseAllCause) (queued : List (ℕ × List ℕ)) (applier : ApplierView) → IsDrainFault workers why queued applier → IsStopCause why
-stop_cause workers cause.LogFull queued applier known = tt
-stop_cause workers cause.OutOfMemory queued applier known = tt
+-- where a close did not apply all, the log was full or memory was missing
+stop_cause : (workers : ℕ) (why : CloseAllCause) (queued : List (ℕ × List ℕ)) (applier : ApplierView) → IsDrainFault workers why queued applier → IsSome (close_fault why)
+stop_cause workers cause.LogFull queued applier known = refl
+stop_cause workers cause.OutOfMemory queued applier known = refl
 stop_cause workers cause.NotClosing queued applier known = absurd known
 stop_cause workers (cause.Missing client) queued applier known = absurd known
 
--- where it did not apply all, the log was full or memory was missing
-pub has_stopped : (workers capacity limit : ℕ) (table : List ObjectLine) (why : GatewayFault) → IsGatewayFault workers capacity limit table why → HasStopped why
-has_stopped workers capacity limit table (gateway_fault.Queue cause) known = tt
-has_stopped workers capacity limit table (gateway_fault.Applier cause) known = tt
-has_stopped workers capacity limit table gateway_fault.OutOfMemory known = tt
-has_stopped workers capacity limit table gateway_fault.Spawn known = tt
-has_stopped workers capacity limit table (gateway_fault.CloseAll gate drain reports) known =
+-- a gateway that did not finish has a fault
+pub has_fault : (workers capacity limit : ℕ) (table : List ObjectLine) (why : GatewayFault) → IsGatewayFault workers capacity limit table why → IsSome (fault_after (Err why))
+has_fault workers capacity limit table (gateway_fault.Queue cause) known = refl
+has_fault workers capacity limit table (gateway_fault.Applier cause) known = refl
+has_fault workers capacity limit table gateway_fault.OutOfMemory known = refl
+has_fault workers capacity limit table gateway_fault.Spawn known = refl
+has_fault workers capacity limit table (gateway_fault.CloseAll gate drain reports) known =
     stop_cause workers drain.cause (queued_by_each (reports_of_each reports.items)) drain.applier known.fault
 
--- it has no log, since memory ran out
-logless_end : (config : Config) (before middle after : SinkState) (found : ServeFault) → FollowsAddresses config before middle [] → (found ≡ fault.OutOfMemory) × (after ≡ middle) → RunsOn config before after [] (Some found)
-logless_end config before middle after found printed (is, same) =
-    subst (λ (f : ServeFault). RunsOn config before after [] (Some f)) (sym is) (inr (inr (addresses_alone (alone config before middle after printed same))))
+-- what holds for the configuration of a daemon that has started
+served : (Ran : Config → Type 0) (config : Config) (before middle : SinkState) → IsStarted config before middle → Ran config → IsServed Ran
+served Ran config before middle started ran = record { text = started.text; config = config; configured = started.configured; ran = ran }
+
+-- memory ran out before anything came after the addresses
+starved_alone : (config : Config) (before middle after : SinkState) (reports : List (ℕ × List Report)) → IsStarted config before middle → after ≡ middle → ServeEnds before after reports (Some fault.OutOfMemory)
+starved_alone config before middle after reports started same =
+    inr (served (λ c. IsStarved c reports before after) config before middle started (addresses_alone (alone config before middle after started.printed same)))
 
 -- its log page can't be written
-page_end : (config : Config) (before middle after : SinkState) (reports : List (ℕ × List Report)) (found : ServeFault) → FollowsAddresses config before middle [] → IsWriteEnd middle after found → RunsOn config before after reports (Some found)
-page_end config before middle after reports fault.Unreadable printed k = k
-page_end config before middle after reports (fault.Config text) printed k = k
-page_end config before middle after reports (fault.Bind text) printed k = k
-page_end config before middle after reports fault.LogFull printed k = absurd k
-page_end config before middle after reports fault.OutOfMemory printed (inl k) = inr (inr (addresses_alone (alone config before middle after printed k)))
-page_end config before middle after reports fault.OutOfMemory printed (inr k) = inr (inl (fails_after config before middle after printed k))
-page_end config before middle after reports fault.Spawn printed k = absurd k
-page_end config before middle after reports fault.WriteFault printed k = fails_after config before middle after printed k
+page_end : (config : Config) (before middle after : SinkState) (reports : List (ℕ × List Report)) (found : ServeFault) → IsStarted config before middle → IsWriteEnd middle after found → ServeEnds before after reports (Some found)
+page_end config before middle after reports fault.Unreadable started k = absurd k
+page_end config before middle after reports (fault.Config text) started k = absurd k
+page_end config before middle after reports (fault.Bind text) started k = absurd k
+page_end config before middle after reports fault.LogFull started k = absurd k
+page_end config before middle after reports fault.OutOfMemory started k = starved_alone config before middle after reports started k
+page_end config before middle after reports fault.Spawn started k = absurd k
+page_end config before middle after reports fault.WriteFault started k = fails_after config before middle after started.printed k
 
--- what it prints where it applied all
-whole_run : (finished : Finished) (config : Config) (before middle after : SinkState) → FollowsAddresses config before middle []
-    → HasRun config finished → IsPageGiven finished.closed.applier middle after → IsRun config (reports_of_each finished.reports.items) before after
-whole_run finished config before middle after printed ran given = record {
-  records = finished.closed.applier.records;
-  operator = finished.operator;
-  holds = ran.holds;
-  served = ran.served;
-  few = subst (λ (n : ℕ). length finished.closed.applier.records ≤ n) ran.limit given.few;
-  printed = page_after config before middle after finished.closed.applier printed ran.table given;
-}
+-- it applied all, and its operator's worker ended so
+whole_end : (operator : Cause) (config : Config) (before middle after : SinkState) (reports : List (ℕ × List Report)) → IsStarted config before middle → IsRun config reports before after → ServeEnds before after reports (operator_fault operator)
+whole_end worker.OutOfMemory config before middle after reports started ran = inr (served (λ c. IsStarved c reports before after) config before middle started (log_whole ran))
+whole_end worker.Closing config before middle after reports started ran = served (λ c. IsRun c reports before after) config before middle started ran
+whole_end worker.TooManySessions config before middle after reports started ran = served (λ c. IsRun c reports before after) config before middle started ran
+whole_end worker.NoMoreConnections config before middle after reports started ran = served (λ c. IsRun c reports before after) config before middle started ran
 
--- its operator's worker had no memory
-operators_fault : (operator : Cause) (found : ServeFault) → fault_after operator ≡ Some found → found ≡ fault.OutOfMemory
-operators_fault worker.OutOfMemory found e = cc
-operators_fault worker.Closing found e = absurd (cc)
-operators_fault worker.TooManySessions found e = absurd (cc)
-operators_fault worker.NoMoreConnections found e = absurd (cc)
-
--- it applied all, and ended with a fault
-whole_end : (finished : Finished) (config : Config) (before middle after : SinkState) (found : ServeFault) → FollowsAddresses config before middle []
-    → HasRun config finished → IsWholeEnd finished.operator finished.closed.applier middle after found
-    → RunsOn config before after (reports_of_each finished.reports.items) (Some found)
-whole_end finished config before middle after found printed ran (inl k) =
-    page_end config before middle after (reports_of_each finished.reports.items) found printed k
-whole_end finished config before middle after found printed ran (inr (same, given)) =
-    subst (λ (f : ServeFault). RunsOn config before after (reports_of_each finished.reports.items) (Some f)) (sym (operators_fault finished.operator found same))
-    (inr (inr (log_whole (whole_run finished config before middle after printed ran given))))
-
--- what it prints where it could not apply all
-undrained_end : (why : CloseAllCause) (drained : ApplierView) (config : Config) (before middle after : SinkState) (reports : List (ℕ × List Report)) (found : ServeFault) → FollowsAddresses config before middle []
-    → drained.table ≡ config.table → drained.limit ≡ config.limits.limit → IsDrainFault config.workers why (queued_by_each reports) drained → IsCloseEnd why drained middle after found → RunsOn config before after reports (Some found)
-undrained_end why drained config before middle after reports fault.Unreadable printed of_table of_limit known k = k
-undrained_end why drained config before middle after reports (fault.Config text) printed of_table of_limit known k = k
-undrained_end why drained config before middle after reports (fault.Bind text) printed of_table of_limit known k = k
-undrained_end why drained config before middle after reports fault.LogFull printed of_table of_limit known (is, given) =
-    let d = subst (λ (cause : CloseAllCause). IsDrainFault config.workers cause (queued_by_each reports) drained) is known in
-    record { records = drained.records; none_lost = d.0; count = d.1 ∙ of_limit; printed = page_after config before middle after drained printed of_table given }
-undrained_end why drained config before middle after reports fault.OutOfMemory printed of_table of_limit known (inl k) = inr (inr (addresses_alone (alone config before middle after printed k)))
-undrained_end why drained config before middle after reports fault.OutOfMemory printed of_table of_limit known (inr (inl k)) = inr (inl (fails_after config before middle after printed k))
-undrained_end why drained config before middle after reports fault.OutOfMemory printed of_table of_limit known (inr (inr (is, given))) =
-    let d = subst (λ (cause : CloseAllCause). IsDrainFault config.workers cause (queued_by_each reports) drained) is known in
-    inr (inr (log_so_far (record {
+-- it could not apply all for this cause
+close_end : (why : CloseAllCause) (drained : ApplierView) (config : Config) (before middle after : SinkState) (reports : List (ℕ × List Report)) → IsStarted config before middle
+    → drained.limit ≡ config.limits.limit → IsDrainFault config.workers why (queued_by_each reports) drained → FollowsAddresses config before after (page_of config.table drained.records)
+    → ServeEnds before after reports (close_fault why)
+close_end cause.LogFull drained config before middle after reports started of_limit known printed =
+    served (λ c. IsFull c reports before after) config before middle started
+    (record { records = drained.records; none_lost = known.0; count = known.1 ∙ of_limit; printed = printed })
+close_end cause.OutOfMemory drained config before middle after reports started of_limit known printed =
+    inr (served (λ c. IsStarved c reports before after) config before middle started (log_so_far (record {
       records = drained.records;
-      none_lost = d.0;
-      count = subst (λ (n : ℕ). length drained.records < n) of_limit d.1;
-      printed = page_after config before middle after drained printed of_table given;
+      none_lost = known.0;
+      count = subst (λ (n : ℕ). length drained.records < n) of_limit known.1;
+      printed = printed;
     })))
-undrained_end why drained config before middle after reports fault.Spawn printed of_table of_limit known k = absurd k
-undrained_end why drained config before middle after reports fault.WriteFault printed of_table of_limit known k = fails_after config before middle after printed k
+close_end cause.NotClosing drained config before middle after reports started of_limit known printed = absurd known
+close_end (cause.Missing client) drained config before middle after reports started of_limit known printed = absurd known
 
--- it ends with a fault
-fault_end : (why : GatewayFault) (config : Config) (before middle after : SinkState) (found : ServeFault) → FollowsAddresses config before middle []
-    → IsGatewayFault config.workers config.limits.capacity config.limits.limit config.table why → IsRunEnd (Err why) middle after found → RunsOn config before after (reports_after (Err why)) (Some found)
-fault_end (gateway_fault.Queue cause) config before middle after found printed known k = logless_end config before middle after found printed k
-fault_end (gateway_fault.Applier cause) config before middle after found printed known k = logless_end config before middle after found printed k
-fault_end gateway_fault.OutOfMemory config before middle after found printed known k = logless_end config before middle after found printed k
-fault_end gateway_fault.Spawn config before middle after found printed known (is, same) =
-    subst (λ (f : ServeFault). RunsOn config before after [] (Some f)) (sym is) (alone config before middle after printed same)
-fault_end (gateway_fault.CloseAll gate drain reports) config before middle after found printed known k =
-    undrained_end drain.cause drain.applier config before middle after (reports_of_each reports.items) found printed known.of_table known.of_limit known.fault k
+-- its log page was printed, if it has a log
+page_given : (ran : Result Finished GatewayFault) (config : Config) (before middle after : SinkState) → IsStarted config before middle → IfOk ran (HasRun config)
+    → IfErr ran (IsGatewayFault config.workers config.limits.capacity config.limits.limit config.table)
+    → MatchOption (applier_after ran) (after ≡ middle) (IsPageGiven middle after) → ServeEnds before after (reports_after ran) (fault_after ran)
+page_given (Ok finished) config before middle after started has_run known given =
+    whole_end finished.operator config before middle after (reports_of_each finished.reports.items) started (record {
+      records = finished.closed.applier.records;
+      operator = finished.operator;
+      holds = has_run.holds;
+      served = has_run.served;
+      few = subst (λ (n : ℕ). length finished.closed.applier.records ≤ n) has_run.limit given.few;
+      printed = page_after config before middle after finished.closed.applier started.printed has_run.table given;
+    })
+page_given (Err (gateway_fault.CloseAll gate drain reports)) config before middle after started has_run known given =
+    close_end drain.cause drain.applier config before middle after (reports_of_each reports.items) started known.of_limit known.fault
+    (page_after config before middle after drain.applier started.printed known.of_table given)
+page_given (Err (gateway_fault.Queue why)) config before middle after started has_run known same = starved_alone config before middle after [] started same
+page_given (Err (gateway_fault.Applier why)) config before middle after started has_run known same = starved_alone config before middle after [] started same
+page_given (Err gateway_fault.OutOfMemory) config before middle after started has_run known same = starved_alone config before middle after [] started same
+page_given (Err gateway_fault.Spawn) config before middle after started has_run known same =
+    served (λ c. FollowsAddresses c before after []) config before middle started (alone config before middle after started.printed same)
 
 -- how it ends, after its addresses were printed
-pub ends_on : (ran : Result Finished GatewayFault) (found : Option ServeFault) (config : Config) (before middle after : SinkState) → FollowsAddresses config before middle []
-    → IfOk ran (HasRun config)
-    → IfErr ran (IsGatewayFault config.workers config.limits.capacity config.limits.limit config.table)
-    → (found ≡ None → IsOk ran) → IfOk ran (λ finished. found ≡ None → (fault_after finished.operator ≡ None) × IsPageGiven finished.closed.applier middle after)
-    → IfSome found (IsRunEnd ran middle after) → RunsOn config before after (reports_after ran) found
-ends_on (Ok finished) None config before middle after printed has_run known is_finished page ended =
-    whole_run finished config before middle after printed has_run (page refl).1
-ends_on (Err why) None config before middle after printed has_run known is_finished page ended = let k = is_finished refl in absurd (cc)
-ends_on (Ok finished) (Some found) config before middle after printed has_run known is_finished page ended =
-    whole_end finished config before middle after found printed has_run ended
-ends_on (Err why) (Some found) config before middle after printed has_run known is_finished page ended = fault_end why config before middle after found printed known ended
+pub ends_on : (ran : Result Finished GatewayFault) (found : Option ServeFault) (config : Config) (before middle after : SinkState) → IsStarted config before middle → IfOk ran (HasRun config)
+    → IfErr ran (IsGatewayFault config.workers config.limits.capacity config.limits.limit config.table) → EndsWith ran middle after found → ServeEnds before after (reports_after ran) found
+ends_on ran found config before middle after started has_run known (inl (same, given)) =
+    subst (λ (f : Option ServeFault). ServeEnds before after (reports_after ran) f) (sym same) (page_given ran config before middle after started has_run known given)
+ends_on ran None config before middle after started has_run known (inr k) = absurd k
+ends_on ran (Some found) config before middle after started has_run known (inr k) = page_end config before middle after (reports_after ran) found started k

@@ -84,8 +84,8 @@ IsBindEnd P (Bind address) = P address
 IsBindEnd P OutOfMemory = Unit {0}
 IsBindEnd P _ = ⊥
 
--- a write failed, or memory ran out for what was to be written
+-- a call of the output failed, or memory ran out for what was to be written
 abbrev pub IsWriteEnd : SinkState → SinkState → ServeFault → Type 0
-IsWriteEnd before after OutOfMemory = (after ≡ before) ⊎ FailsOnce before after
+IsWriteEnd before after OutOfMemory = after ≡ before
 IsWriteEnd before after WriteFault = FailsOnce before after
 IsWriteEnd before after _ = ⊥

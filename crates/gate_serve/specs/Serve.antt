@@ -1,4 +1,4 @@
--- What the daemon prints, how it ends, and what it reports: `ServeEnds`, `IsServeRun`. Of its file and of its
+-- What the daemon prints, and how it ends: `ServeEnds`. Of its file and of its
 -- sockets nothing is known: a file holds some bytes, and a socket reports an address of its own.
 use Rattle.std.specs.Prelude.{◌≡◌, ◌⊎◌, ◌<◌, ◌≤◌, ℕ, List, [], ◌++◌, length, replicate, Option, Some, None, ⊤}
 use Rattle.std.specs.declared.net.socket_addr.SocketAddr.{SocketAddr}
@@ -6,7 +6,6 @@ use Rattle.gate_model.specs.declared.object.ObjectLine.{ObjectLine}
 use Rattle.gate_model.specs.declared.record.Record.{Record}
 use Rattle.gate_model.specs.Meaning.{outcomes_of}
 use Rattle.gate_close.specs.DrainedClose.{items_of_records}
-use Rattle.gate_reader.specs.Fault.{status_at_end, IsFaultReported}
 use Rattle.gate_reader.specs.Sink.{SinkState, Delivers, FailsOnce}
 use Rattle.gate_pages.specs.LogPage.{log_text}
 use Rattle.gate_reader.specs.declared.report.Report.{Report}
@@ -19,7 +18,6 @@ use Rattle.gate_config.specs.declared.config.Config.{Config}
 use Rattle.gate_config.specs.declared.limits.Limits.{Limits}
 use Rattle.gate_serve.specs.declared.fault.ServeFault.{ServeFault}
 use Rattle.gate_serve.specs.declared.fault.ServeFault.TheVariants as fault
-use Rattle.gate_serve.specs.Fault.{status_of, message_of}
 use Rattle.gate_serve.specs.BeforeServing.{Configures, IsFaulty, IsAddress, AreBoundAs, address_lines}
 
 -- the output grew by the addresses of this configuration, as the daemon is bound to them, and then by this
@@ -84,7 +82,7 @@ pub record IsServed (Ran : Config → Type 0) : Type 0 where
   pub ran : Ran config
 
 -- what is true of how the output grew, where a daemon, whose clients have these reports, ends without a fault or with
--- this one. At OutOfMemory nothing was printed, or a call of the output failed, or the daemon had printed its addresses
+-- this one. At OutOfMemory nothing was printed, or the daemon had printed its addresses
 abbrev pub ServeEnds : SinkState → SinkState → List (ℕ × List Report) → Option ServeFault → Type 0
 ServeEnds before after reports None = IsServed (λ config. IsRun config reports before after)
 ServeEnds before after reports (Some fault.Unreadable) = after ≡ before
@@ -92,15 +90,6 @@ ServeEnds before after reports (Some (fault.Config reported)) = IsFaulty reporte
 ServeEnds before after reports (Some (fault.Bind address)) = IsAddress address × (after ≡ before)
 ServeEnds before after reports (Some fault.LogFull) = IsServed (λ config. IsFull config reports before after)
 ServeEnds before after reports (Some fault.OutOfMemory) =
-    (after ≡ before) ⊎ FailsOnce before after ⊎ IsServed (λ config. IsStarved config reports before after)
+    (after ≡ before) ⊎ IsServed (λ config. IsStarved config reports before after)
 ServeEnds before after reports (Some fault.Spawn) = IsServed (λ config. FollowsAddresses config before after [])
 ServeEnds before after reports (Some fault.WriteFault) = FailsOnce before after
-
--- the daemon, with what is known of the output and of the errors before and after it, ends with this status, and its
--- clients have some reports
-pub record IsServeRun (output output_after errors errors_after : SinkState) (status : ℕ) : Type 0 where
-  pub reports : List (ℕ × List Report)
-  pub fault : Option ServeFault
-  pub status_is : status ≡ status_at_end status_of fault
-  pub ended : ServeEnds output output_after reports fault
-  pub reported : IsFaultReported message_of fault errors errors_after

@@ -1,39 +1,21 @@
 ghost use Rattle.std.specs.Prelude.{ℕ, List, IfOk, IfErr};
 ghost use Rattle.gate_serve.specs.BeforeServing.{Configures, IsConfigEnd};
-ghost use Rattle.gate_serve.specs.inner.Reading.{IsFileEnd, IsReadFault, IsTextEnd};
+ghost use Rattle.gate_serve.specs.inner.Reading.{IsReadFault, IsTextEnd};
 
-use crate::fault::ServeFault;
+use crate::fault::{ServeFault, or_fault};
 use gate_config::{Config, ConfigFault, read_config};
 use gate_model::{DOCUMENT_BYTES, Text};
 use std::alloc::Global;
 use std::fs::{File, Files};
 use std::io;
-use std::io::{ErrorKind, Read};
-
-// The fault that a failed call on the file is: out of memory for what was read, or a file that can't
-// be read.
-fn file_fault(error: &io::Error) -> ServeFault
-    ensures { IsFileEnd result }
-{
-    match error.kind() {
-        ErrorKind::OutOfMemory => ServeFault::OutOfMemory,
-        _ => ServeFault::Unreadable,
-    }
-}
+use std::io::Read;
 
 // Reads a file, and no more of it than one byte beyond the greatest configuration.
-fn read_file<F: Files>(files: &F, alloc: Global, path: &str) -> Result<Vec<u8>, ServeFault>
-    ensures { IfErr result IsFileEnd }
-{
-    let file = match File::open(files, path) {
-        Ok(file) => file,
-        Err(error) => return Err(file_fault(&error)),
-    };
+fn read_file<F: Files>(files: &F, alloc: Global, path: &str) -> io::Result<Vec<u8>> {
     let mut text = Vec::new(alloc);
-    match file.take(DOCUMENT_BYTES as u64 + 1).read_to_end(&mut text) {
-        Ok(_) => Ok(text),
-        Err(error) => Err(file_fault(&error)),
-    }
+    let file = File::open(files, path)?;
+    file.take(DOCUMENT_BYTES as u64 + 1).read_to_end(&mut text)?;
+    Ok(text)
 }
 
 // The fault of a text that could not be read as a configuration.
@@ -69,6 +51,6 @@ pub(crate) fn configuration<F: Files>(
     ensures ok { IfOk result (λ config. (text : List ℕ) × Configures text config) }
     ensures err { IfErr result IsConfigEnd }
 {
-    let text = read_file(files, alloc, path)?;
+    let text = or_fault(read_file(files, alloc, path), ServeFault::Unreadable)?;
     configure(alloc, &text)
 }

@@ -1,12 +1,9 @@
-ghost use Rattle.std.specs.Prelude.{◌≡◌, ◌≤◌, length, IfErr, IfOk, IfSome, IsOk, None, OnOk};
-ghost use Rattle.gate_reader.specs.Sink.{SinkState, Delivers};
+ghost use Rattle.std.specs.Prelude.{◌≡◌, IfErr, IsSome, Err, Some};
 ghost use Rattle.gate_daemon.specs.Answered.{reports_of_each};
-ghost use Rattle.gate_serve.specs.BeforeServing.{IsWriteEnd};
-ghost use Rattle.gate_serve.specs.Serve.{page_of};
-ghost use Rattle.gate_serve.specs.inner.Serving.{HasStopped, IsCloseEnd, IsPageGiven, IsRunEnd, IsStopCause, IsWholeEnd, fault_after, reports_after};
+ghost use Rattle.gate_serve.specs.inner.Serving.{EndsWith, applier_after, close_fault, fault_after, operator_fault, reports_after};
 
-use crate::announcing::print;
 use crate::fault::ServeFault;
+use crate::printing::print;
 use crate::served::{Served, without_reports};
 use gate_applier::Applier;
 use gate_close::{CloseAllCause, CloseAllFault};
@@ -16,37 +13,9 @@ use gate_reader::Sink;
 use gate_worker::Cause;
 use std::alloc::Global;
 
-// Prints the log page, and flushes.
-fn print_log<W: Sink>(alloc: Global, applier: &Applier, output: &mut W) -> Result<(), ServeFault>
-    ensures ok { OnOk result (Delivers (W.state output.old) (W.state output.new) (page_of
-        applier.now.table applier.now.records)) }
-    ensures few { length applier.now.records ≤ applier.now.limit }
-    ensures err { IfErr result (IsWriteEnd (W.state output.old) (W.state output.new)) }
-{
-    let page = log_page(alloc, applier.records(), applier.outcomes())?;
-    print(output, &page)
-}
-
-// Prints the log page of a gateway that did not apply all.
-fn end_early<W: Sink>(alloc: Global, fault: CloseAllFault, output: &mut W) -> ServeFault
-    requires { IsStopCause fault.cause }
-    ensures { IsCloseEnd fault.cause fault.applier (W.state output.old) (W.state output.new)
-        result }
-{
-    let printed = print_log(alloc, &fault.applier, output);
-    let cause = fault.cause;
-    drop(fault);
-    match (printed, cause) {
-        (Err(fault), _) => fault,
-        (Ok(()), CloseAllCause::LogFull) => ServeFault::LogFull,
-        (Ok(()), CloseAllCause::OutOfMemory) => ServeFault::OutOfMemory,
-        (Ok(()), CloseAllCause::Missing(_) | CloseAllCause::NotClosing) => unreachable!(),
-    }
-}
-
-// The fault of a daemon that applied and printed all, by why its operator's worker ended.
-fn fault_after(cause: Cause) -> Option<ServeFault>
-    ensures { result ≡ fault_after cause }
+// The fault of a daemon that applied all, by why its operator's worker ended.
+fn operator_fault(cause: Cause) -> Option<ServeFault>
+    ensures { result ≡ operator_fault cause }
 {
     match cause {
         Cause::OutOfMemory => Some(ServeFault::OutOfMemory),
@@ -54,39 +23,25 @@ fn fault_after(cause: Cause) -> Option<ServeFault>
     }
 }
 
-// Prints the log page of a gateway that applied all.
-fn end_whole<W: Sink>(
-    alloc: Global,
-    applier: Applier,
-    operator: Cause,
-    output: &mut W,
-) -> Option<ServeFault>
-    ensures printed { result ≡ None → (fault_after operator ≡ None) × IsPageGiven applier
-        (W.state output.old) (W.state output.new) }
-    ensures err { IfSome result (IsWholeEnd operator applier (W.state output.old)
-        (W.state output.new)) }
+// The fault of a daemon that did not apply all.
+fn close_fault(cause: CloseAllCause) -> ServeFault
+    requires { IsSome (close_fault cause) }
+    ensures { close_fault cause ≡ Some result }
 {
-    let printed = print_log(alloc, &applier, output);
-    drop(applier);
-    match printed {
-        Ok(()) => fault_after(operator),
-        Err(fault) => Some(fault),
+    match cause {
+        CloseAllCause::LogFull => ServeFault::LogFull,
+        CloseAllCause::OutOfMemory => ServeFault::OutOfMemory,
+        CloseAllCause::Missing(_) | CloseAllCause::NotClosing => unreachable!(),
     }
 }
 
-/// Prints the log page of a gateway that has ended, if it has one.
-pub(crate) fn end<W: Sink>(
-    alloc: Global,
-    ran: Result<Finished, GatewayFault>,
-    output: &mut W,
-) -> Served
-    requires { IfErr ran HasStopped }
-    ensures finished { result.fault ≡ None → IsOk ran }
-    ensures reports { reports_of_each result.reports.items ≡ reports_after ran }
-    ensures printed { IfOk ran (λ finished. result.fault ≡ None
-        → (fault_after finished.operator ≡ None) × IsPageGiven finished.closed.applier
-        (W.state output.old) (W.state output.new)) }
-    ensures err { IfSome result.fault (IsRunEnd ran (W.state output.old) (W.state output.new)) }
+// What a gateway that has ended leaves: its applier, if it has one, and how the daemon ends once the
+// log page of that is printed.
+fn left_by(alloc: Global, ran: Result<Finished, GatewayFault>) -> (Option<Applier>, Served)
+    requires { IfErr ran (λ fault. IsSome (fault_after (Err fault))) }
+    ensures applier { result.0 ≡ applier_after ran }
+    ensures reports { reports_of_each result.1.reports.items ≡ reports_after ran }
+    ensures fault { result.1.fault ≡ fault_after ran }
 {
     match ran {
         Ok(
@@ -96,8 +51,8 @@ pub(crate) fn end<W: Sink>(
                 operator,
             },
         ) => {
-            let fault = end_whole(alloc, closed.applier, operator, output);
-            Served { reports, fault }
+            let fault = operator_fault(operator);
+            (Some(closed.applier), Served { reports, fault })
         }
         Err(
             GatewayFault::CloseAll {
@@ -107,14 +62,41 @@ pub(crate) fn end<W: Sink>(
             },
         ) => {
             drop(gate);
-            let fault = Some(end_early(alloc, fault, output));
-            Served { reports, fault }
+            let CloseAllFault { cause, applier, .. } = fault;
+            let fault = Some(close_fault(cause));
+            (Some(applier), Served { reports, fault })
         }
         // The queue and the applier take all limits that a configuration may have, so that only
         // memory can be their fault.
         Err(GatewayFault::Queue(_) | GatewayFault::Applier(_) | GatewayFault::OutOfMemory) => {
-            without_reports(alloc, ServeFault::OutOfMemory)
+            (None, without_reports(alloc, ServeFault::OutOfMemory))
         }
-        Err(GatewayFault::Spawn) => without_reports(alloc, ServeFault::Spawn),
+        Err(GatewayFault::Spawn) => (None, without_reports(alloc, ServeFault::Spawn)),
+    }
+}
+
+/// Prints the log page of a gateway that has ended, if it has one.
+pub(crate) fn end<W: Sink>(
+    alloc: Global,
+    ran: Result<Finished, GatewayFault>,
+    output: &mut W,
+) -> Served
+    requires { IfErr ran (λ fault. IsSome (fault_after (Err fault))) }
+    ensures reports { reports_of_each result.reports.items ≡ reports_after ran }
+    ensures ended { EndsWith ran (W.state output.old) (W.state output.new) result.fault }
+{
+    let (applier, served) = left_by(alloc, ran);
+    let Some(applier) = applier else {
+        return served;
+    };
+    match print(
+        output,
+        log_page(alloc, applier.records(), applier.outcomes()),
+    ) {
+        Ok(()) => served,
+        Err(fault) => Served {
+            fault: Some(fault),
+            ..served
+        },
     }
 }

@@ -1,9 +1,11 @@
-ghost use Rattle.std.specs.Prelude.{◌≡◌};
+ghost use Rattle.std.specs.Prelude.{◌≡◌, IsErrAnd, MatchResult, Ok};
+ghost use Rattle.gate_serve.specs.inner.Reading.{IsFaultOf};
 
 use gate_model::Text;
 use gate_reader::{Fault, Sink, put_last, put_line};
 use std::alloc::AllocError;
 use std::io;
+use std::io::ErrorKind;
 use thiserror::Error;
 
 /// Why the daemon doesn't run, or how it ended before it had applied all.
@@ -39,6 +41,18 @@ impl From<AllocError> for ServeFault {
 
     fn from(_error: AllocError) -> ServeFault {
         ServeFault::OutOfMemory
+    }
+}
+
+/// What the system did, or the fault that its error is: out of memory, or else this one.
+pub(crate) fn or_fault<T>(done: io::Result<T>, other: ServeFault) -> Result<T, ServeFault>
+    ensures { MatchResult done (λ value. result ≡ Ok value)
+        (λ error. IsErrAnd result (IsFaultOf error other)) }
+{
+    match done {
+        Ok(value) => Ok(value),
+        Err(error) if error.kind() == ErrorKind::OutOfMemory => Err(ServeFault::OutOfMemory),
+        Err(_) => Err(other),
     }
 }
 

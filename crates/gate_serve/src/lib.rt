@@ -3,14 +3,14 @@
 //! status, and with one line on standard error where that isn't 0.
 #![tactic(auto)]
 
-mod announcing;
 mod configuring;
 mod ending;
 mod fault;
 mod listening;
+mod printing;
 mod served;
 mod serving;
 
 pub use fault::ServeFault;
 pub use served::Served;
-pub use serving::{run_serve, serve};
+pub use serving::serve;

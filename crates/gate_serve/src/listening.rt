@@ -1,7 +1,7 @@
 ghost use Rattle.std.specs.Prelude.{◌≡◌, IfErr, IfOk, IsTrue};
 ghost use Rattle.gate_serve.specs.BeforeServing.{AreBoundAs, IsAddressIn, IsBindEnd, IsBoundAs};
 
-use crate::fault::ServeFault;
+use crate::fault::{ServeFault, or_fault};
 use gate_config::{Address, Config};
 use gate_model::Text;
 use gate_ports::{AgentsPort, OperatorsPort, PagesPort, Ports};
@@ -58,19 +58,6 @@ fn bind_socket<
     })
 }
 
-// The fault of an address that can't be bound for this cause.
-fn bind_fault(alloc: Global, address: &Address, error: io::Error) -> ServeFault
-    ensures { IsBindEnd (λ text. text ≡ address.now.text) result }
-{
-    if error.kind() == ErrorKind::OutOfMemory {
-        return ServeFault::OutOfMemory;
-    }
-    match Text::copied(alloc, address.text.bytes()) {
-        Ok(text) => ServeFault::Bind(text),
-        Err(_) => ServeFault::OutOfMemory,
-    }
-}
-
 // The same at an address of the configuration.
 fn bind<
     R: Net<Listener = TcpListener, Stream = TcpStream>,
@@ -81,10 +68,8 @@ fn bind<
     ensures bound { IfOk result (λ bound. IsBoundAs address.now.socket bound.address) }
     ensures err { IfErr result (IsBindEnd (λ text. text ≡ address.now.text)) }
 {
-    match bind_socket(rt, address.socket, make) {
-        Ok(bound) => Ok(bound),
-        Err(error) => Err(bind_fault(alloc, address, error)),
-    }
+    let unbound = ServeFault::Bind(Text::copied(alloc, address.text.bytes())?);
+    or_fault(bind_socket(rt, address.socket, make), unbound)
 }
 
 // Whether the system grants so many descriptors: they are those of peers, once the daemon serves.

@@ -1,14 +1,14 @@
-ghost use Rattle.std.specs.Prelude.{◌≡◌, ℕ, List, IfErr, IfOk, vec_len};
+ghost use Rattle.std.specs.Prelude.{◌≡◌, [], IfErr, IfOk, Some, vec_len};
 ghost use Rattle.gate_daemon.specs.Answered.{reports_of_each};
 ghost use Rattle.gate_daemon.specs.Faults.{IsGatewayFault};
-ghost use Rattle.gate_serve.specs.BeforeServing.{AreBoundAs, Configures};
-ghost use Rattle.gate_serve.specs.Serve.{ServeEnds, IsServeRun, worker_limits};
-ghost use Rattle.gate_serve.specs.inner.Serving.{HasRun, RunsOn};
+ghost use Rattle.gate_serve.specs.Serve.{ServeEnds, worker_limits};
+ghost use Rattle.gate_serve.specs.inner.Serving.{HasRun, IsStarted};
 
-use crate::announcing::announce;
 use crate::configuring::configuration;
 use crate::ending::end;
+use crate::fault::ServeFault;
 use crate::listening::{Listening, listen};
+use crate::printing::{address_lines, print};
 use crate::served::{Served, without_reports};
 use gate_config::{Config, Limits};
 use gate_daemon::{Endpoint, Endpoints, Finished, GatewayFault, GatewaySettings, run_gateway};
@@ -16,7 +16,7 @@ use gate_model::ObjectTable;
 use gate_ports::{
     AgentConnections, AgentsPort, OperatorConnections, Ports, ReaderConnections, SystemWatch,
 };
-use gate_reader::{SessionLimits, Sink, end_with};
+use gate_reader::{SessionLimits, Sink};
 use gate_worker::{NoHold, WorkerLimits};
 use std::alloc::{AllocError, Global};
 use std::fs::Files;
@@ -99,32 +99,27 @@ fn run<R: Net<Listener = TcpListener, Stream = TcpStream> + Threads + Wait + Clo
     run_gateway(rt, alloc, settings, endpoints, &SystemWatch { rt }, &ports)
 }
 
-// Prints the addresses of these ports, runs a gateway on them and prints its log page.
-fn serve_on<
-    R: Net<Listener = TcpListener, Stream = TcpStream> + Threads + Wait + Clock + Sync,
-    W: Sink,
->(rt: &R, alloc: Global, config: Config, listening: Listening, output: &mut W) -> Served
-    requires bound { AreBoundAs config listening.agents listening.operators listening.pages }
-    ensures { RunsOn config (W.state output.old) (W.state output.new)
-        (reports_of_each result.reports.items) result.fault }
+// Reads the configuration, binds its addresses and prints them.
+fn start<R: Files + Net<Listener = TcpListener, Stream = TcpStream> + Clock, W: Sink>(
+    rt: &R,
+    alloc: Global,
+    path: &str,
+    output: &mut W,
+) -> Result<(Config, Ports), ServeFault>
+    ensures ok { IfOk result (λ started.
+        IsStarted started.0 (W.state output.old) (W.state output.new)) }
+    ensures err { IfErr result (λ fault.
+        ServeEnds (W.state output.old) (W.state output.new) [] (Some fault)) }
 {
+    let config = configuration(rt, alloc, path)?;
     let Listening {
         ports,
         agents,
         operators,
         pages,
-    } = listening;
-    match announce(alloc, agents, operators, pages, output) {
-        Ok(()) => {
-            let ran = run(rt, alloc, config, ports);
-            end(alloc, ran, output)
-        }
-        Err(fault) => {
-            drop(ports);
-            drop(config);
-            without_reports(alloc, fault)
-        }
-    }
+    } = listen(rt, alloc, &config)?;
+    print(output, address_lines(alloc, agents, operators, pages))?;
+    Ok((config, ports))
 }
 
 /// Runs the daemon as the file of this path configures it, until an operator shuts it down: it
@@ -148,37 +143,11 @@ pub fn serve<
     ensures { ServeEnds (W.state output.old) (W.state output.new)
         (reports_of_each result.reports.items) result.fault }
 {
-    let config = match configuration(rt, alloc, path) {
-        Ok(config) => config,
-        Err(fault) => return without_reports(alloc, fault),
-    };
-    match listen(rt, alloc, &config) {
-        Ok(listening) => serve_on(rt, alloc, config, listening, output),
-        Err(fault) => {
-            drop(config);
-            without_reports(alloc, fault)
+    match start(rt, alloc, path, output) {
+        Ok((config, ports)) => {
+            let ran = run(rt, alloc, config, ports);
+            end(alloc, ran, output)
         }
+        Err(fault) => without_reports(alloc, fault),
     }
-}
-
-/// Runs the daemon as `serve` does, reports what stops it in one line on `errors`, and returns the
-/// exit status.
-///
-/// The status is 0 where the daemon was shut down and all that was queued is applied and printed; 2
-/// where the file can't be read or configures nothing, and then nothing was printed; 4 where an
-/// address can't be bound, and then nothing was printed; 3 where the log is full with an item left,
-/// memory ran out, a thread can't be started or output failed. Where the log is full, the addresses
-/// and the log page of all its records were printed. That a line can't be written to `errors` changes
-/// nothing. Own rules.
-pub fn run_serve<
-    R: Files + Net<Listener = TcpListener, Stream = TcpStream> + Threads + Wait + Clock + Sync,
-    W: Sink,
-    E: Sink,
->(rt: &R, alloc: Global, path: &str, output: &mut W, errors: &mut E) -> u8
-    ensures { IsServeRun (W.state output.old) (W.state output.new) (E.state errors.old)
-        (E.state errors.new) result }
-{
-    let Served { reports, fault } = serve(rt, alloc, path, output);
-    drop(reports);
-    end_with(&fault, errors)
 }

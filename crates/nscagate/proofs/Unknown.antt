@@ -11,9 +11,8 @@ use Rattle.gate_words.specs.declared.words.WordsFault.TheVariants as words_fault
 use Rattle.gate_replay.specs.Replay.{IsReplayRun}
 use Rattle.gate_replay.specs.declared.fault.ReplayFault.TheVariants as replay_fault
 use Rattle.gate_serve.specs.declared.fault.ServeFault.TheVariants as fault
-use Rattle.gate_serve.specs.Serve.{IsServeRun}
 use Rattle.nscagate.specs.declared.fault.ProgramFault.{ProgramFault}
-use Rattle.nscagate.specs.Program.{program_fault, IsRefusal}
+use Rattle.nscagate.specs.Program.{program_fault, IsRefusal, IsServeRun}
 
 abbrev not_asked : WordsFault → Result Request WordsFault
 not_asked found = Err found

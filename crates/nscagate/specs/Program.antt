@@ -1,5 +1,5 @@
--- What the program reports where its words ask for nothing. Own rules.
-use Rattle.std.specs.Prelude.{◌≡◌, ◌≢◌, ◌⊎◌, ℕ, List, Some, codes}
+-- How the program ends where its words ask for the daemon, or for nothing. Own rules.
+use Rattle.std.specs.Prelude.{◌≡◌, ◌≢◌, ◌⊎◌, ℕ, List, Option, Some, codes}
 use Rattle.std.specs.IoError.{error_kind}
 use Rattle.std.specs.declared.io.Error.{Error}
 use Rattle.std.specs.declared.io.ErrorKind.TheVariants as kind
@@ -9,6 +9,10 @@ use Rattle.nscagate.specs.declared.fault.ProgramFault.{ProgramFault}
 use Rattle.nscagate.specs.declared.fault.ProgramFault.TheVariants.{BadArguments, OutOfMemory}
 use Rattle.gate_reader.specs.Fault.{status_at_end, IsFaultReported}
 use Rattle.gate_reader.specs.Sink.{SinkState}
+use Rattle.gate_reader.specs.declared.report.Report.{Report}
+use Rattle.gate_serve.specs.declared.fault.ServeFault.{ServeFault}
+use Rattle.gate_serve.specs.Fault.{status_of, message_of}
+use Rattle.gate_serve.specs.Serve.{ServeEnds}
 
 -- an error on the words is out of memory, or they are bad arguments
 pub record IsWordsFault (error : Error) (fault : ProgramFault) : Type 0 where
@@ -39,3 +43,12 @@ pub record IsRefusal (cause : ProgramFault) (errors errors_after : SinkState) (s
 abbrev pub IsRefused : SinkState → SinkState → ℕ → Type 0
 IsRefused errors errors_after status =
     IsRefusal BadArguments errors errors_after status ⊎ IsRefusal OutOfMemory errors errors_after status
+
+-- the daemon, with what is known of the output and of the errors before and after it, ends with this status, and its
+-- clients have some reports
+pub record IsServeRun (output output_after errors errors_after : SinkState) (status : ℕ) : Type 0 where
+  pub reports : List (ℕ × List Report)
+  pub fault : Option ServeFault
+  pub status_is : status ≡ status_at_end status_of fault
+  pub ended : ServeEnds output output_after reports fault
+  pub reported : IsFaultReported message_of fault errors errors_after

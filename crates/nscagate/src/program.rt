@@ -2,13 +2,12 @@ ghost use Rattle.std.specs.Prelude.{◌≡◌, ◌≢◌, ℕ, List, Some, None,
 ghost use Rattle.gate_solo.specs.Allowed.{IsAllowed};
 ghost use Rattle.gate_words.specs.Words.{asked_of, replay, serve};
 ghost use Rattle.gate_replay.specs.Replay.{IsReplayRun};
-ghost use Rattle.nscagate.specs.Program.{IsRefused};
-ghost use Rattle.gate_serve.specs.Serve.{IsServeRun};
+ghost use Rattle.nscagate.specs.Program.{IsRefused, IsServeRun};
 
 use crate::fault::ProgramFault;
 use gate_reader::{Sink, end_with};
 use gate_replay::run_replay;
-use gate_serve::run_serve;
+use gate_serve::serve;
 use gate_words::{Request, read_words};
 use std::alloc::Global;
 use std::fs::Files;
@@ -21,10 +20,11 @@ use std::time::Clock;
 /// Runs the program with the words after its name, and returns the exit status.
 ///
 /// `replay` replays the script on `input`, as `run_replay` does. `serve --config PATH`, in any
-/// spelling that `clap` reads, runs the daemon, as `run_serve` does. Any other words, or none, are
-/// refused with status 2 and the line `nscagate: bad arguments` on `errors`: nothing is read and
-/// nothing printed. Memory may run out before the words are known: the status is 3 and the line
-/// `nscagate: OutOfMemory`. That a line can't be written to `errors` changes nothing. Own rules.
+/// spelling that `clap` reads, runs the daemon, as `serve` does; the line on `errors` reports its
+/// fault. Any other words, or none, are refused with status 2 and the line `nscagate: bad arguments`
+/// on `errors`: nothing is read and nothing printed. Memory may run out before the words are known:
+/// the status is 3 and the line `nscagate: OutOfMemory`. That a line can't be written to `errors`
+/// changes nothing. Own rules.
 pub fn run_program<
     T: Files + Net<Listener = TcpListener, Stream = TcpStream> + Threads + Wait + Clock + Sync,
     R: Read,
@@ -45,7 +45,7 @@ pub fn run_program<
 {
     match read_words(alloc, words) {
         Ok(Request::Replay) => run_replay(rt, alloc, input, output, errors),
-        Ok(Request::Serve(path)) => run_serve(rt, alloc, path, output, errors),
+        Ok(Request::Serve(path)) => end_with(&serve(rt, alloc, path, output).fault, errors),
         Err(fault) => end_with(&Some(ProgramFault::from(fault)), errors),
     }
 }

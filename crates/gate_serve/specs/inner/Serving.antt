@@ -1,6 +1,6 @@
--- Only proofs and private functions use this: how the steps of a daemon fail.
-use Rattle.std.specs.Prelude.{◌≡◌, ◌⊎◌, ◌≤◌, ℕ, List, [], length, replicate, Option, Some, None, Result, Ok, Err, ⊤}
-use Rattle.gate_reader.specs.Sink.{SinkState, Delivers, FailsOnce}
+-- Only proofs and private functions use this: how a daemon starts, and what its gateway leaves.
+use Rattle.std.specs.Prelude.{◌≡◌, ◌⊎◌, ◌≤◌, ℕ, List, [], length, replicate, Option, Some, None, IsSomeAnd, MatchOption, Result, Ok, Err, ⊤}
+use Rattle.gate_reader.specs.Sink.{SinkState, Delivers}
 use Rattle.gate_applier.specs.Applier.{ApplierView}
 use Rattle.gate_close.specs.declared.drained_close.CloseAllCause.{CloseAllCause}
 use Rattle.gate_close.specs.declared.drained_close.CloseAllCause.TheVariants as cause
@@ -15,26 +15,15 @@ use Rattle.gate_daemon.specs.declared.gateway.GatewayFault.{GatewayFault}
 use Rattle.gate_daemon.specs.declared.gateway.GatewayFault.TheVariants as gateway_fault
 use Rattle.gate_config.specs.declared.config.Config.{Config}
 use Rattle.gate_serve.specs.declared.fault.ServeFault.{ServeFault}
-use Rattle.gate_serve.specs.declared.fault.ServeFault.TheVariants.{LogFull, OutOfMemory, Spawn, WriteFault}
-use Rattle.gate_serve.specs.BeforeServing.{IsWriteEnd}
-use Rattle.gate_serve.specs.Serve.{page_of, worker_limits, FollowsAddresses, IsRun, IsFull, IsStarved}
+use Rattle.gate_serve.specs.declared.fault.ServeFault.TheVariants.{LogFull, OutOfMemory, Spawn}
+use Rattle.gate_serve.specs.BeforeServing.{Configures, IsWriteEnd}
+use Rattle.gate_serve.specs.Serve.{page_of, worker_limits, FollowsAddresses}
 
--- why a gateway may not have applied all
-abbrev pub IsStopCause : CloseAllCause → Type 0
-IsStopCause cause.LogFull = Unit {0}
-IsStopCause cause.OutOfMemory = Unit {0}
-IsStopCause _ = ⊥
-
--- where a gateway did not apply all, it was for one of these causes
-abbrev pub HasStopped : GatewayFault → Type 0
-HasStopped (gateway_fault.CloseAll gate drain reports) = IsStopCause drain.cause
-HasStopped _ = Unit {0}
-
--- the reports of the clients of a gateway that has ended, as far as they are known
-abbrev pub reports_after : Result Finished GatewayFault → List (ℕ × List Report)
-reports_after (Ok finished) = reports_of_each finished.reports.items
-reports_after (Err (gateway_fault.CloseAll gate drain reports)) = reports_of_each reports.items
-reports_after (Err _) = []
+-- some text configures a daemon so, and its addresses were printed
+pub record IsStarted (config : Config) (before after : SinkState) : Type 0 where
+  pub text : List ℕ
+  pub configured : Configures text config
+  pub printed : FollowsAddresses config before after []
 
 -- a gateway of this configuration applied all that was queued
 pub record HasRun (config : Config) (finished : Finished) : Type 0 where
@@ -45,47 +34,49 @@ pub record HasRun (config : Config) (finished : Finished) : Type 0 where
   pub table : finished.closed.applier.table ≡ config.table
   pub limit : finished.closed.applier.limit ≡ config.limits.limit
 
+-- the fault of a daemon that applied all, by why its operator's worker ended
+abbrev pub operator_fault : Cause → Option ServeFault
+operator_fault worker.OutOfMemory = Some OutOfMemory
+operator_fault worker.Closing = None
+operator_fault worker.TooManySessions = None
+operator_fault worker.NoMoreConnections = None
+
+-- the fault of a daemon that did not apply all; a gateway has no other cause
+abbrev pub close_fault : CloseAllCause → Option ServeFault
+close_fault cause.LogFull = Some LogFull
+close_fault cause.OutOfMemory = Some OutOfMemory
+close_fault (cause.Missing client) = None
+close_fault cause.NotClosing = None
+
+-- the fault of a daemon whose gateway ended so, once its log page is printed
+abbrev pub fault_after : Result Finished GatewayFault → Option ServeFault
+fault_after (Ok finished) = operator_fault finished.operator
+fault_after (Err (gateway_fault.CloseAll gate drain reports)) = close_fault drain.cause
+fault_after (Err (gateway_fault.Queue why)) = Some OutOfMemory
+fault_after (Err (gateway_fault.Applier why)) = Some OutOfMemory
+fault_after (Err gateway_fault.OutOfMemory) = Some OutOfMemory
+fault_after (Err gateway_fault.Spawn) = Some Spawn
+
+-- the reports of the clients of a gateway that has ended, as far as they are known
+abbrev pub reports_after : Result Finished GatewayFault → List (ℕ × List Report)
+reports_after (Ok finished) = reports_of_each finished.reports.items
+reports_after (Err (gateway_fault.CloseAll gate drain reports)) = reports_of_each reports.items
+reports_after (Err _) = []
+
+-- its applier, if it has one
+abbrev pub applier_after : Result Finished GatewayFault → Option ApplierView
+applier_after (Ok finished) = Some finished.closed.applier
+applier_after (Err (gateway_fault.CloseAll gate drain reports)) = Some drain.applier
+applier_after (Err _) = None
+
 -- the log page of this applier was printed
-pub record IsPageGiven (applier : ApplierView) (before after : SinkState) : Type 0 where
+pub record IsPageGiven (before after : SinkState) (applier : ApplierView) : Type 0 where
   pub few : length applier.records ≤ applier.limit
   pub printed : Delivers before after (page_of applier.table applier.records)
 
--- the fault of a daemon that applied and printed all, by why its operator's worker ended
-abbrev pub fault_after : Cause → Option ServeFault
-fault_after worker.OutOfMemory = Some OutOfMemory
-fault_after worker.Closing = None
-fault_after worker.TooManySessions = None
-fault_after worker.NoMoreConnections = None
-
--- a gateway that applied all, whose operator's worker ended for this cause, ended with a fault: its log page can't be
--- written, or was given, and the operator's worker had no memory
-abbrev pub IsWholeEnd : Cause → ApplierView → SinkState → SinkState → ServeFault → Type 0
-IsWholeEnd operator applier before after found =
-    IsWriteEnd before after found
-    ⊎ ((fault_after operator ≡ Some found) × IsPageGiven applier before after)
-
--- a close that failed for this cause ended with a fault, after the log page of its applier
-abbrev pub IsCloseEnd : CloseAllCause → ApplierView → SinkState → SinkState → ServeFault → Type 0
-IsCloseEnd why applier before after LogFull = (why ≡ cause.LogFull) × IsPageGiven applier before after
-IsCloseEnd why applier before after OutOfMemory =
-    (after ≡ before) ⊎ FailsOnce before after ⊎ ((why ≡ cause.OutOfMemory) × IsPageGiven applier before after)
-IsCloseEnd why applier before after WriteFault = FailsOnce before after
-IsCloseEnd why applier before after _ = ⊥
-
--- a gateway, which had ended so, ended with a fault; where it has no log, nothing was printed
-abbrev pub IsRunEnd : Result Finished GatewayFault → SinkState → SinkState → ServeFault → Type 0
-IsRunEnd (Ok finished) before after found = IsWholeEnd finished.operator finished.closed.applier before after found
-IsRunEnd (Err (gateway_fault.CloseAll gate drain reports)) before after found =
-    IsCloseEnd drain.cause drain.applier before after found
-IsRunEnd (Err gateway_fault.Spawn) before after found = (found ≡ Spawn) × (after ≡ before)
-IsRunEnd (Err _) before after found = (found ≡ OutOfMemory) × (after ≡ before)
-
--- a daemon of this configuration, whose clients have these reports, ended without a fault or with this one
-abbrev pub RunsOn : Config → SinkState → SinkState → List (ℕ × List Report) → Option ServeFault → Type 0
-RunsOn config before after reports None = IsRun config reports before after
-RunsOn config before after reports (Some LogFull) = IsFull config reports before after
-RunsOn config before after reports (Some OutOfMemory) =
-    (after ≡ before) ⊎ FailsOnce before after ⊎ IsStarved config reports before after
-RunsOn config before after reports (Some Spawn) = FollowsAddresses config before after []
-RunsOn config before after reports (Some WriteFault) = FailsOnce before after
-RunsOn config before after reports (Some _) = ⊥
+-- a daemon whose gateway ended so ends without a fault or with this one: the log page was printed, if there is a log,
+-- or can't be written
+abbrev pub EndsWith : Result Finished GatewayFault → SinkState → SinkState → Option ServeFault → Type 0
+EndsWith ran before after found =
+    ((found ≡ fault_after ran) × MatchOption (applier_after ran) (after ≡ before) (IsPageGiven before after))
+    ⊎ IsSomeAnd found (IsWriteEnd before after)

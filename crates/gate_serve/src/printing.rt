@@ -1,21 +1,24 @@
-ghost use Rattle.std.specs.Prelude.{◌≡◌, ◌++◌, IfOk, IfErr, OnOk};
+ghost use Rattle.std.specs.Prelude.{◌≡◌, ◌++◌, IfOk, IfErr, IsOkAnd, OnOk};
 ghost use Rattle.gate_reader.specs.Sink.{Delivers};
 ghost use Rattle.gate_serve.specs.BeforeServing.{address_line, address_lines, IsWriteEnd};
 
 use crate::fault::ServeFault;
 use gate_reader::{Sink, put_last};
 use std::alloc::{AllocError, Global};
-use std::io::ErrorKind;
 use std::net::SocketAddr;
 
-/// Prints a text, and flushes. The fault is out of memory for what was written, or a failed output.
-pub(crate) fn print<W: Sink>(output: &mut W, text: &[u8]) -> Result<(), ServeFault>
-    ensures ok { OnOk result (Delivers (W.state output.old) (W.state output.new) text.now) }
+/// Prints a text, if there was memory for it, and flushes.
+pub(crate) fn print<W: Sink>(
+    output: &mut W,
+    text: Result<Vec<u8>, AllocError>,
+) -> Result<(), ServeFault>
+    ensures ok { OnOk result (IsOkAnd text (λ made.
+        Delivers (W.state output.old) (W.state output.new) made.items)) }
     ensures err { IfErr result (IsWriteEnd (W.state output.old) (W.state output.new)) }
 {
-    match put_last(output, text) {
+    let text = text?;
+    match put_last(output, &text) {
         Ok(()) => Ok(()),
-        Err(error) if error.kind() == ErrorKind::OutOfMemory => Err(ServeFault::OutOfMemory),
         Err(_) => Err(ServeFault::WriteFault),
     }
 }
@@ -35,7 +38,8 @@ fn push_line(
     out.extend_from_slice(b"\n")
 }
 
-fn address_lines(
+/// The three addresses, each on a line.
+pub(crate) fn address_lines(
     alloc: Global,
     agents: SocketAddr,
     operators: SocketAddr,
@@ -48,20 +52,4 @@ fn address_lines(
     push_line(alloc, &mut text, b"operators ", operators)?;
     push_line(alloc, &mut text, b"pages ", pages)?;
     Ok(text)
-}
-
-/// Prints the three addresses, each on a line, and flushes.
-pub(crate) fn announce<W: Sink>(
-    alloc: Global,
-    agents: SocketAddr,
-    operators: SocketAddr,
-    pages: SocketAddr,
-    output: &mut W,
-) -> Result<(), ServeFault>
-    ensures ok { OnOk result (Delivers (W.state output.old) (W.state output.new)
-        (address_lines agents operators pages)) }
-    ensures err { IfErr result (IsWriteEnd (W.state output.old) (W.state output.new)) }
-{
-    let text = address_lines(alloc, agents, operators, pages)?;
-    print(output, &text)
 }
