@@ -105,6 +105,21 @@ def test_accounting(watched):
     check("what systemd doesn't count", watched.watch(IPIngressBytes=2 ** 64 - 1, IPIngressPackets=2 ** 64 - 1), QUIET)
 
 
+def test_faulty(watched):
+    """A gateway goes on where the configuration got a fault: started again it would end."""
+    path = os.path.join(watched.folder, "watched.toml")
+    with open(path, encoding="ascii") as file:
+        good = file.read()
+    with open(path, "w", encoding="ascii") as file:
+        file.write("worker = 2\n" + good)
+    printed, status, called = watched.watch(IPIngressBytes=4304 * 900, IPIngressPackets=0)
+    check("a full log and a faulty configuration", (status, called), (2, []))
+    check("its fault", "worker" in printed and printed.endswith(
+        "nscagate-watch: nscagate.service isn't restarted: its log has some 900 of 1000 records\n"), True)
+    with open(path, "w", encoding="ascii") as file:
+        file.write(good)
+
+
 def test_gone(watched):
     watched.end()
     printed, status, called = watched.watch()
@@ -127,6 +142,7 @@ def main():
         watched.end()
         watched = Watched(program, helpers, os.path.join(folder, "accounting"), "limit = 1000\nsessions = 100\nworkers = 2")
         test_accounting(watched)
+        test_faulty(watched)
         test_gone(watched)
     end_tests()
 
