@@ -3,6 +3,7 @@ import concurrent.futures
 import html
 import html.parser
 import http.client
+import itertools
 import json
 import os
 import re
@@ -36,10 +37,18 @@ def at_once(*calls):
         return [call.result() for call in [pool.submit(call) for call in calls]]
 
 
+# Below those that the system chooses for connections and listeners, each given once.
+PORTS = itertools.count(20000 + os.getpid() % 10000)
+
+
 def free_port():
-    with socket.socket() as probe:
-        probe.bind(('127.0.0.1', 0))
-        return probe.getsockname()[1]
+    for port in PORTS:
+        with socket.socket() as probe:
+            try:
+                probe.bind(('127.0.0.1', port))
+            except OSError:
+                continue
+            return port
 
 
 class Gateway:
