@@ -202,6 +202,7 @@ def play_a_steady_sender(program, folder):
         took = time.monotonic() - began
     print(f"a steady sender: the next one waited {took:.2f} s", flush=True)
     check("a steady sender: the next one waits for a second", took < 3.0, True)
+    check("a steady sender: the next one's result is shown", "the next one" in daemon.page_with("the next one"), True)
     output = shut_down(daemon, "a steady sender", 3.0)[1]
     check("a steady sender: all is logged", output.split("\n", 1)[0], "log 4")
 
