@@ -7,8 +7,6 @@ mod applier;
 mod books;
 mod downtimes;
 mod judging;
-mod ready;
 
-pub use applier::{Applier, OpenCause, OpenFault, PrepareCause, PrepareFault};
+pub use applier::{Applier, OpenCause, OpenFault, PrepareCause, PrepareFault, Ready};
 pub use downtimes::{Downtimes, LiveDowntime};
-pub use ready::Ready;

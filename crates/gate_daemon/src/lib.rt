@@ -13,13 +13,12 @@ mod joined;
 mod opening;
 mod settings;
 mod shared;
-mod showing;
 mod starting;
 mod threads;
 mod workers;
 
 pub use applying::{ApplierStop, FullLog, run_applier};
+pub use boards::run_pages;
 pub use endpoints::{Endpoint, Endpoints};
 pub use gateway::{Finished, GatewayFault, run_gateway};
 pub use settings::GatewaySettings;
-pub use showing::run_pages;

@@ -4,10 +4,10 @@ ghost use Rattle.gate_daemon.specs.Answered.{reports_of_each};
 ghost use Rattle.gate_daemon.specs.inner.Collecting.{AllEnded};
 ghost use Rattle.gate_daemon.specs.inner.Joining.{AreJoined, IsStart};
 
+use crate::boards::{run_pages, show_close, wake_pages};
 use crate::closing::close_gate;
 use crate::joined::Joined;
 use crate::shared::{Closable, Shared};
-use crate::showing::{run_pages, show_close, wake_pages};
 use crate::starting::{Unstarted, start_applier};
 use crate::workers::{Workers, run_workers};
 use gate_applier::Applier;

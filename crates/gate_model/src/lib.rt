@@ -4,11 +4,8 @@
 
 mod comments;
 mod downtime;
-mod escaping;
-mod keys;
 mod limits;
 mod names;
-mod numbers;
 mod object;
 mod record;
 mod search;
@@ -21,15 +18,14 @@ mod submission;
 mod table;
 mod table_builder;
 mod text;
+mod writing;
 
 pub use comments::{Comment, CommentEvent, Source};
 pub use downtime::{DowntimeEvent, Entry, Plan, Scheduled};
-pub use escaping::push_escaped;
 pub use limits::{
     DOCUMENT_BYTES, GREATEST_AGE, LINE_LENGTH, MOST_CAPACITY, MOST_CLIENTS, MOST_ITEMS,
     MOST_RECORDS, MOST_SESSIONS, MOST_WORKERS,
 };
-pub use numbers::{push_code, push_number};
 pub use object::{Kind, ObjectId, ObjectLine};
 pub use record::{Moment, Outcome, Record};
 pub use search::{HasId, find_by_id};
@@ -40,3 +36,4 @@ pub use steps::Steps;
 pub use submission::{Body, Numbered};
 pub use table::{BuildFault, ObjectTable, TableFault, find_object};
 pub use text::Text;
+pub use writing::{push_code, push_escaped, push_number};

@@ -4,8 +4,8 @@ ghost use Rattle.std.specs.Prelude.{◌≡◌, ◌<◌, ◌≤◌, [], ◌∷◌
 ghost use Rattle.gate_model.specs.inner.Keys.{IsIndex};
 ghost use Rattle.gate_model.specs.inner.ServiceLists.{HasServices, row_at};
 
-use crate::keys::Keys;
 use crate::object::ObjectLine;
+use crate::table::Keys;
 use std::alloc::{AllocError, Global};
 use std::marker::Model;
 

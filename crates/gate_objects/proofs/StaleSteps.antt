@@ -5,7 +5,7 @@ use Rattle.std.proofs.lemmas.Option.{slice_get_within}
 use Rattle.gate_model.specs.declared.record.Moment.{Moment}
 use Rattle.gate_model.specs.declared.status.ObjectEvent.{ObjectEvent}
 use Rattle.gate_model.specs.Status.{last_result, heard_at, is_stale}
-use Rattle.gate_objects.specs.declared.object_status.ObjectStatus.{ObjectStatus}
+use Rattle.gate_objects.specs.declared.book.ObjectStatus.{ObjectStatus}
 use Rattle.gate_objects.specs.ObjectStatus.{is_stale_status}
 use Rattle.gate_objects.specs.Book.{last_of_status, stale_objects}
 use Rattle.gate_objects.specs.inner.Placing.{IsPlaced}

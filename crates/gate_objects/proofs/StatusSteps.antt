@@ -13,7 +13,7 @@ use Rattle.gate_model.specs.declared.record.Moment.{Moment}
 use Rattle.gate_model.specs.declared.object.Kind.{Kind}
 use Rattle.gate_model.specs.declared.state.State.{State}
 use Rattle.gate_model.specs.State.{state_of_code}
-use Rattle.gate_objects.specs.declared.object_status.ObjectStatus.{ObjectStatus}
+use Rattle.gate_objects.specs.declared.book.ObjectStatus.{ObjectStatus}
 use Rattle.gate_objects.specs.declared.book.Change.{Change}
 use Rattle.gate_objects.specs.ObjectStatus.{is_transition_of, is_clearing_of}
 use Rattle.gate_objects.specs.Book.{ObjectsView, with_status, with_status_at, shown_change, change_of_status}

@@ -2,7 +2,7 @@ ghost use Rattle.std.specs.Prelude.{◌≡◌};
 ghost use Rattle.std.specs.Iterator.{YieldsFirst, item_count};
 ghost use Rattle.gate_objects.specs.Book.{stale_objects};
 
-use crate::object_status::ObjectStatus;
+use crate::book::ObjectStatus;
 use gate_model::{Moment, ObjectId};
 use std::marker::Model;
 

@@ -1,7 +1,7 @@
 ghost use Rattle.std.specs.Prelude.{◌≡◌};
 ghost use Rattle.gate_packet.specs.Stream.{block_bytes};
 
-use crate::layout::{PACKET_SIZE, SHORT_PACKET_SIZE};
+use crate::packet::{PACKET_SIZE, SHORT_PACKET_SIZE};
 
 /// A block of a stream, which is to be read as one packet by `decode_block`. It is a copy, for those
 /// who cut a stream by a `Cutter`; a session reads a block where it stands, by `split_block`.

@@ -7,7 +7,7 @@ ghost use Rattle.gate_packet.specs.inner.BlockRefs.{integrity_fault};
 use crate::block::Block;
 use crate::check_word::extended;
 use crate::decoding::{PacketFault, u16_at, u32_at};
-use crate::layout::{
+use crate::packet::{
     CHECK_WORD_OFFSET, CHECK_WORD_SIZE, PACKET_SIZE, SHORT_PACKET_SIZE, VERSION, VERSION_OFFSET,
 };
 use std::marker::Model;

@@ -7,11 +7,10 @@ ghost use Rattle.gate_packet.specs.Stream.{block_bytes};
 
 use crate::block::Block;
 use crate::block_ref::BlockRef;
-use crate::layout::{
-    CODE_OFFSET, HOST_OFFSET, HOST_SIZE, OTHER_SIZE, OUTPUT_OFFSET, PACKET_SIZE, SERVICE_OFFSET,
-    SERVICE_SIZE, SHORT_PACKET_SIZE, TIMESTAMP_OFFSET,
+use crate::packet::{
+    CODE_OFFSET, HOST_OFFSET, HOST_SIZE, OTHER_SIZE, OUTPUT_OFFSET, PACKET_SIZE, Packet,
+    SERVICE_OFFSET, SERVICE_SIZE, SHORT_PACKET_SIZE, TIMESTAMP_OFFSET,
 };
-use crate::packet::Packet;
 use byteorder::{BigEndian, ByteOrder};
 use gate_model::{Moment, Text};
 use std::alloc::{AllocError, Global};

@@ -12,7 +12,6 @@ mod check_word_tables;
 mod decoding;
 mod encoding;
 mod laws;
-mod layout;
 mod packet;
 mod stream;
 
@@ -22,6 +21,5 @@ pub use check_word::crc32;
 pub use decoding::{PacketFault, decode, decode_block, decode_short, one_reading};
 pub use encoding::{encode, encode_short, fits_short};
 pub use laws::{round_trip, round_trip_short};
-pub use layout::{PACKET_SIZE, SHORT_PACKET_SIZE};
-pub use packet::{ContentFault, Field, Packet, RefusedPacket};
+pub use packet::{ContentFault, Field, PACKET_SIZE, Packet, RefusedPacket, SHORT_PACKET_SIZE};
 pub use stream::{Cutter, one_cut};

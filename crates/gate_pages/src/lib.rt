@@ -3,12 +3,8 @@
 #![tactic(auto)]
 
 mod board;
-mod fields;
-mod filling;
-mod log_lines;
+mod lines;
 mod rows;
-mod status_lines;
 
 pub use board::{Board, publish, status_page};
-pub use log_lines::{log_page, outcome_name};
-pub use status_lines::{plan_name, state_name};
+pub use lines::{log_page, outcome_name, plan_name, state_name};

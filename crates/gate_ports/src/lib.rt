@@ -6,7 +6,6 @@
 mod agents;
 mod connections;
 mod lines;
-mod owed;
 mod peer;
 mod peers;
 mod port;

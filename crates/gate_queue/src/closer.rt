@@ -3,7 +3,7 @@ ghost use Rattle.gate_queue.specs.Knowledge.{close_knowledge, LearnsFrom};
 ghost use Rattle.gate_queue.specs.Closer.{notice_of};
 
 use crate::gate::Gate;
-use crate::knowledge::Knowledge;
+use crate::rule::Knowledge;
 use gate_core::CloseFault;
 use gate_model::Moment;
 use std::alloc::Global;

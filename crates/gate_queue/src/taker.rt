@@ -1,15 +1,12 @@
-ghost use Rattle.std.specs.Prelude.{◌≡◌, ◌↔◌, IsTrue, IsSome, IfSome, IfNone, Some, ◌≤◌};
-ghost use Rattle.std.specs.Prelude.{length};
+ghost use Rattle.std.specs.Prelude.{◌≡◌, ◌↔◌, IsTrue, IsSome, IfSome, IfNone, Some, ◌≤◌, length};
 ghost use Rattle.gate_queue.specs.Knowledge.{StaysKnown};
-ghost use Rattle.gate_queue.specs.Taker.{taker_state, queued_of, TakesOne, HasAll, BeginsEach};
-ghost use Rattle.gate_queue.specs.Taker.{TakesIn, total_queued};
+ghost use Rattle.gate_queue.specs.Taker.{taker_state, queued_of, TakesOne, HasAll, BeginsEach, TakesIn, total_queued};
 ghost use Rattle.gate_queue.specs.inner.Passes.{total_counted};
 
 use crate::client::{Client, Ended};
 use crate::closer::Notice;
 use crate::gate::Gate;
-use crate::knowledge::Knowledge;
-use crate::rule::{Pop, TakeIn, View};
+use crate::rule::{Knowledge, Pop, TakeIn, View};
 use crossbeam_queue::Pass;
 use gate_model::{Moment, Numbered};
 use std::marker::Model;

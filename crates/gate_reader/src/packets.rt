@@ -7,10 +7,9 @@ ghost use Rattle.gate_reader.specs.inner.Progress.{AnswersOneBlock, IsLastBlock,
 
 use crate::clock::Clock;
 use crate::read_buffer::ReadBuffer;
-use crate::report::{Answer, Answers, Report, SessionLimits, Stop};
+use crate::report::{Answer, Answers, Report, SessionLimits, Stop, is_open, submit_body};
 use crate::sink::{Sink, put_last};
 use crate::source::Source;
-use crate::submitting::{is_open, submit_body};
 use gate_core::Submit;
 use gate_model::Moment;
 use gate_packet::{BlockRef, PacketFault, split_block};

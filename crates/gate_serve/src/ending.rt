@@ -1,6 +1,6 @@
-ghost use Rattle.std.specs.Prelude.{◌≡◌, IfErr, IsSome, Err, Some};
+ghost use Rattle.std.specs.Prelude.{◌≡◌, IsSome, Some};
 ghost use Rattle.gate_daemon.specs.Answered.{reports_of_each};
-ghost use Rattle.gate_serve.specs.inner.Serving.{EndsWith, applier_after, close_fault, fault_after, operator_fault, reports_after};
+ghost use Rattle.gate_serve.specs.inner.Serving.{EndsWith, IsNamed, applier_after, close_fault, fault_after, operator_fault, reports_after};
 
 use crate::fault::ServeFault;
 use crate::printing::print;
@@ -38,7 +38,7 @@ fn close_fault(cause: CloseAllCause) -> ServeFault
 // What a gateway that has ended leaves: its applier, if it has one, and how the daemon ends once the
 // log page of that is printed.
 fn left_by(alloc: Global, ran: Result<Finished, GatewayFault>) -> (Option<Applier>, Served)
-    requires { IfErr ran (λ fault. IsSome (fault_after (Err fault))) }
+    requires { IsNamed ran }
     ensures applier { result.0 ≡ applier_after ran }
     ensures reports { reports_of_each result.1.reports.items ≡ reports_after ran }
     ensures fault { result.1.fault ≡ fault_after ran }
@@ -81,7 +81,7 @@ pub(crate) fn end<W: Sink>(
     ran: Result<Finished, GatewayFault>,
     output: &mut W,
 ) -> Served
-    requires { IfErr ran (λ fault. IsSome (fault_after (Err fault))) }
+    requires { IsNamed ran }
     ensures reports { reports_of_each result.reports.items ≡ reports_after ran }
     ensures ended { EndsWith ran (W.state output.old) (W.state output.new) result.fault }
 {

@@ -1,5 +1,5 @@
 -- Only proofs and private functions use this: how a daemon starts, and what its gateway leaves.
-use Rattle.std.specs.Prelude.{◌≡◌, ◌⊎◌, ◌≤◌, ℕ, List, [], length, replicate, Option, Some, None, IsSomeAnd, MatchOption, Result, Ok, Err, ⊤}
+use Rattle.std.specs.Prelude.{◌≡◌, ◌⊎◌, ◌≤◌, ℕ, List, [], length, replicate, Option, Some, None, IsSome, IsSomeAnd, MatchOption, IfErr, Result, Ok, Err, ⊤}
 use Rattle.gate_reader.specs.Sink.{SinkState, Delivers}
 use Rattle.gate_applier.specs.Applier.{ApplierView}
 use Rattle.gate_close.specs.declared.drained_close.CloseAllCause.{CloseAllCause}
@@ -56,6 +56,10 @@ fault_after (Err (gateway_fault.Queue why)) = Some OutOfMemory
 fault_after (Err (gateway_fault.Applier why)) = Some OutOfMemory
 fault_after (Err gateway_fault.OutOfMemory) = Some OutOfMemory
 fault_after (Err gateway_fault.Spawn) = Some Spawn
+
+-- where a gateway ended with a fault, that is a daemon's too
+abbrev pub IsNamed : Result Finished GatewayFault → Type 0
+IsNamed ran = IfErr ran (λ fault. IsSome (fault_after (Err fault)))
 
 -- the reports of the clients of a gateway that has ended, as far as they are known
 abbrev pub reports_after : Result Finished GatewayFault → List (ℕ × List Report)
