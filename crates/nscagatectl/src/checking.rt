@@ -1,6 +1,7 @@
 //! Whether gateways serve: their ports are asked, each with a time of its own.
 
 use crate::fault::ControlFault;
+use crate::keeping::keep_page;
 use crate::places::{configuration, read_address, wait_in};
 use crate::running::{now, print};
 use gate_grammar::read_number;
@@ -32,6 +33,7 @@ pub struct Wanted {
     pub gateways: Texts,
     pub agents: Option<Text>,
     pub age: Option<Text>,
+    pub keep: Option<Text>,
 }
 
 /// What is asked: addresses as they are written, those of pages each with a name or without.
@@ -44,6 +46,8 @@ pub struct Ports {
     pub seconds: u32,
     /// The seconds that a page may be old.
     pub age: u32,
+    /// The file that the page of the one gateway is kept in.
+    pub keep: Option<Text>,
 }
 
 fn age_in(age: &Option<Text>) -> Result<u32, ControlFault> {
@@ -80,9 +84,13 @@ pub fn ports_of<F: Files>(
         gateways,
         agents,
         age,
+        keep,
     } = wanted;
     let seconds = wait_in(&options)?;
     let age = age_in(&age)?;
+    if keep.is_some() && gateways.as_slice().len() > 1 {
+        return Err(ControlFault::BadWords);
+    }
     if !gateways.as_slice().is_empty() {
         return Ok(Ports {
             agents,
@@ -90,6 +98,7 @@ pub fn ports_of<F: Files>(
             pages: gateways,
             seconds,
             age,
+            keep,
         });
     }
     let config = configuration(files, alloc, &options)?;
@@ -100,6 +109,7 @@ pub fn ports_of<F: Files>(
         pages: only(alloc, pages)?,
         seconds,
         age,
+        keep,
     })
 }
 
@@ -188,12 +198,29 @@ fn shown<'a>(
     }
 }
 
+// Keeps a page, where it is to be kept; what is found where it can't be.
+fn keep_shown<'a, F: Files>(
+    files: &F,
+    alloc: Global,
+    keep: &'a Option<Text>,
+    text: &[u8],
+) -> Option<Finding<'a>> {
+    let Some(file) = keep else {
+        return None;
+    };
+    match str::from_utf8(file.bytes()) {
+        Ok(path) if keep_page(files, alloc, path, text).is_ok() => None,
+        _ => Some(Finding::Unkept(file.bytes())),
+    }
+}
+
 // What is found at the pages port of a word.
-fn ask_pages<'a, R: Net<Listener = TcpListener, Stream = TcpStream> + Clock>(
+fn ask_pages<'a, R: Net<Listener = TcpListener, Stream = TcpStream> + Clock + Files>(
     rt: &R,
     alloc: Global,
     word: &'a [u8],
-    ports: &Ports,
+    ports: &'a Ports,
+    findings: &mut Vec<Finding<'a>>,
 ) -> Result<Finding<'a>, ControlFault> {
     let (name, text) = divided(word);
     let Some(address) = read_address(text) else {
@@ -212,7 +239,12 @@ fn ask_pages<'a, R: Net<Listener = TcpListener, Stream = TcpStream> + Clock>(
         return Ok(Finding::NoPage(name, text));
     }
     match read_status_page(alloc, page.as_slice()) {
-        Ok(page) => Ok(shown(alloc, name, page, now(rt)?, ports.age)?),
+        Ok(shows) => {
+            if let Some(unkept) = keep_shown(rt, alloc, &ports.keep, page.as_slice()) {
+                findings.push(unkept)?;
+            }
+            Ok(shown(alloc, name, shows, now(rt)?, ports.age)?)
+        }
         Err(ReadFault::OutOfMemory) => Err(ControlFault::OutOfMemory),
         Err(_) => Ok(Finding::OtherPage(name, text)),
     }
@@ -234,7 +266,7 @@ fn add_port<'a, R: Net<Listener = TcpListener, Stream = TcpStream> + Clock>(
 }
 
 /// Asks the ports, prints the line of what is found, and returns the exit status of a plugin.
-pub fn check<R: Net<Listener = TcpListener, Stream = TcpStream> + Clock, W: Sink>(
+pub fn check<R: Net<Listener = TcpListener, Stream = TcpStream> + Clock + Files, W: Sink>(
     rt: &R,
     alloc: Global,
     ports: &Ports,
@@ -256,7 +288,8 @@ pub fn check<R: Net<Listener = TcpListener, Stream = TcpStream> + Clock, W: Sink
         ports.seconds,
     )?;
     for word in ports.pages.as_slice() {
-        findings.push(ask_pages(rt, alloc, word.bytes(), ports)?)?;
+        let found = ask_pages(rt, alloc, word.bytes(), ports, &mut findings)?;
+        findings.push(found)?;
     }
     let mut line = Vec::new(alloc);
     push_line(alloc, &mut line, findings.as_slice())?;

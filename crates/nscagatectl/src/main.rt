@@ -6,11 +6,19 @@
 mod checking;
 mod fault;
 mod following;
+mod holding;
+mod keeping;
+mod missing;
 mod pages;
 mod places;
+mod preparing;
+mod restore_fault;
+mod restore_word;
+mod restoring;
 mod running;
 mod sending;
 mod showing;
+mod stop_word;
 mod testing;
 
 use fault::{ControlFault, words_fault};

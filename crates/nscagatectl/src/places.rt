@@ -73,7 +73,23 @@ fn configured(alloc: Global, text: &[u8]) -> Result<Config, ControlFault> {
     }
 }
 
-fn path_of(options: &Options) -> Result<&str, ControlFault> {
+/// The path that a word is.
+pub fn path_in(text: &Text) -> Result<&str, ControlFault> {
+    match str::from_utf8(text.bytes()) {
+        Ok(path) => Ok(path),
+        Err(_) => Err(ControlFault::BadWords),
+    }
+}
+
+/// The path that an option is.
+pub fn path_of(option: &Option<Text>) -> Result<Option<&str>, ControlFault> {
+    match option {
+        Some(text) => Ok(Some(path_in(text)?)),
+        None => Ok(None),
+    }
+}
+
+fn config_path(options: &Options) -> Result<&str, ControlFault> {
     let Some(path) = &options.config else {
         return Ok(CONFIG);
     };
@@ -83,8 +99,8 @@ fn path_of(options: &Options) -> Result<&str, ControlFault> {
     }
 }
 
-// The address of an option, or else this one.
-fn address_or(option: &Option<Text>, default: SocketAddr) -> Result<SocketAddr, ControlFault> {
+/// The address of an option, or else this one.
+pub fn address_or(option: &Option<Text>, default: SocketAddr) -> Result<SocketAddr, ControlFault> {
     match option {
         Some(text) => address_in(text),
         None => Ok(reachable(default)),
@@ -97,7 +113,7 @@ pub fn configuration<F: Files>(
     alloc: Global,
     options: &Options,
 ) -> Result<Config, ControlFault> {
-    let text = read_file(files, alloc, path_of(options)?)?;
+    let text = read_file(files, alloc, config_path(options)?)?;
     configured(alloc, text.as_slice())
 }
 

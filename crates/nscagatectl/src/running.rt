@@ -5,8 +5,10 @@ use crate::fault::{ControlFault, cause};
 use crate::following::{follow, interval_in};
 use crate::pages::LivePages;
 use crate::places::{Places, places_for};
+use crate::restore_word::restore;
 use crate::sending::send;
 use crate::showing::{query_in, show, show_chosen, show_json};
+use crate::stop_word::stop;
 use crate::testing::test_config;
 use clap::Error;
 use gate_grammar::Command;
@@ -26,7 +28,7 @@ use std::env;
 use std::fs::Files;
 use std::net::{Net, TcpListener, TcpStream};
 use std::rt::Env;
-use std::time::{Clock, Instant, SystemTime};
+use std::time::{Clock, SystemTime};
 
 // The name of the user where the environment has none.
 const NOBODY: &[u8] = b"operator";
@@ -89,14 +91,8 @@ fn carry_out<R: Net<Listener = TcpListener, Stream = TcpStream> + Clock>(
     if !is_watched(&command.body, reply) {
         return Ok(ending_of(&command.body, reply, None));
     }
-    let Ok(begun) = Instant::now(rt) else {
+    let Ok(mut pages) = LivePages::new(rt, places.pages, places.seconds) else {
         return Err(ControlFault::NoClock);
-    };
-    let mut pages = LivePages {
-        rt,
-        address: places.pages,
-        begun,
-        seconds: places.seconds,
     };
     let seen = watch(alloc, before, &command.body, &mut pages)?;
     Ok(ending_of(&command.body, reply, seen))
@@ -194,8 +190,8 @@ fn send_all<R: Net<Listener = TcpListener, Stream = TcpStream> + Clock, W: Sink,
     Ok(0)
 }
 
-// Commands that are entered at this moment.
-fn entered_at(
+/// Commands that are entered at this moment.
+pub fn entered_at(
     alloc: Global,
     entered: Moment,
     bodies: Vec<Body>,
@@ -349,6 +345,27 @@ fn run_check<R: Net<Listener = TcpListener, Stream = TcpStream> + Clock + Files,
     }
 }
 
+// Carries out a task on files, and returns the exit status.
+fn run_on_files<
+    R: Net<Listener = TcpListener, Stream = TcpStream> + Clock + Files,
+    W: Sink,
+    E: Sink,
+>(
+    rt: &R,
+    alloc: Global,
+    options: &Options,
+    task: &Task,
+    output: &mut W,
+    errors: &mut E,
+) -> Result<u8, ControlFault> {
+    match task {
+        Task::TestConfig { file } => test_config(rt, alloc, file, output),
+        Task::Stop { .. } => stop(rt, alloc, options, task, output, errors),
+        Task::Restore { .. } => restore(rt, alloc, options, task, output, errors),
+        _ => Err(ControlFault::BadWords),
+    }
+}
+
 // Carries out a task, and returns the exit status.
 fn run<
     R: Net<Listener = TcpListener, Stream = TcpStream> + Clock + Files + Env + AllocGlobal,
@@ -357,11 +374,11 @@ fn run<
 >(rt: &R, alloc: Global, asked: Asked, output: &mut W, errors: &mut E) -> Result<u8, ControlFault> {
     let Asked { options, task } = asked;
     match task {
-        Task::TestConfig { file } => test_config(rt, alloc, &file, output),
         Task::Check {
             gateways,
             agents,
             age,
+            keep,
         } => run_check(
             rt,
             alloc,
@@ -370,6 +387,7 @@ fn run<
                 gateways,
                 agents,
                 age,
+                keep,
             },
             output,
         ),
@@ -378,6 +396,7 @@ fn run<
         Task::Command(request) => {
             carry_out_request(rt, alloc, &options, request, output, errors)
         }
+        task => run_on_files(rt, alloc, &options, &task, output, errors),
     }
 }
 

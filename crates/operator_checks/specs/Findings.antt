@@ -60,6 +60,7 @@ finding_text (finding.OtherPage name address) = named name.now (codes "no status
 finding_text (finding.Silent port address) = port_name port ++ address.now ++ silence port
 finding_text (finding.Slow port address) = port_name port ++ address.now ++ codes " is slow"
 finding_text (finding.BadAddress address) = address.now ++ codes " is no IP address with a port"
+finding_text (finding.Unkept file) = codes "the page can't be kept in " ++ file.now
 
 -- how bad it is: 0 OK, 1 WARNING, 2 UNKNOWN, 3 CRITICAL
 abbrev pub weight : Finding → ℕ
@@ -72,6 +73,7 @@ weight (finding.OtherPage name address) = 2
 weight (finding.Silent port address) = 3
 weight (finding.Slow port address) = 1
 weight (finding.BadAddress address) = 2
+weight (finding.Unkept file) = 1
 
 -- the worst of all
 abbrev pub worst : List Finding → ℕ

@@ -62,6 +62,7 @@ pub fn push_figures_on(out: &mut Vec<u8>, finding: &Finding<'_>) -> Result<(), A
         | Finding::OtherPage(..)
         | Finding::Silent(..)
         | Finding::Slow(..)
-        | Finding::BadAddress(_) => Ok(()),
+        | Finding::BadAddress(_)
+        | Finding::Unkept(_) => Ok(()),
     }
 }

@@ -47,6 +47,8 @@ pub enum Finding<'a> {
     Slow(Port, &'a [u8]),
     /// UNKNOWN: it is no address.
     BadAddress(&'a [u8]),
+    /// WARNING: the page can't be kept in this file.
+    Unkept(&'a [u8]),
 }
 
 fn problems_in(objects: &[MergedObject<'_>]) -> usize
@@ -165,6 +167,7 @@ pub fn push_finding(out: &mut Vec<u8>, finding: &Finding<'_>) -> Result<(), Allo
         }
         Finding::Slow(port, address) => push_three(out, port_name(*port), address, b" is slow"),
         Finding::BadAddress(address) => push_two(out, address, b" is no IP address with a port"),
+        Finding::Unkept(file) => push_two(out, b"the page can't be kept in ", file),
     }
 }
 
@@ -174,7 +177,7 @@ pub fn weight(finding: &Finding<'_>) -> u8
 {
     match finding {
         Finding::Serves(..) => 0,
-        Finding::Closes(..) | Finding::SlowPage(..) | Finding::Slow(..) => 1,
+        Finding::Closes(..) | Finding::SlowPage(..) | Finding::Slow(..) | Finding::Unkept(_) => 1,
         Finding::OtherPage(..) | Finding::BadAddress(_) => 2,
         Finding::StandsStill(..) | Finding::NoPage(..) | Finding::Silent(..) => 3,
     }

@@ -95,15 +95,31 @@ pub enum Task {
     Watch {
         interval: Option<Text>,
     },
-    /// `check [[NAME=]ADDRESS].. [--agents ADDRESS] [--age SECONDS]`
+    /// `check [[NAME=]ADDRESS].. [--agents ADDRESS] [--age SECONDS] [--keep FILE]`
     Check {
         gateways: Texts,
         agents: Option<Text>,
         age: Option<Text>,
+        keep: Option<Text>,
     },
     /// `test-config FILE`
     TestConfig {
         file: Text,
+    },
+    /// `stop PAGE [--log FILE] [--pid PID]`
+    Stop {
+        page: Text,
+        log: Option<Text>,
+        pid: Option<Text>,
+    },
+    /// `restore PAGE [--log FILE] [--agents ADDRESS] [--old] [--dry-run] [--pid PID]`
+    Restore {
+        page: Text,
+        log: Option<Text>,
+        agents: Option<Text>,
+        old: bool,
+        dry_run: bool,
+        pid: Option<Text>,
     },
 }
 

@@ -1,15 +1,14 @@
 //! What two pages show of a command's effect, for its message.
 
 ghost use Rattle.std.specs.Prelude.{◌≡◌, map, IfOk};
-ghost use Rattle.gate_model.specs.Escaping.{escaped};
-ghost use Rattle.gate_model.specs.Table.{greatest};
 ghost use Rattle.gate_pages.specs.StatusPage.{service_text};
 ghost use Rattle.page_changes.specs.Shows.{last_comment, last_entry};
-ghost use Rattle.status_reading.specs.Rows.{CommentView, DowntimeView, object_view, comment_view, downtime_view, page_view};
+ghost use Rattle.status_reading.specs.Rows.{object_view, comment_view, downtime_view, page_view};
 ghost use Rattle.operator_effects.specs.Effects.{comment_id, effect_on, entry_id, fields, state_on};
 
 use crate::ending::Effect;
-use gate_model::{Body, State, Text, push_escaped};
+use gate_model::{Body, State, Text};
+use page_changes::{last_comment, last_entry, shown};
 use status_reading::{ShownComment, ShownDowntime, ShownObject, StatusPage};
 use std::alloc::{AllocError, Global};
 use std::marker::Model;
@@ -34,14 +33,6 @@ impl Model for Fields {
       author = fields.author.items;
       text = fields.text.items;
     } };
-}
-
-fn shown(alloc: Global, text: &Text) -> Result<Vec<u8>, AllocError>
-    ensures { IfOk result (λ field. field.items ≡ escaped text.now) }
-{
-    let mut field = Vec::new(alloc);
-    push_escaped(&mut field, text.bytes())?;
-    Ok(field)
 }
 
 fn service_field(alloc: Global, service: &Option<Text>) -> Result<Vec<u8>, AllocError>
@@ -113,27 +104,6 @@ fn entry_id(fields: &Fields, rows: &[ShownDowntime<'_>], last: u32) -> Option<u3
         }
     }
     None
-}
-
-fn last_comment(rows: &[ShownComment<'_>]) -> u32
-    ensures { result ≡ greatest (map (λ (row : CommentView). row.id) (map comment_view rows.now)) }
-{
-    let mut last = 0;
-    for row in rows {
-        last = row.id.max(last);
-    }
-    last
-}
-
-fn last_entry(rows: &[ShownDowntime<'_>]) -> u32
-    ensures { result
-        ≡ greatest (map (λ (row : DowntimeView). row.id) (map downtime_view rows.now)) }
-{
-    let mut last = 0;
-    for row in rows {
-        last = row.id.max(last);
-    }
-    last
 }
 
 // The state of the object on a page.

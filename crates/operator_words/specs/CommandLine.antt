@@ -117,10 +117,24 @@ watch = with_option (codes "interval") false (plain (codes "watch"))
 abbrev pub check : App
 check =
     with_words (codes "gateways") false
-    (with_option (codes "age") false (with_option (codes "agents") false (asking (codes "check"))))
+    (with_option (codes "keep") false
+    (with_option (codes "age") false (with_option (codes "agents") false (asking (codes "check")))))
 
 abbrev pub test_config : App
 test_config = with_word (codes "file") true (new_app (codes "test-config"))
+
+-- `NAME PAGE [--log FILE] [--pid PID]`
+abbrev pub on_page : List ℕ → App
+on_page name =
+    with_option (codes "pid") false (with_option (codes "log") false (with_word (codes "page") true (asking name)))
+
+abbrev pub stop : App
+stop = on_page (codes "stop")
+
+abbrev pub restore : App
+restore =
+    with_flag (codes "dry-run")
+    (with_flag (codes "old") (with_option (codes "agents") false (on_page (codes "restore"))))
 
 -- ---- the program
 
@@ -144,6 +158,10 @@ with_ids app = with_command cancel (with_command uncomment app)
 abbrev pub with_looks : App → App
 with_looks app = with_command check (with_command watch (with_command status app))
 
+-- the subcommands that keep what a gateway shows
+abbrev pub with_keeping : App → App
+with_keeping app = with_command restore (with_command stop app)
+
 -- the subcommands on a whole gateway
 abbrev pub with_gateway : App → App
 with_gateway app = with_command test_config (with_command shutdown app)
@@ -156,4 +174,4 @@ top =
 
 -- all of them
 abbrev pub program : App
-program = with_gateway (with_looks (with_ids (with_objects (with_remarks top))))
+program = with_keeping (with_gateway (with_looks (with_ids (with_objects (with_remarks top)))))

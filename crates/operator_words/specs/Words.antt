@@ -1,6 +1,6 @@
 -- What the words after the program's name ask for (`asked_of`): they are read by clap, whose definitions say what it makes
 -- of the command line `program`. Own rules.
-use Rattle.std.specs.Prelude.{ℕ, List, [], ◌∷◌, Option, Some, None, option_map, codes, if◌then◌else◌}
+use Rattle.std.specs.Prelude.{ℕ, List, [], ◌∷◌, Option, Some, None, option_map, unwrap_or, codes, if◌then◌else◌}
 use Rattle.std.specs.Str.{bytes_eq}
 use Rattle.clap.specs.Words.{Row, Text, Kinds, fault_of, subcommand_of}
 use Rattle.operator_commands.specs.declared.request.Asked.{Asked}
@@ -36,19 +36,34 @@ request_on name found =
     else if bytes_eq name (codes "shutdown") then Some request.Shutdown
     else remark_on name found
 
--- what a subcommand that is no command asks for
+-- what a subcommand that keeps what a gateway shows asks for
+abbrev pub keeping_on : List ℕ → List Row → Option Task
+keeping_on name found =
+    if bytes_eq name (codes "stop") then
+    Some (task.Stop (text_in (codes "page") found) (option_in (codes "log") found) (option_in (codes "pid") found))
+    else if bytes_eq name (codes "restore") then
+    Some
+    (task.Restore (text_in (codes "page") found) (option_in (codes "log") found) (option_in (codes "agents") found)
+    (is_set (codes "old") found) (is_set (codes "dry-run") found) (option_in (codes "pid") found))
+    else None
+
+-- what another subcommand that is no command asks for
 abbrev pub look_on : List ℕ → List Row → Task
 look_on name found =
     if bytes_eq name (codes "watch") then task.Watch (option_in (codes "interval") found)
     else if bytes_eq name (codes "check") then
     task.Check (texts_in (codes "gateways") found) (option_in (codes "agents") found) (option_in (codes "age") found)
+    (option_in (codes "keep") found)
     else if bytes_eq name (codes "test-config") then task.TestConfig (text_in (codes "file") found)
     else task.Status (option_in (codes "state") found) (option_in (codes "host") found)
 
 -- what a subcommand of this name asks for
 abbrev pub task_on : List ℕ → List Row → Task
 task_on name found =
-    elim (request_on name found) [ Some request ↦ task.Command request | None ↦ look_on name found ]
+    elim (request_on name found) [
+      | Some request ↦ task.Command request
+      | None ↦ unwrap_or (keeping_on name found) (look_on name found)
+    ]
 
 -- what a subcommand with its arguments asks for
 abbrev pub asked_on : Text × List Row → Asked

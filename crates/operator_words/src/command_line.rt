@@ -3,7 +3,7 @@
 ghost use Rattle.std.specs.Prelude.{◌≡◌, IfOk, false};
 ghost use Rattle.clap.specs.Words.{app_of, new_app, with_subcommand};
 ghost use Rattle.clap.specs.declared.builder.command.Command.TheViews.{out-Command as fields_of};
-ghost use Rattle.operator_words.specs.CommandLine.{IsArgument, IsCommand, word_of, words_of, option_of, comment, flag_of, with_remark, asking, plain, worded, with_object, on_object, ack, comment_command, uncomment, windowed, downtime, cancel, passive, result_command, shutdown, status, watch, check, test_config, with_remarks, with_objects, with_ids, with_looks, with_gateway, top, program};
+ghost use Rattle.operator_words.specs.CommandLine.{IsArgument, IsCommand, word_of, words_of, option_of, comment, flag_of, with_remark, asking, plain, worded, with_object, on_object, ack, comment_command, uncomment, windowed, downtime, cancel, passive, result_command, shutdown, status, watch, check, test_config, on_page, stop, restore, with_remarks, with_objects, with_ids, with_looks, with_gateway, with_keeping, top, program};
 
 use clap::{Arg, ArgAction, Command};
 use std::alloc::{AllocError, Global};
@@ -277,6 +277,7 @@ fn check<'a>(alloc: Global) -> Result<Command<'a>, AllocError>
     )?
     .arg(option(alloc, "agents", false, "The address of the agents' port"))?
     .arg(option(alloc, "age", false, "How old a page may be, in seconds"))?
+    .arg(option(alloc, "keep", false, "The file that the page is kept in"))?
     .arg(words(
         alloc,
         "gateways",
@@ -294,6 +295,39 @@ fn test_config<'a>(alloc: Global) -> Result<Command<'a>, AllocError>
         "Read a configuration as the daemon does",
     )
     .arg(word(alloc, "file", true, "The configuration"))
+}
+
+// A subcommand on a page that is kept.
+fn on_page<'a>(alloc: Global, name: &'a str, about: &'a str) -> Result<Command<'a>, AllocError>
+    ensures { IfOk result (IsCommand (on_page name.entry.now)) }
+{
+    asking(alloc, name, about)?
+        .arg(word(alloc, "page", true, "The file of the status page"))?
+        .arg(option(alloc, "log", false, "The file of the log page"))?
+        .arg(option(alloc, "pid", false, "The daemon's process"))
+}
+
+fn stop<'a>(alloc: Global) -> Result<Command<'a>, AllocError>
+    ensures { IfOk result (IsCommand stop) }
+{
+    on_page(
+        alloc,
+        "stop",
+        "Keep what the daemon shows, and shut it down",
+    )
+}
+
+fn restore<'a>(alloc: Global) -> Result<Command<'a>, AllocError>
+    ensures { IfOk result (IsCommand restore) }
+{
+    on_page(alloc, "restore", "Bring about what was kept")?
+        .arg(option(alloc, "agents", false, "The address of the agents' port"))?
+        .arg(flag(
+            alloc,
+            "old",
+            "Restore a page that is older than ten minutes",
+        ))?
+        .arg(flag(alloc, "dry-run", "Print the lines, and send none"))
 }
 
 // Adds a subcommand.
@@ -351,6 +385,14 @@ fn with_gateway<'a>(alloc: Global, command: Command<'a>) -> Result<Command<'a>, 
     with(one, test_config(alloc)?)
 }
 
+// The subcommands that keep what a gateway shows.
+fn with_keeping<'a>(alloc: Global, command: Command<'a>) -> Result<Command<'a>, AllocError>
+    ensures { IfOk result (λ more. app_of more ≡ with_keeping (app_of command.entry)) }
+{
+    let one = with(command, stop(alloc)?)?;
+    with(one, restore(alloc)?)
+}
+
 // The program without its subcommands.
 fn top<'a>(alloc: Global) -> Command<'a>
     ensures { app_of result ≡ top }
@@ -370,5 +412,6 @@ pub fn command_line<'a>(alloc: Global) -> Result<Command<'a>, AllocError>
     let objects = with_objects(alloc, remarks)?;
     let ids = with_ids(alloc, objects)?;
     let looks = with_looks(alloc, ids)?;
-    with_gateway(alloc, looks)
+    let gateway = with_gateway(alloc, looks)?;
+    with_keeping(alloc, gateway)
 }

@@ -2,7 +2,7 @@ ghost use Rattle.std.specs.Prelude.{◌≡◌, ◌≢◌, map, string_bytes, IfO
 ghost use Rattle.clap.specs.Words.{IsAmong, fault_of, found_of, kind_of, rows_of, subcommand_rows_of};
 ghost use Rattle.clap.specs.declared.error.Error.{Error as Refusal};
 ghost use Rattle.operator_words.specs.CommandLine.{program};
-ghost use Rattle.operator_words.specs.Words.{remark_on, request_on, look_on, task_on, asked_with, asked_of};
+ghost use Rattle.operator_words.specs.Words.{remark_on, request_on, keeping_on, look_on, task_on, asked_with, asked_of};
 
 use crate::command_line::command_line;
 use crate::found::{
@@ -97,6 +97,27 @@ fn request_on(
     }))
 }
 
+fn keeping_on(alloc: Global, name: &str, found: &ArgMatches<'_>) -> Result<Option<Task>, AllocError>
+    ensures { IfOk result (λ task. task ≡ keeping_on name.now (rows_of (found_of found.now))) }
+{
+    Ok(Some(match name {
+        "stop" => Task::Stop {
+            page: text_in(alloc, found, "page")?,
+            log: option_in(alloc, found, "log")?,
+            pid: option_in(alloc, found, "pid")?,
+        },
+        "restore" => Task::Restore {
+            page: text_in(alloc, found, "page")?,
+            log: option_in(alloc, found, "log")?,
+            agents: option_in(alloc, found, "agents")?,
+            old: is_set(found, "old"),
+            dry_run: is_set(found, "dry-run"),
+            pid: option_in(alloc, found, "pid")?,
+        },
+        _ => return Ok(None),
+    }))
+}
+
 fn look_on(alloc: Global, name: &str, found: &ArgMatches<'_>) -> Result<Task, AllocError>
     ensures { IfOk result (λ task. task ≡ look_on name.now (rows_of (found_of found.now))) }
 {
@@ -108,6 +129,7 @@ fn look_on(alloc: Global, name: &str, found: &ArgMatches<'_>) -> Result<Task, Al
             gateways: texts_in(alloc, found, "gateways")?,
             agents: option_in(alloc, found, "agents")?,
             age: option_in(alloc, found, "age")?,
+            keep: option_in(alloc, found, "keep")?,
         },
         "test-config" => Task::TestConfig {
             file: text_in(alloc, found, "file")?,
@@ -122,8 +144,11 @@ fn look_on(alloc: Global, name: &str, found: &ArgMatches<'_>) -> Result<Task, Al
 fn task_on(alloc: Global, name: &str, found: &ArgMatches<'_>) -> Result<Task, AllocError>
     ensures { IfOk result (λ task. task ≡ task_on name.now (rows_of (found_of found.now))) }
 {
-    match request_on(alloc, name, found)? {
-        Some(request) => Ok(Task::Command(request)),
+    if let Some(request) = request_on(alloc, name, found)? {
+        return Ok(Task::Command(request));
+    }
+    match keeping_on(alloc, name, found)? {
+        Some(task) => Ok(task),
         None => look_on(alloc, name, found),
     }
 }

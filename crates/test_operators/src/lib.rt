@@ -5,8 +5,12 @@
 #[cfg(test)]
 mod effects;
 #[cfg(test)]
+mod keeping;
+#[cfg(test)]
 mod lines;
 #[cfg(test)]
 mod reports;
+#[cfg(test)]
+mod restoring;
 #[cfg(test)]
 mod words;

@@ -1,0 +1,5 @@
+pub mod LastCut
+pub mod BodySteps
+pub mod LineSteps
+pub mod PageSteps
+pub mod GatewaySteps

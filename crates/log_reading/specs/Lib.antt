@@ -1,0 +1,4 @@
+pub mod Log
+pub mod Faults
+pub mod Gateway
+pub mod inner

@@ -1,0 +1,77 @@
+//! Files that outlive a gateway: they are read whole, and written whole or not at all.
+
+use std::alloc::Global;
+use std::fs::{File, Files, OpenFile, OpenOptions};
+use std::io::{Read, Write};
+use std::os::unix::fs::OpenOptionsExt;
+use std::{fs, io};
+
+// The bytes of the longest file that is read, 1 GiB.
+const LONGEST_FILE: u64 = 1 << 30;
+
+/// Reads a file.
+pub fn read_file<F: Files>(files: &F, alloc: Global, path: &str) -> io::Result<Vec<u8>> {
+    let file = File::open(files, path)?;
+    let mut text = Vec::new(alloc);
+    file.take(LONGEST_FILE).read_to_end(&mut text)?;
+    Ok(text)
+}
+
+// Writes a file that isn't there yet, and waits until the disk has it.
+fn write_new<F: Files>(files: &F, path: &str, text: &[u8]) -> io::Result<()> {
+    let mut options = OpenOptions::new();
+    options.write(true).create_new(true).mode(0o600);
+    let mut file = options.open(files, path)?;
+    file.write_all(text)?;
+    file.sync_all()
+}
+
+/// Puts a text into the place of a file, whole or not at all: it is written beside it, to `PATH.new`,
+/// for its owner alone, and no link is followed.
+pub fn keep<F: Files>(files: &F, alloc: Global, path: &str, text: &[u8]) -> io::Result<()> {
+    let new = format!(in alloc; "{path}.new")?;
+    // What an earlier run left half written.
+    let _missing = fs::remove_file(files, new.as_str());
+    match write_new(files, new.as_str(), text) {
+        Ok(()) => fs::rename(files, new.as_str(), path),
+        Err(error) => {
+            let _missing = fs::remove_file(files, new.as_str());
+            Err(error)
+        }
+    }
+}
+
+/// Keeps the text of a status page. The log page that a stop kept beside an earlier one is removed.
+pub fn keep_page<F: Files>(files: &F, alloc: Global, path: &str, text: &[u8]) -> io::Result<()> {
+    keep(files, alloc, path, text)?;
+    let log = format!(in alloc; "{path}.log")?;
+    let _missing = fs::remove_file(files, log.as_str());
+    Ok(())
+}
+
+/// Whether the first of two files was written later than the second. An error: one of them is missing.
+pub fn is_newer<F: Files>(files: &F, path: &str, other: &str) -> io::Result<bool> {
+    let written = fs::metadata(files, path)?.modified()?;
+    Ok(written > fs::metadata(files, other)?.modified()?)
+}
+
+// Whether the line of /proc/PID/stat is that of a process that has ended, and waits for its parent:
+// its state stands after the last parenthesis.
+fn is_ended(stat: &[u8]) -> bool {
+    let mut is_ended = false;
+    for (index, byte) in stat.iter().enumerate() {
+        if *byte == b')' {
+            is_ended = matches!(stat.get(index.saturating_add(2)), Some(b'Z' | b'X'));
+        }
+    }
+    is_ended
+}
+
+/// Whether a process of this number runs.
+pub fn runs<F: Files>(files: &F, alloc: Global, pid: &str) -> io::Result<bool> {
+    let path = format!(in alloc; "/proc/{pid}/stat")?;
+    if !fs::exists(files, path.as_str())? {
+        return Ok(false);
+    }
+    Ok(!is_ended(read_file(files, alloc, path.as_str())?.as_slice()))
+}

@@ -1,0 +1,4 @@
+pub mod Escapes
+pub mod Printed
+pub mod Pages
+pub mod Kept

@@ -1,0 +1,2 @@
+pub mod AmongSteps
+pub mod ReturnSteps

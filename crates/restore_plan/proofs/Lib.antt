@@ -1,0 +1,6 @@
+pub mod RecordSteps
+pub mod RowSteps
+pub mod TermSteps
+pub mod LogSteps
+pub mod PageSteps
+pub mod NumberSteps

@@ -1,0 +1,7 @@
+pub mod Fates
+pub mod Entries
+pub mod Plan
+pub mod Rehearsal
+pub mod PagePlan
+pub mod Changed
+pub mod Scheduling

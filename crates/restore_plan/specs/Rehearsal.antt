@@ -1,0 +1,41 @@
+-- What a gateway makes of commands of one client that it applies all at one moment: `records_from`, `first_refusal`, and
+-- which ids it gives to downtime entries: `AreNumbered`.
+use Rattle.std.specs.Prelude.{◌≡◌, ℕ, ◌+◌, not, List, [], ◌∷◌, length, take, Option}
+use Rattle.std.specs.List.{position_from, sum_by}
+use Rattle.gate_model.specs.declared.record.Moment.{Moment}
+use Rattle.gate_model.specs.declared.record.Record.{Record}
+use Rattle.gate_model.specs.declared.record.Outcome.{Outcome}
+use Rattle.gate_model.specs.declared.object.ObjectLine.{ObjectLine}
+use Rattle.gate_model.specs.declared.submission.Body.{Body}
+use Rattle.gate_model.specs.Record.{is_accepted}
+use Rattle.gate_model.specs.declared.submission.Body.TheVariants.{Schedule, ScheduleServices}
+use Rattle.gate_model.specs.Table.{services_of}
+use Rattle.gate_model.specs.Meaning.{outcomes_of, history_of, next_entry}
+
+-- the records of these commands, of which the first has this number
+abbrev pub records_from : Moment → ℕ → List Body → List Record
+records_from now number [] = []
+records_from now number (body ∷ bodies) =
+    record { moment = now; item = record { client = 1; number = number; body = body } }
+    ∷ records_from now (number + 1) bodies
+
+-- the index of the first outcome that is a refusal
+abbrev pub first_among : List Outcome → Option ℕ
+first_among outcomes = position_from (λ (outcome : Outcome). not (is_accepted outcome)) 0 outcomes
+
+-- the index of the first of these commands that a gateway over these objects refuses, if it refuses one
+abbrev pub first_refusal : List ObjectLine → Moment → List Body → Option ℕ
+first_refusal fresh now commands = first_among (outcomes_of fresh (records_from now 1 commands))
+
+-- how many downtime entries a command schedules, where it is accepted
+abbrev pub entry_count : List ObjectLine → Body → ℕ
+entry_count fresh (Schedule host service starts ends fixed trigger lasts author text) = 1
+entry_count fresh (ScheduleServices host starts ends fixed trigger lasts author text) = length (services_of fresh host)
+entry_count fresh _ = 0
+
+-- after the first of these commands, however many, the id of the next downtime entry is one more than the number of entries
+-- that they schedule
+abbrev pub AreNumbered : List ObjectLine → Moment → List Body → Type 0
+AreNumbered fresh now commands =
+    (count : ℕ) → next_entry fresh (history_of fresh (records_from now 1 (take count commands)))
+    ≡ 1 + sum_by (entry_count fresh) (take count commands)
