@@ -66,7 +66,7 @@ fn is_from(acknowledgement: bool, source: ShownSource) -> bool
 }
 
 /// The greatest id of the comments, and 0 where there are none.
-fn last_comment(rows: &[ShownComment<'_>]) -> u32
+pub fn last_comment(rows: &[ShownComment<'_>]) -> u32
     ensures { result ≡ greatest (map (λ (row : CommentView). row.id) (map comment_view rows.now)) }
 {
     let mut last = 0;
@@ -77,7 +77,7 @@ fn last_comment(rows: &[ShownComment<'_>]) -> u32
 }
 
 /// The greatest id of the downtime entries, and 0 where there are none.
-fn last_entry(rows: &[ShownDowntime<'_>]) -> u32
+pub fn last_entry(rows: &[ShownDowntime<'_>]) -> u32
     ensures { result
         ≡ greatest (map (λ (row : DowntimeView). row.id) (map downtime_view rows.now)) }
 {

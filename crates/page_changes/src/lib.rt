@@ -8,5 +8,6 @@ mod foreseen;
 mod names;
 
 pub use comparing::{Change, changes};
-pub use effects::shows;
+pub use effects::{last_comment, last_entry, shows};
 pub use foreseen::{foreseen_outcome, refusal_text};
+pub use names::shown;

@@ -26,7 +26,7 @@ impl Model for Names {
     ghost view = { λ names. record { host = names.host.items; service = names.service.items } };
 }
 
-/// A text as a page shows it.
+/// A text as a page shows it: escaped. The only error is out of memory.
 pub fn shown(alloc: Global, text: &Text) -> Result<Vec<u8>, AllocError>
     ensures { IfOk result (λ field. field.items ≡ escaped text.now) }
 {

@@ -16,7 +16,7 @@ pub enum FetchFault {
     /// The page did not end in time.
     #[error("the page didn't end in time")]
     TooSlow,
-    /// The page is longer than 64 MiB.
+    /// The page is longer than 64 MiB, or where so many may be read, than 1 GiB.
     #[error("the page is longer than 64 MiB")]
     TooLong,
     /// The connection broke.
@@ -31,17 +31,22 @@ pub enum FetchFault {
 const CONNECT_TIMEOUT: u64 = 1;
 // The seconds after the connection in which a page has to end.
 const PAGE_TIMEOUT: u64 = 4;
-// The bytes of the longest page, 64 MiB.
+// The bytes of the longest page, 64 MiB, and 1 GiB for a caller that has the time.
 const LONGEST_PAGE: u64 = 64 << 20;
+
+const LONGEST_OF_ALL: u64 = 1 << 30;
 
 /// The text of a gateway's page, or why there is none.
 pub type Fetched = Result<Vec<u8>, FetchFault>;
 
-// Reads to the end.
-fn read_page<R: Read + Drop>(reader: R, alloc: Global) -> Fetched {
+// Reads to the end, at most so many bytes.
+fn read_page<R: Read + Drop>(reader: R, alloc: Global, longest: u64) -> Fetched {
     let mut page = Vec::new(alloc);
-    match reader.take(LONGEST_PAGE + 1).read_to_end(&mut page) {
-        Ok(length) if length as u64 > LONGEST_PAGE => Err(FetchFault::TooLong),
+    match reader
+        .take(longest.saturating_add(1))
+        .read_to_end(&mut page)
+    {
+        Ok(length) if length as u64 > longest => Err(FetchFault::TooLong),
         Ok(_) => Ok(page),
         Err(error) => match error.kind() {
             ErrorKind::TimedOut | ErrorKind::WouldBlock => Err(FetchFault::TooSlow),
@@ -51,14 +56,14 @@ fn read_page<R: Read + Drop>(reader: R, alloc: Global) -> Fetched {
     }
 }
 
-/// Reads a gateway's page of at most 64 MiB: connects within so many seconds, and reads to its end
-/// within the others.
-pub fn fetch_within<R: Net<Listener = TcpListener, Stream = TcpStream> + Clock>(
+// Reads a gateway's page of at most so many bytes.
+fn fetch_at_most<R: Net<Listener = TcpListener, Stream = TcpStream> + Clock>(
     rt: &R,
     alloc: Global,
     address: SocketAddr,
     connects: u64,
     reads: u64,
+    longest: u64,
 ) -> Fetched {
     let within = Duration::from_secs(connects);
     let Ok(stream) = TcpStream::connect_timeout(rt, &address, within) else {
@@ -67,14 +72,33 @@ pub fn fetch_within<R: Net<Listener = TcpListener, Stream = TcpStream> + Clock>(
     let Ok(begun) = Instant::now(rt) else {
         return Err(FetchFault::Broken);
     };
-    read_page(Timed::new(rt, &stream, begun, reads), alloc)
+    read_page(Timed::new(rt, &stream, begun, reads), alloc, longest)
 }
 
-/// The same within a second, and four seconds more.
+/// Reads a gateway's page of at most 1 GiB: connects within so many seconds, and reads to its end
+/// within the others.
+pub fn fetch_within<R: Net<Listener = TcpListener, Stream = TcpStream> + Clock>(
+    rt: &R,
+    alloc: Global,
+    address: SocketAddr,
+    connects: u64,
+    reads: u64,
+) -> Fetched {
+    fetch_at_most(rt, alloc, address, connects, reads, LONGEST_OF_ALL)
+}
+
+/// Reads a gateway's page of at most 64 MiB, within a second and four seconds more.
 pub fn fetch<R: Net<Listener = TcpListener, Stream = TcpStream> + Clock>(
     rt: &R,
     alloc: Global,
     address: SocketAddr,
 ) -> Fetched {
-    fetch_within(rt, alloc, address, CONNECT_TIMEOUT, PAGE_TIMEOUT)
+    fetch_at_most(
+        rt,
+        alloc,
+        address,
+        CONNECT_TIMEOUT,
+        PAGE_TIMEOUT,
+        LONGEST_PAGE,
+    )
 }

@@ -30,6 +30,13 @@ pub struct StateChange {
     pub to: State,
 }
 
+/// A change, with the name of the gateway whose pages show it.
+#[derive(Clone, Copy)]
+pub struct GatewayChange<'a> {
+    pub gateway: &'a str,
+    pub change: &'a StateChange,
+}
+
 /// An object of the last page, and since when it has its state.
 #[derive(Drop)]
 struct Known {

@@ -6,5 +6,5 @@
 mod history;
 mod memory;
 
-pub use history::{History, StateChange};
+pub use history::{GatewayChange, History, StateChange};
 pub use memory::{Fetch, Kept, Memory, Page};

@@ -3,9 +3,11 @@
 use Rattle.std.specs.Prelude.{ℕ, List, [], Option, Some, None, Ok, Err, map, slice_get, string_bytes}
 use Rattle.std.specs.List.{flat_map}
 use Rattle.std.specs.Fmt.{decimal}
+use Rattle.std.specs.Str.Lossy.{utf8_lossy}
 use Rattle.form_urlencoded.specs.Form.{byte_serialize}
 use Rattle.html_text.specs.Escaping.{html_text}
 use Rattle.status_reading.specs.Plain.{plain_bytes}
+use Rattle.status_memory.specs.declared.history.GatewayChange.{GatewayChange}
 use Rattle.status_merge.specs.declared.gateway.Gateway.{Gateway}
 use Rattle.status_merge.specs.declared.gateway.Old.{Old}
 use Rattle.status_merge.specs.declared.gateway.MergedObject.{MergedObject}
@@ -18,6 +20,8 @@ use Rattle.status_view.specs.declared.layout.ObjectText.TheVariants as object
 use Rattle.status_view.specs.declared.layout.EntryList.TheVariants.{Comments, Downtimes}
 use Rattle.status_view.specs.declared.layout.EntryText.{EntryText}
 use Rattle.status_view.specs.declared.layout.EntryText.TheVariants as entry
+use Rattle.status_view.specs.declared.layout.ChangeText.{ChangeText}
+use Rattle.status_view.specs.declared.layout.ChangeText.TheVariants as change
 use Rattle.status_view.specs.declared.layout.Slot.{Slot}
 use Rattle.status_view.specs.declared.layout.Slot.TheVariants as slot
 use Rattle.status_view.specs.Layout.{Piece, Markup, Number, Text, NodeView}
@@ -61,6 +65,15 @@ abbrev pub downtime_text : EntryText → DowntimeLine → List ℕ
 downtime_text what line =
     entry_text what line.row.host.now line.row.service.now line.row.author.now line.row.text.now line.origins.items
 
+-- a text of a change; a feed has no bytes but UTF-8, so others are U+FFFD
+abbrev pub change_text : ChangeText → GatewayChange → List ℕ
+change_text change.Host shown = utf8_lossy (plain_bytes shown.change.now.host.items)
+change_text change.HostInLink shown = byte_serialize shown.change.now.host.items
+change_text change.Service shown = utf8_lossy (plain_bytes shown.change.now.service.items)
+change_text change.ServiceInLink shown = byte_serialize shown.change.now.service.items
+change_text change.Gateway shown = shown.gateway.now
+change_text change.GatewayInLink shown = byte_serialize shown.gateway.now
+
 -- the text that a slot is filled with
 abbrev pub slot_text : View → Slot → List ℕ
 slot_text view slot.Title = view.title.now
@@ -71,6 +84,7 @@ slot_text view (slot.Cause i) = text_at cause_text view.gateways.now i
 slot_text view (slot.Object i what) = text_at (object_text what) view.objects.now i
 slot_text view (slot.Entry Comments i what) = text_at (comment_text what) view.comments.now i
 slot_text view (slot.Entry Downtimes i what) = text_at (downtime_text what) view.downtimes.now i
+slot_text view (slot.Change i what) = text_at (change_text what) view.changes.now i
 
 -- a part with this text in place of its own
 abbrev pub with_text : {S T : Type 0} → (S → T) → Piece S → Piece T

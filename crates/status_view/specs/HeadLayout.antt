@@ -3,7 +3,7 @@ use Rattle.std.specs.Prelude.{ℕ, ◌-◌, Bool, nat_lt, List, [], ◌∷◌, �
 use Rattle.status_view.specs.declared.layout.Slot.TheVariants as slot
 use Rattle.status_view.specs.declared.shape.GatewayShape.{GatewayShape}
 use Rattle.status_view.specs.Layout.{NodeView, Markup, Number, Text, nodes_if, each_indexed}
-use Rattle.status_view.specs.Times.{span_nodes, moment_nodes}
+use Rattle.status_view.specs.Times.{span_nodes, time_nodes}
 
 -- ---- the document's head
 
@@ -23,17 +23,19 @@ document_nodes refresh unhandled =
     (Markup (codes "<!DOCTYPE html>\n<html lang=\"en\"><head><meta charset=\"utf-8\">") ∷ [])
     ++ (Markup (codes "<meta name=\"viewport\" content=\"width=device-width,initial-scale=1\">") ∷ [])
     ++ refresh_nodes refresh
-    ++ (Markup (codes "<link rel=\"stylesheet\" href=\"/style.css\"><title>") ∷ [])
+    ++ (Markup (codes "<link rel=\"stylesheet\" href=\"/style.css\">")
+    ∷ Markup (codes "<link rel=\"alternate\" type=\"application/atom+xml\" href=\"/changes.atom\"><title>")
+    ∷ [])
     ++ unhandled_nodes unhandled
-    ++ (Text slot.Title ∷ Markup (codes "</title></head>\n<body><main>\n") ∷ [])
+    ++ (Text slot.Title ∷ Markup (codes "</title></head>\n<body>") ∷ [])
 
 -- ---- the title, and the moment of each gateway's page
 
 -- a gateway, and the moment of its page
 unfoldable pub page_moment_nodes : ℕ → ℕ → List NodeView
 page_moment_nodes index moment =
-    (Markup (codes "<p>") ∷ Text (slot.Gateway index) ∷ Markup (codes " at ") ∷ [])
-    ++ moment_nodes moment
+    (Markup (codes "<p><bdi>") ∷ Text (slot.Gateway index) ∷ Markup (codes "</bdi> at ") ∷ [])
+    ++ time_nodes moment
     ++ (Markup (codes "</p>") ∷ [])
 
 -- nothing where the gateway shows no page
@@ -43,18 +45,26 @@ gateway_nodes index gateway = elim gateway.moment [
   | None ↦ []
 ]
 
+-- the header: the title, the links to the pages, and the moments; the main part begins after it
 unfoldable pub title_nodes : List GatewayShape → List NodeView
 title_nodes gateways =
-    (Markup (codes "<header><h1><a href=\"/\">") ∷ Text slot.Title ∷ Markup (codes "</a></h1>") ∷ [])
+    (Markup (codes "<header><h1><a href=\"/\">")
+    ∷ Text slot.Title
+    ∷ Markup (codes "</a></h1><nav aria-label=\"Pages\"><a href=\"/\">Status</a> ")
+    ∷ Markup (codes "<a href=\"/changes\">Changes</a></nav>")
+    ∷ [])
     ++ each_indexed gateway_nodes gateways
-    ++ (Markup (codes "</header>\n") ∷ [])
+    ++ (Markup (codes "</header>\n<main>\n") ∷ [])
 
 -- ---- alarms
 
 -- the beginning of an alarm about the gateway of this index
 unfoldable pub alarm_begin : ℕ → List NodeView
 alarm_begin index =
-    Markup (codes "<p class=\"alarm\"><strong>Gateway ") ∷ Text (slot.Gateway index) ∷ Markup (codes "</strong> ") ∷ []
+    Markup (codes "<p class=\"alarm\" role=\"alert\"><strong>Gateway <bdi>")
+    ∷ Text (slot.Gateway index)
+    ∷ Markup (codes "</bdi></strong> ")
+    ∷ []
 
 -- it shows no status, for its cause
 unfoldable pub missing_nodes : ℕ → List NodeView

@@ -6,5 +6,6 @@ pub mod HeadLayout
 pub mod SummaryLayout
 pub mod ObjectsLayout
 pub mod ListsLayout
+pub mod ChangesLayout
 pub mod Page
 pub mod Filling

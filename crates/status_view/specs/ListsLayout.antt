@@ -11,7 +11,7 @@ use Rattle.status_view.specs.declared.shape.DowntimeMarks.{DowntimeMarks}
 use Rattle.status_view.specs.declared.shape.EntryMarks.{EntryMarks}
 use Rattle.status_view.specs.declared.shape.EntryMarks.TheVariants.{Comment, Downtime}
 use Rattle.status_view.specs.Layout.{NodeView, Markup, Number, Text, nodes_if, each_indexed}
-use Rattle.status_view.specs.Times.{span_nodes, moment_nodes}
+use Rattle.status_view.specs.Times.{span_nodes, time_nodes}
 use Rattle.status_view.specs.Shapes.{EntryShapeView}
 
 -- ---- comments
@@ -22,7 +22,7 @@ comment_nodes row =
     (Markup (shown_source row.source) ∷ [])
     ++ nodes_if row.persistent (Markup (codes ", persistent") ∷ [])
     ++ (Markup (codes "</td><td class=\"num cell\">") ∷ [])
-    ++ moment_nodes row.moment
+    ++ time_nodes row.moment
 
 -- ---- downtime entries
 
@@ -36,9 +36,9 @@ window_nodes row =
     (Markup (plan_name row.fixed) ∷ [])
     ++ nodes_if (nat_lt 0 row.trigger) (Markup (codes ", triggered by ") ∷ Number row.trigger ∷ [])
     ++ (Markup (codes "</td><td class=\"cell\">") ∷ [])
-    ++ moment_nodes row.start
+    ++ time_nodes row.start
     ++ (Markup (codes " to ") ∷ [])
-    ++ moment_nodes row.end
+    ++ time_nodes row.end
     ++ nodes_if (not row.fixed) (duration_nodes row.duration)
 
 -- how long ago it began, at the moment of the page
@@ -63,10 +63,10 @@ entry_marks_nodes (Downtime row) = window_nodes row ++ began_nodes row.moment ro
 -- the beginning of a row: the host, and the service where the entry is on one
 unfoldable pub entry_name_nodes : EntryList → ℕ → Bool → List NodeView
 entry_name_nodes list index is_host =
-    (Markup (codes "<tr><td class=\"name\">") ∷ Text (Entry list index text.Host) ∷ [])
+    (Markup (codes "<tr><td class=\"name\"><bdi>") ∷ Text (Entry list index text.Host) ∷ [])
     ++ nodes_if (not is_host)
-    (Markup (codes " <span class=\"soft\">/</span> ") ∷ Text (Entry list index text.Service) ∷ [])
-    ++ (Markup (codes "</td><td class=\"cell\">") ∷ [])
+    (Markup (codes "</bdi> <span class=\"soft\">/</span> <bdi>") ∷ Text (Entry list index text.Service) ∷ [])
+    ++ (Markup (codes "</bdi></td><td class=\"cell\">") ∷ [])
 
 -- the author and the text
 unfoldable pub words_nodes : EntryList → ℕ → List NodeView
@@ -82,7 +82,11 @@ words_nodes list index =
 unfoldable pub origin_nodes : EntryList → ℕ → ℕ → ℕ → List NodeView
 origin_nodes list index gateway id =
     nodes_if (nat_lt 0 gateway) (Markup (codes ", ") ∷ [])
-    ++ (Number id ∷ Markup (codes " at ") ∷ Text (Entry list index (text.Gateway gateway)) ∷ [])
+    ++ (Number id
+    ∷ Markup (codes " at <bdi>")
+    ∷ Text (Entry list index (text.Gateway gateway))
+    ∷ Markup (codes "</bdi>")
+    ∷ [])
 
 -- the row of the entry of this index
 unfoldable pub entry_nodes : EntryList → ℕ → EntryShapeView → List NodeView
@@ -96,17 +100,21 @@ entry_nodes list index row =
 -- the title of a list, and the head of its table
 unfoldable pub list_head : EntryList → List NodeView
 list_head Comments =
-    Markup (codes "<h2>Comments</h2><table><thead><tr><th>Object</th><th>Source</th><th>Time</th>") ∷ []
+    Markup (codes "<table><caption><h2>Comments</h2></caption><thead><tr><th scope=\"col\">Object</th>")
+    ∷ Markup (codes "<th scope=\"col\">Source</th><th scope=\"col\">Time</th>")
+    ∷ []
 list_head Downtimes =
-    Markup (codes "<h2>Downtime</h2><table><thead><tr><th>Object</th><th>Kind</th><th>Window</th>")
-    ∷ Markup (codes "<th>Began</th>")
+    Markup (codes "<table><caption><h2>Downtime</h2></caption><thead><tr><th scope=\"col\">Object</th>")
+    ∷ Markup (codes "<th scope=\"col\">Kind</th><th scope=\"col\">Window</th><th scope=\"col\">Began</th>")
     ∷ []
 
 -- the list
 unfoldable pub entries_table : EntryList → List EntryShapeView → List NodeView
 entries_table list rows =
     list_head list
-    ++ (Markup (codes "<th>Author</th><th>Text</th><th>Id</th></tr></thead><tbody>\n") ∷ [])
+    ++ (Markup (codes "<th scope=\"col\">Author</th><th scope=\"col\">Text</th>")
+    ∷ Markup (codes "<th scope=\"col\">Id</th></tr></thead><tbody>\n")
+    ∷ [])
     ++ each_indexed (entry_nodes list) rows
     ++ (Markup (codes "</tbody></table>\n") ∷ [])
 

@@ -17,12 +17,15 @@ unfoldable pub object_name_nodes : ℕ → Bool → List NodeView
 object_name_nodes index is_host =
     (Markup (codes "<td class=\"name\"><a href=\"/?host=")
     ∷ Text (slot.Object index text.HostInLink)
-    ∷ Markup (codes "\">")
+    ∷ Markup (codes "\"><bdi>")
     ∷ Text (slot.Object index text.Host)
-    ∷ Markup (codes "</a>")
+    ∷ Markup (codes "</bdi></a>")
     ∷ [])
     ++ nodes_if (not is_host)
-    (Markup (codes " <span class=\"soft\">/</span> ") ∷ Text (slot.Object index text.Service) ∷ [])
+    (Markup (codes " <span class=\"soft\">/</span> <bdi>")
+    ∷ Text (slot.Object index text.Service)
+    ∷ Markup (codes "</bdi>")
+    ∷ [])
     ++ (Markup (codes "</td>") ∷ [])
 
 -- the mark of an acknowledgement
@@ -81,14 +84,15 @@ object_nodes several index row =
 unfoldable pub objects_nodes : PageShapeView → List NodeView
 objects_nodes shape =
     let several = nat_lt 1 (length shape.gateways) in
-    (Markup (codes "<h2>Hosts and services</h2><p class=\"soft\">")
+    (Markup (codes "<table><caption><h2>Hosts and services</h2>")
     ∷ Number (length shape.objects)
     ∷ Markup (codes " of ")
     ∷ Number shape.counts.objects
-    ∷ Markup (codes " shown</p>\n<table><thead><tr><th>State</th><th>Object</th><th>Marks</th>")
-    ∷ Markup (codes "<th>Since</th><th>Last result</th><th>Output</th>")
+    ∷ Markup (codes " shown</caption>\n<thead><tr><th scope=\"col\">State</th>")
+    ∷ Markup (codes "<th scope=\"col\">Object</th><th scope=\"col\">Marks</th><th scope=\"col\">Since</th>")
+    ∷ Markup (codes "<th scope=\"col\">Last result</th><th scope=\"col\">Output</th>")
     ∷ [])
-    ++ nodes_if several (Markup (codes "<th>Gateway</th>") ∷ [])
+    ++ nodes_if several (Markup (codes "<th scope=\"col\">Gateway</th>") ∷ [])
     ++ (Markup (codes "</tr></thead><tbody>\n") ∷ [])
     ++ each_indexed (object_nodes several) shape.objects
     ++ (Markup (codes "</tbody></table>\n") ∷ [])

@@ -24,6 +24,6 @@ page_nodes shape =
     ++ objects_nodes shape
     ++ entries_nodes Comments shape.comments
     ++ entries_nodes Downtimes shape.downtimes
-    ++ (Markup (codes "<footer><a href=\"/status.json\">status.json</a> &middot; ")
-    ∷ Markup (codes "<a href=\"/metrics\">metrics</a></footer>\n</main></body></html>\n")
+    ++ (Markup (codes "</main><footer><a href=\"/status.json\">status.json</a> &middot; ")
+    ∷ Markup (codes "<a href=\"/metrics\">metrics</a></footer>\n</body></html>\n")
     ∷ [])

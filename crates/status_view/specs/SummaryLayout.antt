@@ -38,7 +38,9 @@ tile_nodes shape choice name count =
 
 unfoldable pub all_nodes : PageShapeView → List NodeView
 all_nodes shape =
-    (Markup (codes "<nav class=\"counts\"><div class=\"group\"><span class=\"of\">All</span>") ∷ [])
+    (Markup (codes "<nav class=\"counts\" aria-label=\"Counts\"><div class=\"group\">")
+    ∷ Markup (codes "<span class=\"of\">All</span>")
+    ∷ [])
     ++ tile_nodes shape Unhandled (codes "unhandled") shape.counts.unhandled
     ++ tile_nodes shape Stale (codes "stale") shape.counts.stale
     ++ tile_nodes shape All (codes "objects") shape.counts.objects
@@ -84,7 +86,9 @@ form_choices =
 
 unfoldable pub form_nodes : PageShapeView → List NodeView
 form_nodes shape =
-    (Markup (codes "<form method=\"get\" action=\"/\"><label>State <select name=\"state\">") ∷ [])
+    (Markup (codes "<form method=\"get\" action=\"/\" role=\"search\" aria-label=\"Objects\">")
+    ∷ Markup (codes "<label>State <select name=\"state\">")
+    ∷ [])
     ++ flat_map (option_nodes shape.choice) form_choices
     ++ (Markup (codes "</select></label> <label>Host <input name=\"host\" value=\"")
     ∷ Text slot.HostAsked

@@ -15,18 +15,38 @@ span_nodes seconds =
 unfoldable pub two_digits : ℕ → List NodeView
 two_digits number = if nat_lt number 10 then Markup (codes "0") ∷ Number number ∷ [] else Number number ∷ []
 
--- a moment in UTC, as `2026-11-23 20:15:00Z`
-unfoldable pub moment_nodes : ℕ → List NodeView
-moment_nodes moment =
-    let day = moment / 86400 in let second = moment % 86400 in
+-- a day, as `2026-11-23`
+unfoldable pub date_nodes : ℕ → List NodeView
+date_nodes day =
     (Number (year_of day) ∷ Markup (codes "-") ∷ [])
     ++ two_digits (month_of day)
     ++ (Markup (codes "-") ∷ [])
     ++ two_digits (day_of day)
-    ++ (Markup (codes " ") ∷ [])
-    ++ two_digits (second / 3600)
+
+-- a second of a day in UTC, as `20:15:00Z`
+unfoldable pub clock_nodes : ℕ → List NodeView
+clock_nodes second =
+    two_digits (second / 3600)
     ++ (Markup (codes ":") ∷ [])
     ++ two_digits (second / 60 % 60)
     ++ (Markup (codes ":") ∷ [])
     ++ two_digits (second % 60)
     ++ (Markup (codes "Z") ∷ [])
+
+-- a moment in UTC, as `2026-11-23T20:15:00Z` (RFC 3339), with this between its date and its time
+unfoldable pub instant_nodes : List ℕ → ℕ → List NodeView
+instant_nodes between moment =
+    date_nodes (moment / 86400) ++ (Markup between ∷ []) ++ clock_nodes (moment % 86400)
+
+-- the same as `2026-11-23 20:15:00Z`
+abbrev pub moment_nodes : ℕ → List NodeView
+moment_nodes moment = instant_nodes (codes " ") moment
+
+-- an element of it, which programs can read (HTML, 4.5.14)
+unfoldable pub time_nodes : ℕ → List NodeView
+time_nodes moment =
+    (Markup (codes "<time datetime=\"") ∷ [])
+    ++ moment_nodes moment
+    ++ (Markup (codes "\">") ∷ [])
+    ++ moment_nodes moment
+    ++ (Markup (codes "</time>") ∷ [])

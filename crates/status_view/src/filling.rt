@@ -3,14 +3,16 @@
 ghost use Rattle.std.specs.Prelude.{◌≡◌, ◌++◌, IfOk, OnOk};
 ghost use Rattle.form_urlencoded.specs.Form.{byte_serialize};
 ghost use Rattle.html_text.specs.Escaping.{html_text};
+ghost use Rattle.std.specs.Str.Lossy.{utf8_lossy};
 ghost use Rattle.status_reading.specs.Plain.{plain_bytes};
 ghost use Rattle.status_view.specs.Layout.{node_view};
-ghost use Rattle.status_view.specs.Filling.{old_cause, cause_text, object_text, entry_text, slot_text, with_text, filled, piece_bytes, html_bytes};
+ghost use Rattle.status_view.specs.Filling.{old_cause, cause_text, object_text, entry_text, change_text, slot_text, with_text, filled, piece_bytes, html_bytes};
 
-use crate::layout::{EntryList, EntryText, Layout, Node, ObjectText, Slot};
+use crate::layout::{ChangeText, EntryList, EntryText, Layout, Node, ObjectText, Slot};
 use crate::view::View;
 use form_urlencoded::byte_serialize;
 use html_text::Html;
+use status_memory::GatewayChange;
 use status_merge::{Gateway, MergedObject, Old, Origin};
 use status_reading::plain_bytes;
 use std::alloc::{AllocError, Global};
@@ -143,6 +145,34 @@ fn fill_entry(
     }
 }
 
+// What a field of a page stands for, in UTF-8.
+fn put_utf8(alloc: Global, html: &mut Html, field: &[u8]) -> Result<(), AllocError>
+    ensures { OnOk result
+        (html.new ≡ html.old ++ html_text (utf8_lossy (plain_bytes field.now))) }
+{
+    let plain = plain_bytes(alloc, field)?;
+    let text = String::from_utf8_lossy(alloc, plain.as_slice())?;
+    html.text(text.as_str().as_bytes())
+}
+
+fn put_change(
+    alloc: Global,
+    html: &mut Html,
+    shown: &GatewayChange<'_>,
+    text: ChangeText,
+) -> Result<(), AllocError>
+    ensures { OnOk result (html.new ≡ html.old ++ html_text (change_text text shown.now)) }
+{
+    match text {
+        ChangeText::Host => put_utf8(alloc, html, shown.change.host.as_slice()),
+        ChangeText::HostInLink => put_in_link(alloc, html, shown.change.host.as_slice()),
+        ChangeText::Service => put_utf8(alloc, html, shown.change.service.as_slice()),
+        ChangeText::ServiceInLink => put_in_link(alloc, html, shown.change.service.as_slice()),
+        ChangeText::Gateway => html.text(shown.gateway.as_bytes()),
+        ChangeText::GatewayInLink => put_in_link(alloc, html, shown.gateway.as_bytes()),
+    }
+}
+
 fn fill_slot(alloc: Global, html: &mut Html, view: &View<'_>, slot: Slot) -> Result<(), AllocError>
     ensures { OnOk result (html.new ≡ html.old ++ html_text (slot_text view.entry.now slot)) }
 {
@@ -163,6 +193,10 @@ fn fill_slot(alloc: Global, html: &mut Html, view: &View<'_>, slot: Slot) -> Res
             None => html.text(b""),
         },
         Slot::Entry(list, index, text) => fill_entry(alloc, html, view, list, index, text),
+        Slot::Change(index, text) => match view.changes.get(index) {
+            Some(shown) => put_change(alloc, html, shown, text),
+            None => html.text(b""),
+        },
     }
 }
 

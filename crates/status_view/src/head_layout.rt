@@ -6,7 +6,7 @@ ghost use Rattle.status_view.specs.HeadLayout.{refresh_nodes, unhandled_nodes, d
 
 use crate::layout::{Layout, Node, Slot};
 use crate::shape::GatewayShape;
-use crate::times::{lay_out_moment, lay_out_span};
+use crate::times::{lay_out_span, lay_out_time};
 use std::alloc::AllocError;
 
 #[tactic(auto, unfolding(crate::specs::HeadLayout::refresh_nodes))]
@@ -50,11 +50,16 @@ pub fn lay_out_document(
         Node::Markup("<meta name=\"viewport\" content=\"width=device-width,initial-scale=1\">"),
     ])?;
     lay_out_refresh(layout, refresh)?;
-    layout.put(&[Node::Markup("<link rel=\"stylesheet\" href=\"/style.css\"><title>")])?;
+    layout.put(&[
+        Node::Markup("<link rel=\"stylesheet\" href=\"/style.css\">"),
+        Node::Markup(
+            "<link rel=\"alternate\" type=\"application/atom+xml\" href=\"/changes.atom\"><title>",
+        ),
+    ])?;
     lay_out_unhandled(layout, unhandled)?;
     layout.put(&[
         Node::Slot(Slot::Title),
-        Node::Markup("</title></head>\n<body><main>\n"),
+        Node::Markup("</title></head>\n<body>"),
     ])
 }
 
@@ -62,11 +67,11 @@ fn lay_out_page_moment(layout: &mut Layout, index: usize, moment: u32) -> Result
     ensures { OnOk result (layout.new ≡ layout.old ++ page_moment_nodes index moment) }
 {
     layout.put(&[
-        Node::Markup("<p>"),
+        Node::Markup("<p><bdi>"),
         Node::Slot(Slot::Gateway(index)),
-        Node::Markup(" at "),
+        Node::Markup("</bdi> at "),
     ])?;
-    lay_out_moment(layout, moment)?;
+    lay_out_time(layout, moment)?;
     layout.put(&[Node::Markup("</p>")])
 }
 
@@ -93,17 +98,18 @@ fn lay_out_gateways(layout: &mut Layout, gateways: &[GatewayShape]) -> Result<()
     Ok(())
 }
 
-/// Appends the title, and the moment of each gateway's page.
+/// Appends the header: the title, the links to the pages, and the moment of each gateway's page.
 pub fn lay_out_title(layout: &mut Layout, gateways: &[GatewayShape]) -> Result<(), AllocError>
     ensures { OnOk result (layout.new ≡ layout.old ++ title_nodes gateways.now) }
 {
     layout.put(&[
         Node::Markup("<header><h1><a href=\"/\">"),
         Node::Slot(Slot::Title),
-        Node::Markup("</a></h1>"),
+        Node::Markup("</a></h1><nav aria-label=\"Pages\"><a href=\"/\">Status</a> "),
+        Node::Markup("<a href=\"/changes\">Changes</a></nav>"),
     ])?;
     lay_out_gateways(layout, gateways)?;
-    layout.put(&[Node::Markup("</header>\n")])
+    layout.put(&[Node::Markup("</header>\n<main>\n")])
 }
 
 #[tactic(auto, unfolding(crate::specs::HeadLayout::alarm_begin))]
@@ -111,9 +117,9 @@ fn begin_alarm(layout: &mut Layout, index: usize) -> Result<(), AllocError>
     ensures { OnOk result (layout.new ≡ layout.old ++ alarm_begin index) }
 {
     layout.put(&[
-        Node::Markup("<p class=\"alarm\"><strong>Gateway "),
+        Node::Markup("<p class=\"alarm\" role=\"alert\"><strong>Gateway <bdi>"),
         Node::Slot(Slot::Gateway(index)),
-        Node::Markup("</strong> "),
+        Node::Markup("</bdi></strong> "),
     ])
 }
 

@@ -34,6 +34,18 @@ pub enum EntryText {
     Gateway(usize),
 }
 
+/// A text of a change; three as values in a URL's query.
+#[derive(Clone, Copy)]
+pub enum ChangeText {
+    Host,
+    HostInLink,
+    Service,
+    ServiceInLink,
+    /// The name of its gateway.
+    Gateway,
+    GatewayInLink,
+}
+
 /// The text that a slot of a page is filled with.
 #[derive(Clone, Copy)]
 pub enum Slot {
@@ -50,6 +62,8 @@ pub enum Slot {
     Object(usize, ObjectText),
     /// Of the entry of this index in its list.
     Entry(EntryList, usize, EntryText),
+    /// Of the change of this index.
+    Change(usize, ChangeText),
 }
 
 /// A part of a page: markup, a number, or a slot for a text.

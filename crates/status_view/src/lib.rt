@@ -5,6 +5,7 @@
 #![tactic(auto)]
 
 mod calendar;
+mod changes;
 mod filling;
 mod head_layout;
 mod html;
@@ -17,6 +18,7 @@ mod summary_layout;
 mod times;
 mod view;
 
+pub use changes::{changes_feed, changes_page};
 pub use html::html_page;
 pub use style::STYLE;
 pub use view::View;

@@ -7,7 +7,7 @@ ghost use Rattle.status_view.specs.ListsLayout.{comment_nodes, duration_nodes, w
 
 use crate::layout::{EntryList, EntryText, Layout, Node, Slot};
 use crate::shape::{CommentMarks, DowntimeMarks, EntryMarks, EntryShape};
-use crate::times::{lay_out_moment, lay_out_span};
+use crate::times::{lay_out_span, lay_out_time};
 use status_reading::{plan_name, source_word};
 use std::alloc::AllocError;
 
@@ -17,7 +17,7 @@ fn lay_out_comment(layout: &mut Layout, row: &CommentMarks) -> Result<(), AllocE
     layout.put(&[Node::Markup(source_word(row.source))])?;
     layout.put_if(row.persistent, &[Node::Markup(", persistent")])?;
     layout.put(&[Node::Markup("</td><td class=\"num cell\">")])?;
-    lay_out_moment(layout, row.moment)
+    lay_out_time(layout, row.moment)
 }
 
 fn lay_out_duration(layout: &mut Layout, seconds: u32) -> Result<(), AllocError>
@@ -51,9 +51,9 @@ fn lay_out_window(layout: &mut Layout, row: &DowntimeMarks) -> Result<(), AllocE
         ],
     )?;
     layout.put(&[Node::Markup("</td><td class=\"cell\">")])?;
-    lay_out_moment(layout, row.start)?;
+    lay_out_time(layout, row.start)?;
     layout.put(&[Node::Markup(" to ")])?;
-    lay_out_moment(layout, row.end)?;
+    lay_out_time(layout, row.end)?;
     lay_out_duration_if(layout, !row.fixed, row.duration)
 }
 
@@ -105,17 +105,17 @@ fn lay_out_name(
     ensures { OnOk result (layout.new ≡ layout.old ++ entry_name_nodes list index is_host) }
 {
     layout.put(&[
-        Node::Markup("<tr><td class=\"name\">"),
+        Node::Markup("<tr><td class=\"name\"><bdi>"),
         Node::Slot(Slot::Entry(list, index, EntryText::Host)),
     ])?;
     layout.put_if(
         !is_host,
         &[
-            Node::Markup(" <span class=\"soft\">/</span> "),
+            Node::Markup("</bdi> <span class=\"soft\">/</span> <bdi>"),
             Node::Slot(Slot::Entry(list, index, EntryText::Service)),
         ],
     )?;
-    layout.put(&[Node::Markup("</td><td class=\"cell\">")])
+    layout.put(&[Node::Markup("</bdi></td><td class=\"cell\">")])
 }
 
 #[tactic(auto, unfolding(crate::specs::ListsLayout::words_nodes))]
@@ -143,8 +143,9 @@ fn lay_out_origin(
     layout.put_if(gateway > 0, &[Node::Markup(", ")])?;
     layout.put(&[
         Node::Number(u64::from(id)),
-        Node::Markup(" at "),
+        Node::Markup(" at <bdi>"),
         Node::Slot(Slot::Entry(list, index, EntryText::Gateway(gateway))),
+        Node::Markup("</bdi>"),
     ])
 }
 
@@ -194,14 +195,19 @@ fn lay_out_list_head(layout: &mut Layout, list: EntryList) -> Result<(), AllocEr
     ensures { OnOk result (layout.new ≡ layout.old ++ list_head list) }
 {
     match list {
-        EntryList::Comments => layout.put(&[Node::Markup(
-            "<h2>Comments</h2><table><thead><tr><th>Object</th><th>Source</th><th>Time</th>",
-        )]),
+        EntryList::Comments => layout.put(&[
+            Node::Markup(
+                "<table><caption><h2>Comments</h2></caption><thead><tr><th scope=\"col\">Object</th>",
+            ),
+            Node::Markup("<th scope=\"col\">Source</th><th scope=\"col\">Time</th>"),
+        ]),
         EntryList::Downtimes => layout.put(&[
             Node::Markup(
-                "<h2>Downtime</h2><table><thead><tr><th>Object</th><th>Kind</th><th>Window</th>",
+                "<table><caption><h2>Downtime</h2></caption><thead><tr><th scope=\"col\">Object</th>",
             ),
-            Node::Markup("<th>Began</th>"),
+            Node::Markup(
+                "<th scope=\"col\">Kind</th><th scope=\"col\">Window</th><th scope=\"col\">Began</th>",
+            ),
         ]),
     }
 }
@@ -215,7 +221,10 @@ fn lay_out_table(
         ≡ layout.old ++ entries_table list (map entry_shape_view rows.now)) }
 {
     lay_out_list_head(layout, list)?;
-    layout.put(&[Node::Markup("<th>Author</th><th>Text</th><th>Id</th></tr></thead><tbody>\n")])?;
+    layout.put(&[
+        Node::Markup("<th scope=\"col\">Author</th><th scope=\"col\">Text</th>"),
+        Node::Markup("<th scope=\"col\">Id</th></tr></thead><tbody>\n"),
+    ])?;
     lay_out_rows(layout, list, rows)?;
     layout.put(&[Node::Markup("</tbody></table>\n")])
 }

@@ -18,15 +18,16 @@ fn lay_out_name(layout: &mut Layout, index: usize, is_host: bool) -> Result<(), 
     layout.put(&[
         Node::Markup("<td class=\"name\"><a href=\"/?host="),
         Node::Slot(Slot::Object(index, ObjectText::HostInLink)),
-        Node::Markup("\">"),
+        Node::Markup("\"><bdi>"),
         Node::Slot(Slot::Object(index, ObjectText::Host)),
-        Node::Markup("</a>"),
+        Node::Markup("</bdi></a>"),
     ])?;
     layout.put_if(
         !is_host,
         &[
-            Node::Markup(" <span class=\"soft\">/</span> "),
+            Node::Markup(" <span class=\"soft\">/</span> <bdi>"),
             Node::Slot(Slot::Object(index, ObjectText::Service)),
+            Node::Markup("</bdi>"),
         ],
     )?;
     layout.put(&[Node::Markup("</td>")])
@@ -156,14 +157,17 @@ pub fn lay_out_objects(layout: &mut Layout, shape: &PageShape) -> Result<(), All
     let rows = shape.objects.as_slice();
     let several = shape.gateways.as_slice().len() > 1;
     layout.put(&[
-        Node::Markup("<h2>Hosts and services</h2><p class=\"soft\">"),
+        Node::Markup("<table><caption><h2>Hosts and services</h2>"),
         Node::Number(rows.len() as u64),
         Node::Markup(" of "),
         Node::Number(shape.counts.objects as u64),
-        Node::Markup(" shown</p>\n<table><thead><tr><th>State</th><th>Object</th><th>Marks</th>"),
-        Node::Markup("<th>Since</th><th>Last result</th><th>Output</th>"),
+        Node::Markup(" shown</caption>\n<thead><tr><th scope=\"col\">State</th>"),
+        Node::Markup(
+            "<th scope=\"col\">Object</th><th scope=\"col\">Marks</th><th scope=\"col\">Since</th>",
+        ),
+        Node::Markup("<th scope=\"col\">Last result</th><th scope=\"col\">Output</th>"),
     ])?;
-    layout.put_if(several, &[Node::Markup("<th>Gateway</th>")])?;
+    layout.put_if(several, &[Node::Markup("<th scope=\"col\">Gateway</th>")])?;
     layout.put(&[Node::Markup("</tr></thead><tbody>\n")])?;
     lay_out_rows(layout, rows, several)?;
     layout.put(&[Node::Markup("</tbody></table>\n")])

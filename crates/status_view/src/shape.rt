@@ -122,8 +122,8 @@ pub fn lay_out(alloc: Global, shape: &PageShape) -> Result<Layout, AllocError>
         shape.downtimes.as_slice(),
     )?;
     layout.put(&[
-        Node::Markup("<footer><a href=\"/status.json\">status.json</a> &middot; "),
-        Node::Markup("<a href=\"/metrics\">metrics</a></footer>\n</main></body></html>\n"),
+        Node::Markup("</main><footer><a href=\"/status.json\">status.json</a> &middot; "),
+        Node::Markup("<a href=\"/metrics\">metrics</a></footer>\n</body></html>\n"),
     ])?;
     Ok(layout)
 }

@@ -84,9 +84,10 @@ fn lay_out_all(layout: &mut Layout, shape: &PageShape) -> Result<(), AllocError>
     ensures { OnOk result (layout.new ≡ layout.old ++ all_nodes (shape_view shape.now)) }
 {
     let counts = &shape.counts;
-    layout.put(&[Node::Markup(
-        "<nav class=\"counts\"><div class=\"group\"><span class=\"of\">All</span>",
-    )])?;
+    layout.put(&[
+        Node::Markup("<nav class=\"counts\" aria-label=\"Counts\"><div class=\"group\">"),
+        Node::Markup("<span class=\"of\">All</span>"),
+    ])?;
     lay_out_tile(
         layout,
         shape,
@@ -206,9 +207,10 @@ fn lay_out_choices(layout: &mut Layout, chosen: Choice) -> Result<(), AllocError
 pub fn lay_out_form(layout: &mut Layout, shape: &PageShape) -> Result<(), AllocError>
     ensures { OnOk result (layout.new ≡ layout.old ++ form_nodes (shape_view shape.now)) }
 {
-    layout.put(&[Node::Markup(
-        "<form method=\"get\" action=\"/\"><label>State <select name=\"state\">",
-    )])?;
+    layout.put(&[
+        Node::Markup("<form method=\"get\" action=\"/\" role=\"search\" aria-label=\"Objects\">"),
+        Node::Markup("<label>State <select name=\"state\">"),
+    ])?;
     lay_out_choices(layout, shape.choice)?;
     layout.put(&[
         Node::Markup("</select></label> <label>Host <input name=\"host\" value=\""),

@@ -1,3 +1,4 @@
+use status_memory::GatewayChange;
 use status_merge::{CommentLine, DowntimeLine, Gateway, MergedObject, Query};
 
 /// What a page for a browser shows.
@@ -16,4 +17,6 @@ pub struct View<'a> {
     pub objects: &'a [MergedObject<'a>],
     pub comments: &'a [CommentLine<'a>],
     pub downtimes: &'a [DowntimeLine<'a>],
+    /// The changes of states, which have a page of their own.
+    pub changes: &'a [GatewayChange<'a>],
 }

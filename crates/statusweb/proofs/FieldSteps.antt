@@ -1,6 +1,9 @@
 -- Fields that are added one after another.
-use Rattle.std.proofs.Common.{◌≡◌, ℕ, List, [], ◌∷◌, ◌++◌, Result, Ok, Err, ap, ◌∙◌, append_assoc}
+use Rattle.std.proofs.Common.{◌≡◌, ℕ, List, [], ◌∷◌, ◌++◌, Result, Ok, Err, ap, subst, ◌∙◌, append_assoc}
 use Rattle.std.specs.Result.{OnOk}
+use Rattle.http_server.specs.declared.response.Response.{Response}
+use Rattle.http_server.specs.Response.{IsResponse}
+use Rattle.statusweb.specs.Answers.{Extends, body_fields}
 
 -- a field with this name and this value
 abbrev pub Adds : List (List ℕ × List ℕ) → List (List ℕ × List ℕ) → List ℕ → List ℕ → Type 0
@@ -25,3 +28,23 @@ four a b c d e n m o p v w x y first second third fourth =
 pub on_ok : {T E P Q : Type 0} (result : Result T E) → (P → Q) → OnOk result P → OnOk result Q
 on_ok (Ok value) step known = step known
 on_ok (Err error) step known = tt
+
+-- ---- responses
+
+-- a body of a type that is another's
+pub extends_as : (old new : Response) (kind other_kind caching other_caching text other_text : List ℕ)
+    → kind ≡ other_kind → caching ≡ other_caching → text ≡ other_text
+    → Extends (body_fields kind caching) text old new → Extends (body_fields other_kind other_caching) other_text old new
+extends_as old new kind other_kind caching other_caching text other_text typed cached written extends =
+    subst (λ (text : List ℕ). Extends (body_fields other_kind other_caching) text old new) written
+    (subst (λ (caching : List ℕ). Extends (body_fields other_kind caching) text old new) cached
+    (subst (λ (kind : List ℕ). Extends (body_fields kind caching) text old new) typed extends))
+
+-- what a response becomes that had no content
+pub sent_as : (status : ℕ) (front fields : List (List ℕ × List ℕ)) (content : List ℕ) (old new : Response)
+    → IsResponse status front [] old → Extends fields content old new → IsResponse status (front ++ fields) content new
+sent_as status front fields content old new was extends = record {
+  status = extends.status ∙ was.status;
+  headers = extends.headers ∙ ap (λ front. front ++ fields) was.headers;
+  body = extends.body ∙ ap (λ (known : List ℕ). known ++ content) was.body;
+}

@@ -1,6 +1,6 @@
 -- Values of `--gateway`, one after another: which places they name, and when two have one name.
 use Rattle.std.proofs.Common.{◌≡◌, ◌⊎◌, ℕ, ◌+◌, ◌<◌, Bool, true, false, ◌||◌, ◌==◌, cond, List, [], ◌∷◌, ◌++◌, length, map, take, drop, get_or, Bor, ◌≤◌, Option, Some, None, refl, ap, ◌∙◌, sym, inl, inr, subst, append_assoc, arith}
-use Rattle.std.proofs.lemmas.Bool.{false≢true, lt-ltb, le-ltb}
+use Rattle.std.proofs.lemmas.Bool.{eqb-true, false≢true, lt-ltb, le-ltb}
 use Rattle.std.proofs.lemmas.List.{append-nil, at_drop_more, drop_all, map-append}
 use Rattle.std.specs.List.{AllByRecursion, IsDistinct, list_any, position_or_len, before_first, after_first}
 use Rattle.std.specs.Str.{bytes_eq}
@@ -39,6 +39,21 @@ pub uncut : (value : List ℕ) → position_or_len (λ byte. byte == 61) value �
     → (value ≡ name_of value) × (value ≡ address_of value)
 uncut value ends =
     (sym (ap (name_at value) (found_none value ends)), sym (ap (address_at value) (found_none value ends)))
+
+-- ---- names that are empty
+
+pub empty_name : (name value : List ℕ) → name ≡ name_of value → (length name == 0) ≡ true → 0 < length (name_of value) → ⊥
+empty_name name value is none some =
+    let zero = eqb-true (length name) 0 none in
+    let same : length name ≡ length (name_of value) = ap length is in
+    absurd (omega (arith, zero, same, some))
+
+not_empty : (name : List ℕ) → (length name == 0) ≡ false → 0 < length name
+not_empty [] some = absurd (false≢true (sym some))
+not_empty (byte ∷ rest) some = omega arith
+
+pub some_name : (name value : List ℕ) → name ≡ name_of value → (length name == 0) ≡ false → 0 < length (name_of value)
+some_name name value is some = subst (λ (name : List ℕ). 0 < length name) is (not_empty name some)
 
 -- ---- names that differ
 

@@ -4,4 +4,6 @@ pub mod Answers
 pub mod Causes
 pub mod Watching
 pub mod Pages
+pub mod Changing
+pub mod Hosts
 pub mod Service

@@ -1,9 +1,10 @@
 -- What is kept of each gateway: what a fetch gave, as it is kept (`IsFetchOf`), and what a memory holds, whoever else
 -- reads its page (`memory_view`).
-use Rattle.std.specs.Prelude.{◌≡◌, ℕ, List, length, Option, Some, None, Result, Ok, Err, Vec}
+use Rattle.std.specs.Prelude.{◌≡◌, ℕ, ◌⊎◌, List, ◌∷◌, length, map, Option, Some, None, Result, Ok, Err, Vec}
 use Rattle.std.specs.declared.alloc.Global.{Global}
 use Rattle.std.specs.declared.sync.Arc.{Arc}
 use Rattle.std.specs.Arc.{arc_value}
+use Rattle.circular_buffer.specs.Buffer.{keep_last}
 use Rattle.status_reading.specs.Rows.{PageView}
 use Rattle.status_reading.specs.Page.{page_text}
 use Rattle.status_reading.specs.Readable.{IsReadable}
@@ -13,6 +14,7 @@ use Rattle.status_memory.specs.declared.memory.Page.{Page}
 use Rattle.status_memory.specs.declared.memory.Fetch.{Fetch}
 use Rattle.status_memory.specs.declared.memory.Kept.{Kept}
 use Rattle.status_memory.specs.declared.memory.Memory.{Memory}
+use Rattle.status_memory.specs.History.{HistoryView, since_of, changes_of, change_view, IsHistoryOf}
 use Rattle.statusweb.specs.declared.words.Place.{Place}
 use Rattle.page_fetching.specs.declared.fetching.FetchFault.{FetchFault}
 use Rattle.statusweb.specs.declared.causes.NoPage.{NoPage}
@@ -61,6 +63,30 @@ IsTaken _ _ = ⊥
 pub record IsFetchOf (fetched : Result (List ℕ) FetchFault) (now : ℕ) (fetch : Fetch Shared NoPage) : Type 0 where
   pub moment : fetch.moment ≡ now
   pub page : IsTaken fetched fetch.page
+
+-- ---- what the history takes in
+
+-- beside the text of a page, after these pages: since when each of its objects has its state, and the last 1,000 changes
+pub record Notes (before : List PageView) (page : PageView) (contents : Contents) : Type 0 where
+  pub since : contents.since.items ≡ map (since_of before page.moment) page.objects
+  pub changes : map change_view contents.changes.items ≡ keep_last 1000 (changes_of (page ∷ before))
+
+-- after these pages the history is that of them and the page that a text is
+abbrev pub TakesIn : List PageView → List ℕ → HistoryView → PageView → Type 0
+TakesIn before text history page = IsTextOf text page × IsHistoryOf (page ∷ before) history
+
+-- a text was read after these pages: its page is in the history, and its notes are kept; where memory ran out after
+-- that, it is in the history; and otherwise the history has these pages alone
+abbrev pub IsObserved : {F : Type 0} → List PageView → List ℕ → HistoryView → Result (Page Shared) F → Type 0
+IsObserved before text history (Ok kept) =
+    (page : PageView) × TakesIn before text history page × Notes before page (arc_value kept.text)
+IsObserved before text history (Err fault) =
+    IsHistoryOf before history ⊎ ((page : PageView) × TakesIn before text history page)
+
+-- a fetch after these pages leaves this history
+abbrev pub LeavesHistory : List PageView → Result (List ℕ) FetchFault → HistoryView → Fetch Shared NoPage → Type 0
+LeavesHistory before (Ok text) history fetch = IsObserved before text history fetch.page
+LeavesHistory before (Err fault) history fetch = IsHistoryOf before history
 
 -- ---- gateways
 

@@ -19,20 +19,26 @@ option_of name = record (new_rule name) { long = Some name; action = Some Set }
 abbrev pub gateway : Rule
 gateway = record (new_rule (codes "gateway")) { long = Some (codes "gateway"); required = true; action = Some Append }
 
+-- `--host VALUE`, which may be there more than once
+abbrev pub host : Rule
+host = record (new_rule (codes "host")) { long = Some (codes "host"); action = Some Append }
+
 -- the words are all that follows the program's name
 abbrev pub unnamed : App → App
 unnamed app = record app { top = record app.top { no_binary_name = true } }
 
--- `--listen`, `--gateway`, `--title`, `--refresh` and `--every`
+-- `--listen`, `--gateway`, `--title`, `--refresh`, `--every` and `--host`
 abbrev pub program : App
 program =
     with_rule
     (with_rule
     (with_rule
+    (with_rule
     (with_rule (with_rule (unnamed (new_app (codes "statusweb"))) (option_of (codes "listen"))) gateway)
     (option_of (codes "title")))
     (option_of (codes "refresh")))
-    (option_of (codes "every"))
+    (option_of (codes "every")))
+    host
 
 -- the value of an option in what was found, or its default
 abbrev pub value_of : List ℕ → List ℕ → List Row → List ℕ
@@ -41,6 +47,10 @@ value_of name default found = unwrap_or (first_of name found) default
 -- the values of `--gateway`, in their order
 abbrev pub gateways_of : List Row → List Text
 gateways_of found = unwrap_or (all_of (codes "gateway") found) []
+
+-- the values of `--host`
+abbrev pub hosts_of : List Row → List Text
+hosts_of found = unwrap_or (all_of (codes "host") found) []
 
 -- the index of the first `=` (61)
 abbrev pub equals_in : List ℕ → Option ℕ
@@ -54,9 +64,10 @@ name_of value = elim (equals_in value) [ Some index ↦ take index value | None 
 abbrev pub address_of : List ℕ → List ℕ
 address_of value = elim (equals_in value) [ Some index ↦ drop (index + 1) value | None ↦ value ]
 
--- a value of `--gateway` names this place
+-- a value of `--gateway` names this place, whose name is not empty
 abbrev pub Names : List ℕ → Place → Type 0
-Names value place = (place.name.now ≡ name_of value) × IsSocketText (address_of value) place.address
+Names value place =
+    (place.name.now ≡ name_of value) × IsSocketText (address_of value) place.address × (0 < length (name_of value))
 
 -- these values name these places, in their order
 abbrev pub NameAll : List (List ℕ) → List Place → Type 0
@@ -92,6 +103,7 @@ pub record Sets (found : List Row) (settings : Settings) : Type 0 where
   pub title : settings.title.now ≡ value_of (codes "title") (codes "nscagate") found
   pub refresh : WritesRefresh (value_of (codes "refresh") (codes "30") found) settings.refresh
   pub every : WritesEvery (value_of (codes "every") (codes "5") found) settings.every
+  pub hosts : map (λ host. host.now) settings.hosts.items ≡ hosts_of found
 
 -- the words ask for these settings
 abbrev pub AskFor : List Text → Settings → Type 0

@@ -1,24 +1,23 @@
 //! Responses, each with the header fields that keep a browser from running or loading anything
 //! else.
-ghost use Rattle.std.specs.Prelude.{◌≡◌, ◌∷◌, ◌++◌, [], OnOk, codes};
+ghost use Rattle.std.specs.Prelude.{◌∷◌, [], OnOk, codes};
 ghost use Rattle.http.specs.StatusCode.{code_digits};
-ghost use Rattle.http_server.specs.Response.{IsResponse, IsBlank, fields_of};
-ghost use Rattle.statusweb.specs.Answers.{guard_fields, body_fields, IsSent, IsKept, IsRefusal};
+ghost use Rattle.http_server.specs.Response.{IsBlank};
+ghost use Rattle.statusweb.specs.Answers.{Extends, IsDated, guard_fields, body_fields, IsSent, IsKept, IsRefusal};
 
 use bytes::Bytes;
 use http::header::{
-    ALLOW, CACHE_CONTROL, CONNECTION, CONTENT_SECURITY_POLICY, CONTENT_TYPE, REFERRER_POLICY,
+    ALLOW, CACHE_CONTROL, CONNECTION, CONTENT_SECURITY_POLICY, CONTENT_TYPE, DATE, REFERRER_POLICY,
     X_CONTENT_TYPE_OPTIONS,
 };
 use http::{HeaderValue, StatusCode};
 use http_server::Response;
+use httpdate::HttpDate;
 use std::alloc::{AllocError, Global};
 
 // No script runs and nothing but the style is loaded, even where an escape were missing.
 fn add_guards(response: &mut Response) -> Result<(), AllocError>
-    ensures fields { OnOk result (fields_of response.new ≡ fields_of response.old ++ guard_fields) }
-    ensures status { response.new.status ≡ response.old.status }
-    ensures body { response.new.body ≡ response.old.body }
+    ensures { OnOk result (Extends guard_fields [] response.old response.new) }
 {
     let policy = HeaderValue::from_static(
         "default-src 'none'; style-src 'self'; form-action 'self'; base-uri 'none'; frame-ancestors 'none'",
@@ -36,11 +35,8 @@ fn fill(
     caching: HeaderValue,
     body: Vec<u8>,
 ) -> Result<(), AllocError>
-    ensures fields { OnOk result (fields_of response.new
-        ≡ fields_of response.old ++ body_fields kind.bytes caching.bytes) }
-    ensures status { response.new.status ≡ response.old.status }
-    ensures body { OnOk result
-        (response.new.body.items ≡ response.old.body.items ++ body.items) }
+    ensures { OnOk result (Extends (body_fields kind.bytes caching.bytes) body.items
+        response.old response.new) }
 {
     response.add_header(CONTENT_TYPE, kind)?;
     response.add_header(CACHE_CONTROL, caching)?;
@@ -48,11 +44,17 @@ fn fill(
     response.body.push(Bytes::from_vec(body)?)
 }
 
-/// Answers a body of a type, that is not kept.
-pub fn send(response: &mut Response, kind: HeaderValue, body: Vec<u8>) -> Result<(), AllocError>
+/// Answers a body of a type with a status, that is not kept.
+pub fn send(
+    response: &mut Response,
+    status: StatusCode,
+    kind: HeaderValue,
+    body: Vec<u8>,
+) -> Result<(), AllocError>
     requires { IsBlank response.old }
-    ensures { OnOk result (IsSent kind.bytes body.items response.new) }
+    ensures { OnOk result (IsSent status kind.bytes body.items response.new) }
 {
+    response.status = status;
     fill(response, kind, HeaderValue::from_static("no-store"), body)
 }
 
@@ -74,11 +76,9 @@ pub fn send_kept(
 }
 
 fn fill_status(response: &mut Response, alloc: Global) -> Result<(), AllocError>
-    ensures fields { OnOk result (fields_of response.new ≡ fields_of response.old
-        ++ body_fields (codes "text/plain; charset=utf-8") (codes "no-store")) }
-    ensures status { response.new.status ≡ response.old.status }
-    ensures body { OnOk result (response.new.body.items
-        ≡ response.old.body.items ++ code_digits response.old.status) }
+    ensures { OnOk result (Extends
+        (body_fields (codes "text/plain; charset=utf-8") (codes "no-store"))
+        (code_digits response.old.status) response.old response.new) }
 {
     let body = Vec::from_slice(alloc, response.status.as_str().as_bytes())?;
     fill(
@@ -89,12 +89,12 @@ fn fill_status(response: &mut Response, alloc: Global) -> Result<(), AllocError>
     )
 }
 
-/// Refuses a path that is not served.
-pub fn refuse_path(response: &mut Response, alloc: Global) -> Result<(), AllocError>
+/// Refuses a request: a host or a path that is not served.
+pub fn refuse(response: &mut Response, status: StatusCode, alloc: Global) -> Result<(), AllocError>
     requires { IsBlank response.old }
-    ensures { OnOk result (IsRefusal 404 [] response.new) }
+    ensures { OnOk result (IsRefusal status [] response.new) }
 {
-    response.status = StatusCode::NOT_FOUND;
+    response.status = status;
     fill_status(response, alloc)
 }
 
@@ -107,4 +107,18 @@ pub fn refuse_method(response: &mut Response, alloc: Global) -> Result<(), Alloc
     response.status = StatusCode::METHOD_NOT_ALLOWED;
     response.add_header(ALLOW, HeaderValue::from_static("GET, HEAD"))?;
     fill_status(response, alloc)
+}
+
+/// Adds the date of a clock, in seconds since 1970. A clock of 32 bits has a date, and a date no byte
+/// that a field may not have, so the only error is out of memory.
+pub fn add_date(response: &mut Response, alloc: Global, clock: u32) -> Result<(), AllocError>
+    ensures { OnOk result (IsDated clock response.old response.new) }
+{
+    let Ok(date) = HttpDate::from_unix_secs(u64::from(clock)) else {
+        return Err(AllocError);
+    };
+    let Ok(value) = HeaderValue::from_bytes(alloc, &date.to_bytes()) else {
+        return Err(AllocError);
+    };
+    response.add_header(DATE, value)
 }

@@ -2,9 +2,11 @@
 ghost use Rattle.std.specs.Prelude.{◌≡◌, map, IfOk};
 ghost use Rattle.std.specs.List.{AllZip};
 ghost use Rattle.status_memory.specs.Memory.{is_old};
+ghost use Rattle.statusweb.specs.Service.{IsStatusText, IsStatusBody};
 ghost use Rattle.statusweb.specs.Pages.{IsPageOf, IsOldOf, since_in, IsShown, IsPage, json_body, metrics_body};
 
 use crate::causes::{NoPage, cause_of, read_cause};
+use crate::service::Form;
 use crate::watching::{Seen, Shared};
 use crate::words::Settings;
 use status_export::{json_text, metrics_text};
@@ -57,9 +59,8 @@ fn since_in(last: &Option<Kept<Shared>>) -> &[u32]
     }
 }
 
-/// The gateways of which this is kept, as they are shown at a moment. The only error is out of
-/// memory.
-pub fn gateways_of<'t>(
+// The gateways of which this is kept, as they are shown at a moment.
+fn gateways_of<'t>(
     alloc: Global,
     seen: &'t [Seen<'t>],
     now: u64,
@@ -79,8 +80,8 @@ pub fn gateways_of<'t>(
     Ok(gateways)
 }
 
-/// The page for a browser. The only error is out of memory.
-pub fn html_body(
+// The page for a browser.
+fn html_body(
     alloc: Global,
     settings: &Settings<'_>,
     gateways: &[Gateway<'_>],
@@ -105,12 +106,13 @@ pub fn html_body(
         objects: objects.as_slice(),
         comments: comments.as_slice(),
         downtimes: downtimes.as_slice(),
+        changes: &[],
     };
     Ok(html_page(alloc, &view)?.into_bytes())
 }
 
-/// The same for scripts. The only error is out of memory.
-pub fn json_body(
+// The same for scripts.
+fn json_body(
     alloc: Global,
     settings: &Settings<'_>,
     gateways: &[Gateway<'_>],
@@ -124,10 +126,50 @@ pub fn json_body(
     json_text(alloc, gateways, objects.as_slice(), &query)
 }
 
-/// The metrics of all objects. The only error is out of memory.
-pub fn metrics_body(alloc: Global, gateways: &[Gateway<'_>]) -> Result<Vec<u8>, AllocError>
+// The metrics of all objects.
+fn metrics_body(alloc: Global, gateways: &[Gateway<'_>]) -> Result<Vec<u8>, AllocError>
     ensures { IfOk result (λ body. body.items ≡ metrics_body gateways.now) }
 {
     let objects = merge(alloc, gateways)?;
     metrics_text(alloc, gateways, objects.as_slice())
+}
+
+fn status_text(
+    alloc: Global,
+    settings: &Settings<'_>,
+    gateways: &[Gateway<'_>],
+    query: &str,
+    clock: u32,
+    form: Form,
+) -> Result<Vec<u8>, AllocError>
+    ensures { IfOk result (λ body.
+        IsStatusText settings.now gateways.now query.now clock form body.items) }
+{
+    match form {
+        Form::Html => html_body(alloc, settings, gateways, query, clock),
+        Form::Json => json_body(alloc, settings, gateways, query),
+        Form::Metrics => metrics_body(alloc, gateways),
+    }
+}
+
+/// The status of the gateways of which this is kept, in a form, for an answer that has a body;
+/// nothing for another. The only error is out of memory.
+pub fn status_body<'t>(
+    alloc: Global,
+    settings: &Settings<'_>,
+    seen: &'t [Seen<'t>],
+    query: &str,
+    clock: u32,
+    form: Form,
+    whole: bool,
+) -> Result<Vec<u8>, AllocError>
+    ensures { IfOk result (λ body.
+        IsStatusBody whole settings.now seen.now query.now clock form body.items) }
+{
+    if whole {
+        let gateways = gateways_of(alloc, seen, u64::from(clock))?;
+        status_text(alloc, settings, gateways.as_slice(), query, clock, form)
+    } else {
+        Ok(Vec::new(alloc))
+    }
 }

@@ -6,7 +6,9 @@
 mod answers;
 mod bodies;
 mod causes;
+mod changing;
 mod fault;
+mod hosts;
 mod service;
 mod serving;
 mod watching;

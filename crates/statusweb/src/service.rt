@@ -1,14 +1,18 @@
 //! What is answered to a request.
-ghost use Rattle.std.specs.Prelude.{◌≡◌, [], ◌∷◌, ◌++◌, Some, OnOk, codes};
+ghost use Rattle.std.specs.Prelude.{◌≡◌, Some, OnOk, codes};
+ghost use Rattle.std.specs.List.{list_any};
+ghost use Rattle.http.specs.Request.{head_of};
 ghost use Rattle.http_server.specs.Response.{IsBlank};
 ghost use Rattle.statusweb.specs.Answers.{IsKept};
-ghost use Rattle.statusweb.specs.Service.{route_of, IsShownAt, IsAnswer};
+ghost use Rattle.statusweb.specs.Service.{route_of, body_asked, status_kind, is_reached, reached_code, status_code, IsStatusOf, AreChangesOf, IsMethodAnswer, IsAnswerAt, IsAnswer};
 
-use crate::answers::{refuse_method, refuse_path, send, send_kept};
-use crate::bodies::{gateways_of, html_body, json_body, metrics_body};
-use crate::watching::{Watch, clock};
+use crate::answers::{add_date, refuse, refuse_method, send, send_kept};
+use crate::bodies::status_body;
+use crate::changing::{ChangesForm, changes_body, kind_of};
+use crate::hosts::answers_host;
+use crate::watching::{Seen, Watch, clock};
 use bytes::Bytes;
-use http::{HeaderValue, Request};
+use http::{HeaderValue, Request, StatusCode};
 use http_server::{Response, Service};
 use status_view::STYLE;
 use std::alloc::{AllocError, Global};
@@ -27,6 +31,7 @@ pub enum Form {
 #[derive(Clone, Copy)]
 pub enum Route {
     Status(Form),
+    Changes(ChangesForm),
     Style,
 }
 
@@ -39,6 +44,12 @@ fn route_of(path: &str) -> Option<Route>
         Some(Route::Status(Form::Json))
     } else if path == "/metrics" {
         Some(Route::Status(Form::Metrics))
+    } else if path == "/changes" {
+        Some(Route::Changes(ChangesForm::Html))
+    } else if path == "/changes.json" {
+        Some(Route::Changes(ChangesForm::Lines))
+    } else if path == "/changes.atom" {
+        Some(Route::Changes(ChangesForm::Feed))
     } else if path == "/style.css" {
         Some(Route::Style)
     } else {
@@ -64,41 +75,148 @@ fn send_style(alloc: Global, response: &mut Response) -> Result<(), AllocError>
     send_kept(response, kind, body)
 }
 
+fn status_kind(form: Form) -> HeaderValue
+    ensures { result.bytes ≡ status_kind form }
+{
+    HeaderValue::from_static(match form {
+        Form::Html => "text/html; charset=utf-8",
+        Form::Json => "application/json",
+        Form::Metrics => "text/plain; version=0.0.4; charset=utf-8",
+    })
+}
+
+fn is_any_reached(seen: &[Seen<'_>]) -> bool
+    ensures { result ≡ list_any is_reached seen.now }
+{
+    seen.iter().any(|one| one.memory.last.is_some())
+}
+
+// Without a page of any gateway the service is unavailable.
+fn reached_code(seen: &[Seen<'_>]) -> StatusCode
+    ensures { result ≡ reached_code seen.now }
+{
+    if is_any_reached(seen) {
+        StatusCode::OK
+    } else {
+        StatusCode::SERVICE_UNAVAILABLE
+    }
+}
+
+fn status_code(seen: &[Seen<'_>], form: Form) -> StatusCode
+    ensures { result ≡ status_code seen.now form }
+{
+    match form {
+        Form::Html | Form::Json => reached_code(seen),
+        Form::Metrics => StatusCode::OK,
+    }
+}
+
 // Answers with the status of the gateways.
-fn send_status<R: Clock + Wait>(
+fn send_status<R: Wait>(
     web: &Web<'_, R>,
+    now: u32,
     form: Form,
     query: &str,
+    whole: bool,
     response: &mut Response,
 ) -> Result<(), AllocError>
     requires { IsBlank response.old }
-    ensures { OnOk result (IsShownAt web.now.watch.now.settings.now query.now
-        (Some (Route.Status form)) response.new) }
+    ensures { let settings = web.now.watch.now.settings.now in
+        OnOk result (IsStatusOf settings now query.now form whole response.new) }
 {
-    let alloc = web.alloc;
+    let seen = web.watch.seen(web.rt, web.alloc)?;
+    let known = seen.as_slice();
+    let body = status_body(
+        web.alloc,
+        web.watch.settings,
+        known,
+        query,
+        now,
+        form,
+        whole,
+    )?;
+    send(response, status_code(known, form), status_kind(form), body)
+}
+
+// Answers with the changes of states.
+fn send_changes<R: Wait>(
+    web: &Web<'_, R>,
+    now: u32,
+    form: ChangesForm,
+    whole: bool,
+    response: &mut Response,
+) -> Result<(), AllocError>
+    requires { IsBlank response.old }
+    ensures { let settings = web.now.watch.now.settings.now in
+        OnOk result (AreChangesOf settings now form whole response.new) }
+{
+    let seen = web.watch.seen(web.rt, web.alloc)?;
     let settings = web.watch.settings;
-    let now = clock(web.rt);
-    let seen = web.watch.seen(web.rt, alloc)?;
-    let shown = gateways_of(alloc, seen.as_slice(), u64::from(now))?;
-    let gateways = shown.as_slice();
-    match form {
-        Form::Html => {
-            let body = html_body(alloc, settings, gateways, query, now)?;
-            send(
-                response,
-                HeaderValue::from_static("text/html; charset=utf-8"),
-                body,
-            )
-        }
-        Form::Json => {
-            let body = json_body(alloc, settings, gateways, query)?;
-            send(response, HeaderValue::from_static("application/json"), body)
-        }
-        Form::Metrics => {
-            let body = metrics_body(alloc, gateways)?;
-            let kind = HeaderValue::from_static("text/plain; version=0.0.4; charset=utf-8");
-            send(response, kind, body)
-        }
+    let body = changes_body(web.alloc, settings, seen.as_slice(), now, form, whole)?;
+    send(response, StatusCode::OK, kind_of(form), body)
+}
+
+fn send_path<R: Wait>(
+    web: &Web<'_, R>,
+    now: u32,
+    request: &Request<Bytes>,
+    whole: bool,
+    response: &mut Response,
+) -> Result<(), AllocError>
+    requires { IsBlank response.old }
+    ensures { OnOk result (IsMethodAnswer (Some whole) web.now.watch.now.settings.now now
+        (head_of request.now) response.new) }
+{
+    let query = request.uri().query().unwrap_or("");
+    match route_of(request.uri().path()) {
+        None => refuse(response, StatusCode::NOT_FOUND, web.alloc),
+        Some(Route::Style) => send_style(web.alloc, response),
+        Some(Route::Status(form)) => send_status(web, now, form, query, whole, response),
+        Some(Route::Changes(form)) => send_changes(web, now, form, whole, response),
+    }
+}
+
+fn body_asked(method: &str) -> Option<bool>
+    ensures { result ≡ body_asked method.now }
+{
+    match method {
+        "GET" => Some(true),
+        "HEAD" => Some(false),
+        _ => None,
+    }
+}
+
+fn answer_method<R: Wait>(
+    web: &Web<'_, R>,
+    now: u32,
+    request: &Request<Bytes>,
+    response: &mut Response,
+) -> Result<(), AllocError>
+    requires { IsBlank response.old }
+    ensures { let head = head_of request.now in OnOk result (IsMethodAnswer
+        (body_asked head.method) web.now.watch.now.settings.now now head response.new) }
+{
+    match body_asked(request.method().as_str()) {
+        Some(whole) => send_path(web, now, request, whole, response),
+        None => refuse_method(response, web.alloc),
+    }
+}
+
+// Answers a request, without the date.
+fn answer<R: Wait>(
+    web: &Web<'_, R>,
+    now: u32,
+    request: &Request<Bytes>,
+    response: &mut Response,
+) -> Result<(), AllocError>
+    requires { IsBlank response.old }
+    ensures { OnOk result (IsAnswerAt web.now.watch.now.settings.now now
+        (head_of request.now) response.new) }
+{
+    if answers_host(web.watch.settings, request) {
+        answer_method(web, now, request, response)
+    } else {
+        refuse(response, StatusCode::MISDIRECTED_REQUEST, web.alloc)
     }
 }
 
@@ -112,15 +230,8 @@ impl<'a, R: Clock + Wait> Service for Web<'a, R> {
         request: &Request<Bytes>,
         response: &mut Response,
     ) -> Result<(), AllocError> {
-        let method = request.method().as_str();
-        if method != "GET" && method != "HEAD" {
-            return refuse_method(response, self.alloc);
-        }
-        let query = request.uri().query().unwrap_or("");
-        match route_of(request.uri().path()) {
-            None => refuse_path(response, self.alloc),
-            Some(Route::Style) => send_style(self.alloc, response),
-            Some(Route::Status(form)) => send_status(self, form, query, response),
-        }
+        let now = clock(self.rt);
+        answer(self, now, request, response)?;
+        add_date(response, self.alloc, now)
     }
 }

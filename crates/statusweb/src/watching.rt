@@ -1,8 +1,10 @@
 //! What is kept of each gateway's page. A thread for each gateway fetches its page again and again,
 //! so nobody who asks waits for a gateway.
-ghost use Rattle.std.specs.Prelude.{◌≡◌, ◌<◌, length, map, IfOk, MatchResult};
+ghost use Rattle.std.specs.Prelude.{◌≡◌, ◌<◌, List, length, map, IfOk, MatchResult};
 ghost use Rattle.status_reading.specs.Faults.{IsFaultOf};
-ghost use Rattle.statusweb.specs.Watching.{text_of, place_of, seen_place, last_view, memory_view, IsPageIn, IsFetchOf};
+ghost use Rattle.status_reading.specs.Rows.{PageView};
+ghost use Rattle.status_memory.specs.History.{IsHistoryOf};
+ghost use Rattle.statusweb.specs.Watching.{IsObserved, LeavesHistory, text_of, place_of, seen_place, last_view, memory_view, IsPageIn, IsFetchOf};
 
 use crate::causes::NoPage;
 use crate::words::{Place, Settings};
@@ -66,7 +68,9 @@ pub fn clock<R: Clock>(rt: &R) -> u32 {
 
 // The page that a text is, as it is kept. The history takes it in.
 fn page_in(alloc: Global, history: &mut History, text: Vec<u8>) -> Result<Page<Shared>, ReadFault>
-    ensures { MatchResult result (IsPageIn text.items) (IsFaultOf text.items) }
+    ensures page { MatchResult result (IsPageIn text.items) (IsFaultOf text.items) }
+    ensures history { (before : List PageView) → IsHistoryOf before history.old
+        → IsObserved before text.items history.new result }
 {
     let page = read_status_page(alloc, text.as_slice())?;
     history.observe(alloc, &page)?;
@@ -92,7 +96,9 @@ fn fetch_of(
     fetched: Fetched,
     moment: u64,
 ) -> Fetch<Shared, NoPage>
-    ensures { IsFetchOf (text_of fetched) moment result }
+    ensures fetch { IsFetchOf (text_of fetched) moment result }
+    ensures history { (before : List PageView) → IsHistoryOf before history.old
+        → LeavesHistory before (text_of fetched) history.new result }
 {
     match fetched {
         Ok(text) => match page_in(alloc, history, text) {

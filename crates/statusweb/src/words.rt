@@ -7,7 +7,7 @@ ghost use Rattle.clap.specs.Words.{new_app, app_of, rule_of, found_of, rows_of, 
 ghost use Rattle.statusweb.specs.declared.words.Settings.{Settings as Asked};
 ghost use Rattle.statusweb.specs.declared.words.Place.{Place as Named};
 ghost use Rattle.statusweb.specs.declared.words.WordsFault.TheVariants.{BadArguments};
-ghost use Rattle.statusweb.specs.Words.{option_of, gateway, unnamed, program, name_of, address_of, Names, NameAll, WritesRefresh, WritesEvery, value_of, gateways_of, Sets, AskFor};
+ghost use Rattle.statusweb.specs.Words.{option_of, gateway, host, hosts_of, unnamed, program, name_of, address_of, Names, NameAll, WritesRefresh, WritesEvery, value_of, gateways_of, Sets, AskFor};
 
 use clap::error::ErrorKind;
 use clap::{Arg, ArgAction, ArgMatches, Command};
@@ -31,13 +31,16 @@ pub struct Settings<'a> {
     pub refresh: u32,
     /// The seconds between two fetches of a gateway's page.
     pub every: u32,
+    /// The names of hosts under which it answers too.
+    pub hosts: Vec<&'a str>,
 }
 
 /// Why the words are no settings.
 #[derive(Clone, Copy, Debug, PartialEq, Eq)]
 pub enum WordsFault {
-    /// No gateway, two of one name, an address that is no IP address and port, a refresh that is
-    /// not 0 or 2 to 3600, seconds between fetches that are not 1 to 30, or an unknown word.
+    /// No gateway, one of no name, two of one name, an address that is no IP address and port, a
+    /// refresh that is not 0 or 2 to 3600, seconds between fetches that are not 1 to 30, or an
+    /// unknown word.
     BadArguments,
     /// Memory ran out.
     OutOfMemory,
@@ -82,6 +85,16 @@ fn gateway<'a>(alloc: Global) -> Arg<'a>
         .action(ArgAction::Append)
 }
 
+// `--host VALUE`, which may be there more than once.
+fn host<'a>(alloc: Global) -> Arg<'a>
+    ensures rule { rule_of result ≡ host }
+    ensures local { result.global ≡ false }
+{
+    Arg::new(alloc, "host")
+        .long("host")
+        .action(ArgAction::Append)
+}
+
 fn unnamed<'a>(alloc: Global) -> Command<'a>
     ensures { app_of result ≡ unnamed (new_app (codes "statusweb")) }
 {
@@ -96,7 +109,8 @@ fn command_line<'a>(alloc: Global) -> Result<Command<'a>, AllocError>
         .arg(gateway(alloc))?
         .arg(option(alloc, "title"))?
         .arg(option(alloc, "refresh"))?
-        .arg(option(alloc, "every"))
+        .arg(option(alloc, "every"))?
+        .arg(host(alloc))
 }
 
 fn address_in(text: &str) -> Result<SocketAddr, WordsFault>
@@ -125,6 +139,9 @@ fn place_in<'a>(value: &'a str) -> Result<Place<'a>, WordsFault>
         (λ fault. (place : Named) → Names value.entry.now place → ⊥) }
 {
     let (name, text) = parts_of(value);
+    if name.is_empty() {
+        return Err(WordsFault::BadArguments);
+    }
     match address_in(text) {
         Ok(address) => Ok(Place { name, address }),
         Err(fault) => Err(fault),
@@ -185,6 +202,16 @@ fn value_of<'a>(matches: &ArgMatches<'a>, name: &str, default: &'a str) -> &'a s
     }
 }
 
+fn hosts_in<'a>(alloc: Global, matches: &ArgMatches<'a>) -> Result<Vec<&'a str>, AllocError>
+    ensures { IfOk result (λ hosts.
+        texts hosts.items ≡ hosts_of (rows_of (found_of matches.now))) }
+{
+    match matches.get_strs("host") {
+        Some(values) => Vec::from_slice(alloc, values),
+        None => Ok(Vec::new(alloc)),
+    }
+}
+
 fn settings_in<'a>(alloc: Global, matches: &ArgMatches<'a>) -> Result<Settings<'a>, WordsFault>
     ensures found { IfOk result (Sets (rows_of (found_of matches.now))) }
     ensures refused { result ≡ Err BadArguments → (settings : Asked)
@@ -200,6 +227,7 @@ fn settings_in<'a>(alloc: Global, matches: &ArgMatches<'a>) -> Result<Settings<'
     let refresh = refresh_in(value_of(matches, "refresh", "30"))?;
     let every = every_in(value_of(matches, "every", "5"))?;
     let title = value_of(matches, "title", "nscagate");
+    let hosts = hosts_in(alloc, matches)?;
     match places_in(alloc, values) {
         Ok(places) => Ok(Settings {
             listen,
@@ -207,13 +235,15 @@ fn settings_in<'a>(alloc: Global, matches: &ArgMatches<'a>) -> Result<Settings<'
             title,
             refresh,
             every,
+            hosts,
         }),
         Err(fault) => Err(fault),
     }
 }
 
 /// Reads the words after the program's name: `--listen ADDRESS`, `--gateway [NAME=]ADDRESS` once or
-/// more, `--title TEXT`, `--refresh SECONDS` and `--every SECONDS`, in any spelling that `clap` reads.
+/// more, `--title TEXT`, `--refresh SECONDS`, `--every SECONDS` and `--host NAME` as often as needed, in
+/// any spelling that `clap` reads.
 ///
 /// `BadArguments` as its variant says. `OutOfMemory` may be returned in place of any answer.
 pub fn read_words<'a>(alloc: Global, words: &'a [String]) -> Result<Settings<'a>, WordsFault>

@@ -1,7 +1,8 @@
-use status_merge::{Gateway, merge, read_query};
-use status_reading::{ReadFault, read_status_page};
-use status_view::{View, html_page};
-use std::alloc::Global;
+use status_memory::{GatewayChange, StateChange};
+use status_merge::{Gateway, Query, merge, read_query};
+use status_reading::{ReadFault, State, read_status_page};
+use status_view::{View, changes_feed, changes_page, html_page};
+use std::alloc::{AllocError, Global};
 use std::test::Fail;
 
 const PAGE: &[u8] = b"status 1795464900\n\
@@ -12,41 +13,44 @@ downtime;1;web/1;HTTP;fixed;0;1795464800;1795465000;0;1795464800;ann;x\n";
 const HTML: &[u8] = b"\
 <!DOCTYPE html>\n<html lang=\"en\"><head><meta charset=\"utf-8\"><meta name=\"viewport\" con\
 tent=\"width=device-width,initial-scale=1\"><meta http-equiv=\"refresh\" content=\"30\"><lin\
-k rel=\"stylesheet\" href=\"/style.css\"><title>A&amp;B</title></head>\n<body><main>\n<heade\
-r><h1><a href=\"/\">A&amp;B</a></h1><p>east at 2026-11-23 20:15:00Z</p></header>\n<nav class\
-=\"counts\"><div class=\"group\"><span class=\"of\">All</span><a class=\"tile unhandled zero\
-\" href=\"/?state=unhandled\"><b>0</b> unhandled</a><a class=\"tile stale\" href=\"/?state=s\
-tale\"><b>1</b> stale</a><a class=\"tile all\" aria-current=\"true\" href=\"/?state=all\"><b\
->2</b> objects</a></div><div class=\"group\"><span class=\"of\">Hosts</span><a class=\"tile \
-down zero\" href=\"/?state=down\"><b>0</b> down</a><a class=\"tile unreachable zero\" href=\
-\"/?state=unreachable\"><b>0</b> unreachable</a><a class=\"tile up\" href=\"/?state=up\
-\"><b>1</b> up</a><a class=\"tile pending zero\" href=\"/?state=pending\"><b>0</b> pending</\
-a></div><div class=\"group\"><span class=\"of\">Services</span><a class=\"tile critical\" hr\
-ef=\"/?state=critical\"><b>1</b> critical</a><a class=\"tile warning zero\" href=\"/?state=w\
-arning\"><b>0</b> warning</a><a class=\"tile unknown zero\" href=\"/?state=unknown\"><b>0</b\
-> unknown</a><a class=\"tile ok zero\" href=\"/?state=ok\"><b>0</b> ok</a><a class=\"tile pe\
-nding zero\" href=\"/?state=pending\"><b>0</b> pending</a></div></nav>\n<form method=\"get\
-\" action=\"/\"><label>State <select name=\"state\"><option selected>all</option><option>pro\
-blems</option><option>unhandled</option><option>stale</option><option>critical</option><opti\
-on>warning</option><option>unknown</option><option>ok</option><option>down</option><option>u\
-nreachable</option><option>up</option><option>pending</option></select></label> <label>Host \
-<input name=\"host\" value=\"\"></label> <label>Refresh <input name=\"refresh\" type=\"numbe\
-r\" min=\"0\" max=\"3600\" value=\"30\"></label> <button>Show</button></form>\n<h2>Hosts an\
-d services</h2><p class=\"soft\">2 of 2 shown</p>\n<table><thead><tr><th>State</th><th>Objec\
-t</th><th>Marks</th><th>Since</th><th>Last result</th><th>Output</th></tr></thead><tbody>\n\
-<tr class=\"up handled\"><td class=\"cell\"><span class=\"badge state\">UP</span></td><td cl\
-ass=\"name\"><a href=\"/?host=web%2F1\">web/1</a></td><td class=\"cell\"></td><td class=\"nu\
-m cell\" data-name=\"since\" title=\"2026-11-23 20:11:00Z\">4 min ago</td><td class=\"nu\
-m cell\" title=\"2026-11-23 20:14:00Z\">60 s ago</td><td class=\"out\"></td></tr>\n\
-<tr class=\"critical handled\"><td class=\"cell\"><span class=\"badge state\">CRITICAL</span></td>\
-<td class=\"name\"><a href=\"/?host=web%2F1\">web/1</a> <span class=\"soft\">/</span> HTTP</td><td cl\
-ass=\"cell\"><span class=\"badge stale\">stale</span> <span class=\"badge\">acknowledged, st\
-icky</span> <span class=\"badge\">downtime 1</span></td><td class=\"num cell\" data-name=\"si\
-nce\" title=\"2026-11-23 20:15:00Z\">0 s ago</td><td class=\"num cell\" title=\"2026-\
-11-23 20:13:30Z\">90 s ago</td><td class=\"out\">a &lt;b&gt;\n10s</td></tr>\n\
-</tbody></table>\n\
-<footer><a href=\"/status.json\">status.json</a> &middot; <a href=\"/metrics\">metrics</a\
-></footer>\n</main></body></html>\n";
+k rel=\"stylesheet\" href=\"/style.css\"><link rel=\"alternate\" type=\"application/atom+xml\
+\" href=\"/changes.atom\"><title>A&amp;B</title></head>\n<body><header><h1><a href=\"/\">A&a\
+mp;B</a></h1><nav aria-label=\"Pages\"><a href=\"/\">Status</a> <a href=\"/changes\">Changes\
+</a></nav><p><bdi>east</bdi> at <time datetime=\"2026-11-23 20:15:00Z\">2026-11-23 20:15:00Z\
+</time></p></header>\n<main>\n<nav class=\"counts\" aria-label=\"Counts\"><div class=\"group\
+\"><span class=\"of\">All</span><a class=\"tile unhandled zero\" href=\"/?state=unhandled\">\
+<b>0</b> unhandled</a><a class=\"tile stale\" href=\"/?state=stale\"><b>1</b> stale</a><a cl\
+ass=\"tile all\" aria-current=\"true\" href=\"/?state=all\"><b>2</b> objects</a></div><div c\
+lass=\"group\"><span class=\"of\">Hosts</span><a class=\"tile down zero\" href=\"/?state=dow\
+n\"><b>0</b> down</a><a class=\"tile unreachable zero\" href=\"/?state=unreachable\"><b>0</b\
+> unreachable</a><a class=\"tile up\" href=\"/?state=up\"><b>1</b> up</a><a class=\"tile pen\
+ding zero\" href=\"/?state=pending\"><b>0</b> pending</a></div><div class=\"group\"><span cl\
+ass=\"of\">Services</span><a class=\"tile critical\" href=\"/?state=critical\"><b>1</b> crit\
+ical</a><a class=\"tile warning zero\" href=\"/?state=warning\"><b>0</b> warning</a><a class\
+=\"tile unknown zero\" href=\"/?state=unknown\"><b>0</b> unknown</a><a class=\"tile ok zero\
+\" href=\"/?state=ok\"><b>0</b> ok</a><a class=\"tile pending zero\" href=\"/?state=pending\
+\"><b>0</b> pending</a></div></nav>\n<form method=\"get\" action=\"/\" role=\"search\" aria-\
+label=\"Objects\"><label>State <select name=\"state\"><option selected>all</option><option>p\
+roblems</option><option>unhandled</option><option>stale</option><option>critical</option><op\
+tion>warning</option><option>unknown</option><option>ok</option><option>down</option><option\
+>unreachable</option><option>up</option><option>pending</option></select></label> <label>Hos\
+t <input name=\"host\" value=\"\"></label> <label>Refresh <input name=\"refresh\" type=\"num\
+ber\" min=\"0\" max=\"3600\" value=\"30\"></label> <button>Show</button></form>\n<table><cap\
+tion><h2>Hosts and services</h2>2 of 2 shown</caption>\n<thead><tr><th scope=\"col\">State</\
+th><th scope=\"col\">Object</th><th scope=\"col\">Marks</th><th scope=\"col\">Since</th><th \
+scope=\"col\">Last result</th><th scope=\"col\">Output</th></tr></thead><tbody>\n<tr class=\
+\"up handled\"><td class=\"cell\"><span class=\"badge state\">UP</span></td><td class=\"name\
+\"><a href=\"/?host=web%2F1\"><bdi>web/1</bdi></a></td><td class=\"cell\"></td><td class=\"n\
+um cell\" data-name=\"since\" title=\"2026-11-23 20:11:00Z\">4 min ago</td><td class=\"num c\
+ell\" title=\"2026-11-23 20:14:00Z\">60 s ago</td><td class=\"out\"></td></tr>\n<tr class=\"\
+critical handled\"><td class=\"cell\"><span class=\"badge state\">CRITICAL</span></td><td cl\
+ass=\"name\"><a href=\"/?host=web%2F1\"><bdi>web/1</bdi></a> <span class=\"soft\">/</span> <\
+bdi>HTTP</bdi></td><td class=\"cell\"><span class=\"badge stale\">stale</span> <span class=\
+\"badge\">acknowledged, sticky</span> <span class=\"badge\">downtime 1</span></td><td class=\
+\"num cell\" data-name=\"since\" title=\"2026-11-23 20:15:00Z\">0 s ago</td><td class=\"num \
+cell\" title=\"2026-11-23 20:13:30Z\">90 s ago</td><td class=\"out\">a &lt;b&gt;\n10s</td></\
+tr>\n</tbody></table>\n</main><footer><a href=\"/status.json\">status.json</a> &middot; <a h\
+ref=\"/metrics\">metrics</a></footer>\n</body></html>\n";
 
 // The page for a browser of one gateway's page.
 fn shown(alloc: Global) -> Result<Vec<u8>, ReadFault> {
@@ -69,6 +73,7 @@ fn shown(alloc: Global) -> Result<Vec<u8>, ReadFault> {
         objects: objects.as_slice(),
         comments: &[],
         downtimes: &[],
+        changes: &[],
     };
     Ok(html_page(alloc, &view)?.into_bytes())
 }
@@ -77,5 +82,73 @@ fn shown(alloc: Global) -> Result<Vec<u8>, ReadFault> {
 fn an_object_is_shown(rt: HostRuntime) -> Result<(), Fail> {
     let page = shown(rt.alloc())?;
     assert_eq!(rt; page.as_slice(), HTML);
+    Ok(())
+}
+
+const CHANGES: &[u8] = b"\
+<!DOCTYPE html>\n<html lang=\"en\"><head><meta charset=\"utf-8\"><meta name=\"viewport\" con\
+tent=\"width=device-width,initial-scale=1\"><meta http-equiv=\"refresh\" content=\"30\"><lin\
+k rel=\"stylesheet\" href=\"/style.css\"><link rel=\"alternate\" type=\"application/atom+xml\
+\" href=\"/changes.atom\"><title>A&amp;B</title></head>\n<body><header><h1><a href=\"/\">A&a\
+mp;B</a></h1><nav aria-label=\"Pages\"><a href=\"/\">Status</a> <a href=\"/changes\">Changes\
+</a></nav></header>\n<main>\n<table><caption><h2>Changes of states</h2>1 shown, the newest f\
+irst: of each gateway the last 1,000 since this program started</caption>\n<thead><tr><th sc\
+ope=\"col\">Time</th><th scope=\"col\">Object</th><th scope=\"col\">From</th><th scope=\"col\
+\">To</th><th scope=\"col\">Gateway</th></tr></thead><tbody>\n<tr class=\"critical\"><td cla\
+ss=\"num cell\"><time datetime=\"2026-11-23 20:15:00Z\">2026-11-23 20:15:00Z</time></td><td \
+class=\"name\"><a href=\"/?host=web%2F1\"><bdi>web/1</bdi></a> <span class=\"soft\">/</span> \
+<bdi>HTTP</bdi></td><td class=\"cell\" data-name=\"from\">OK</td><td class=\"cell\"><span cl\
+ass=\"badge state\">CRITICAL</span></td><td class=\"cell soft\" data-name=\"at\">east</td></\
+tr>\n</tbody></table>\n</main><footer><a href=\"/changes.json\">changes.json</a> &middot; <a \
+href=\"/changes.atom\">changes.atom</a></footer>\n</body></html>\n";
+
+const FEED: &[u8] = b"\
+<?xml version=\"1.0\" encoding=\"utf-8\"?>\n<feed xmlns=\"http://www.w3.org/2005/Atom\"><id>\
+nscagate:changes</id><title>A&amp;B</title><updated>2026-11-23T20:15:00Z</updated><author><n\
+ame>statusweb</name></author><link rel=\"self\" href=\"/changes.atom\"/><link href=\"/change\
+s\"/>\n<entry><id>nscagate:change?gateway=east&amp;host=web%2F1&amp;service=HTTP&amp;moment=\
+1795464900&amp;from=OK&amp;to=CRITICAL</id><title>web/1 / HTTP: OK to CRITICAL at east</titl\
+e><updated>2026-11-23T20:15:00Z</updated><link href=\"/?host=web%2F1\"/></entry>\n</feed>\n";
+
+// A service that is CRITICAL now.
+fn change(alloc: Global) -> Result<StateChange, AllocError> {
+    Ok(StateChange {
+        moment: 1_795_464_900,
+        host: Vec::from_slice(alloc, b"web/1")?,
+        service: Vec::from_slice(alloc, b"HTTP")?,
+        from: State::Ok,
+        to: State::Critical,
+    })
+}
+
+// What its pages show.
+fn changes_view<'a>(query: &'a Query, changes: &'a [GatewayChange<'a>]) -> View<'a> {
+    View {
+        title: "A&B",
+        clock: 1_795_465_000,
+        refresh: 30,
+        query,
+        gateways: &[],
+        all: &[],
+        objects: &[],
+        comments: &[],
+        downtimes: &[],
+        changes,
+    }
+}
+
+#[test]
+fn a_change_is_shown(rt: HostRuntime) -> Result<(), Fail> {
+    let query = read_query(rt.alloc(), "", 30)?;
+    let change = change(rt.alloc())?;
+    let changes = [GatewayChange {
+        gateway: "east",
+        change: &change,
+    }];
+    let view = changes_view(&query, &changes);
+    let page = changes_page(rt.alloc(), &view)?.into_bytes();
+    assert_eq!(rt; page.as_slice(), CHANGES);
+    let feed = changes_feed(rt.alloc(), &view)?.into_bytes();
+    assert_eq!(rt; feed.as_slice(), FEED);
     Ok(())
 }

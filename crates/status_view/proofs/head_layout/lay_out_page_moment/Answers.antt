@@ -7,4 +7,4 @@ pub returns : goal.returns
 unfolding page_moment_nodes
 returns c =
     ended c.put-2.result _ _ (c.args.layout.now ++ page_moment_nodes c.args.index c.args.moment) c.put-2.ensures
-    (rw (c.in_ok-lay_out_moment.ensures, c.in_ok-put.ensures) (simp append_assoc))
+    (rw (c.in_ok-lay_out_time.ensures, c.in_ok-put.ensures) (simp append_assoc))

@@ -10,9 +10,9 @@ returns c =
     (c.args.layout.now ++ window_nodes c.args.row.now)
     c.lay_out_duration_if.ensures
     (rw (
-      c.in_ok-lay_out_moment-2.ensures,
+      c.in_ok-lay_out_time-2.ensures,
       c.in_ok-put-3.ensures,
-      c.in_ok-lay_out_moment.ensures,
+      c.in_ok-lay_out_time.ensures,
       c.in_ok-put-2.ensures,
       c.in_ok-put_if.ensures,
       c.in_ok-put.ensures,

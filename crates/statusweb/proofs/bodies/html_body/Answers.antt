@@ -1,4 +1,4 @@
-use Rattle.std.proofs.Common.{ap, map, refl, ◌∙◌}
+use Rattle.std.proofs.Common.{[], ap, map, refl, ◌∙◌}
 use Rattle.status_merge.specs.Entries.{comment_view, comment_lines, downtime_view, downtime_lines}
 use Rattle.status_view.specs.declared.view.View.{View}
 use Rattle.statusweb.proofs.BodySteps.{selected_as, page_of}
@@ -18,6 +18,7 @@ returns c =
       objects = c.as_slice-3.result;
       comments = c.as_slice-4.result;
       downtimes = c.as_slice-5.result;
+      changes = record { ref_ptr = (0, 0); now = [] };
     } in
     page_of _ _ _ _ _ view (record {
       title = refl;

@@ -8,5 +8,6 @@ returns c =
     let gateway = app_more _ _ _ _ _ c.in_ok-arg-2.ensures c.gateway.ensures.local c.gateway.ensures.rule listen in
     let title = app_more _ _ _ _ _ c.in_ok-arg-3.ensures c.option-2.ensures.local c.option-2.ensures.rule gateway in
     let refresh = app_more _ _ _ _ _ c.in_ok-arg-4.ensures c.option-3.ensures.local c.option-3.ensures.rule title in
-    if_ok c.arg-5.result (λ command adds. app_more _ _ _ _ _ adds c.option-4.ensures.local c.option-4.ensures.rule refresh)
-    c.arg-5.ensures
+    let every = app_more _ _ _ _ _ c.in_ok-arg-5.ensures c.option-4.ensures.local c.option-4.ensures.rule refresh in
+    if_ok c.arg-6.result (λ command adds. app_more _ _ _ _ _ adds c.host.ensures.local c.host.ensures.rule every)
+    c.arg-6.ensures

@@ -37,11 +37,12 @@ returns-in-Ok-clause-found c =
       distinct = subst (λ (values : List Text). IsDistinct bytes_eq (map name_of values)) same (c.in-Ok.ensures.distinct refl);
       title = c.value_of-title.ensures;
       refresh = subst (λ (text : List ℕ). WritesRefresh text c.in_ok-refresh.refresh) c.value_of-2.ensures c.in_ok-refresh.ensures;
+      hosts = c.in_ok-hosts.ensures;
       every = subst (λ (text : List ℕ). WritesEvery text c.in_ok-every.every) c.value_of-3.ensures c.in_ok-every.ensures;
     }
 
-pub returns-in-Err-clause-refused : goal.returns-in-Err-clause-refused
-returns-in-Err-clause-refused c = λ is settings sets.
+pub returns-clause-refused : goal.returns-clause-refused
+returns-clause-refused c = λ is settings sets.
     let found = found_of c.args.matches.now in
     let same = given [] (c.in-Some.ensures ∙ raw_values-rows found (codes "gateway")) in
     let places = subst (λ (values : List Text). NameAll values settings.places.items) (sym same) sets.places in

@@ -1,0 +1,19 @@
+use Rattle.std.proofs.Common.{[], ap, codes, ◌∙◌}
+use Rattle.clap.specs.Walk.{texts}
+use Rattle.clap.specs.Words.{found_of}
+use Rattle.clap.proofs.WalkLemmas.{raw_values-rows}
+use Rattle.statusweb.proofs.BodySteps.{if_ok}
+use Rattle.statusweb.proofs.WordSteps.{given, not_given}
+use Rattle.statusweb.proofs.words.hosts_in.Goals as goal
+
+pub returns-in-Some : goal.returns-in-Some
+returns-in-Some c =
+    let found = found_of c.args.matches.now in
+    if_ok c.from_slice.result
+    (λ hosts same. ap texts same ∙ given [] (c.in-Some.ensures ∙ raw_values-rows found (codes "host")))
+    c.from_slice.ensures.items
+
+pub returns-in-None : goal.returns-in-None
+returns-in-None c =
+    let found = found_of c.args.matches.now in
+    ap texts c.new.ensures.items ∙ not_given [] (c.in-None.ensures ∙ raw_values-rows found (codes "host"))
