@@ -4,11 +4,9 @@ import http.client
 import http.server
 import json
 import os
-import random
 import re
 import shutil
 import signal
-import socket
 import subprocess
 import sys
 import tempfile
@@ -16,7 +14,7 @@ import threading
 import time
 import urllib.parse
 
-from daemon_clients import Daemon, ask, check, end_tests
+from daemon_clients import Daemon, ask, check, end_tests, free_port
 
 CONFIGURATION = """\
 agents = "127.0.0.1:{agents}"
@@ -44,20 +42,6 @@ def run(*words):
     """What a checking program reports, and its status."""
     ran = subprocess.run(words, capture_output=True, text=True, timeout=60, check=False)
     return ran.returncode, ran.stdout
-
-
-def free_ports(count):
-    """Ports at which nobody listens, below those that the system gives to connections."""
-    ports = []
-    for port in random.sample(range(10240, 30000), 1000):
-        try:
-            socket.create_server(("127.0.0.1", port)).close()
-        except OSError:
-            continue
-        ports.append(port)
-        if len(ports) == count:
-            break
-    return ports
 
 
 def get(port, path):
@@ -120,7 +104,7 @@ class Gateway:
     def __init__(self, program, folder, name, objects):
         self.program, self.folder, self.objects = program, os.path.join(folder, name), objects
         os.mkdir(self.folder)
-        self.agents, self.operators, self.pages = free_ports(3)
+        self.agents, self.operators, self.pages = (free_port() for _ in range(3))
         self.start(objects)
 
     def start(self, objects, limit=1000):
@@ -212,8 +196,8 @@ class Programs:
     def __init__(self, nscagate, statusweb, example, folder):
         self.statusweb_program, self.folder = statusweb, folder
         self.receiver = Receiver()
-        names = ["alertmanager", "statusweb", "prometheus"]
-        self.ports = {**dict(zip(names, free_ports(len(names)))), "receiver": self.receiver.port}
+        self.ports = {name: free_port() for name in ("alertmanager", "statusweb", "prometheus")}
+        self.ports["receiver"] = self.receiver.port
         self.scrape = quick_files(example, folder, self.ports)
         self.east = Gateway(nscagate, folder, "east", EAST)
         self.west = Gateway(nscagate, folder, "west", WEST)

@@ -1,5 +1,6 @@
 """What the tests of the running daemon share: the daemon, its clients' sockets, and the count of checks."""
 import os
+import random
 import socket
 import struct
 import subprocess
@@ -37,6 +38,21 @@ def check(what, found, expected):
     else:
         failed += 1
         print(f"{what} ... FAILED: {found!r}, not {expected!r}")
+
+
+# Below those that the system gives to connections, each once.
+PORTS = iter(random.sample(range(10240, 30000), 10000))
+
+
+def free_port(host="127.0.0.1"):
+    """A port at which nobody listens."""
+    for port in PORTS:
+        try:
+            socket.create_server((host, port)).close()
+        except OSError:
+            continue
+        return port
+    raise SystemExit("no port is free")
 
 
 class Daemon:

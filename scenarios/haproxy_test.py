@@ -1,5 +1,5 @@
 """Plays senders of three addresses against three gateways after HAProxy:
-python3 haproxy_test.py PROGRAM HELPERS CONFIGURATION. Ends with a line 'N passed, M failed'."""
+python3 haproxy_test.py PROGRAM CTL CONFIGURATION. Ends with a line 'N passed, M failed'."""
 import os
 import pwd
 import re
@@ -11,7 +11,7 @@ import tempfile
 import threading
 import time
 
-from daemon_clients import TIME_LIMIT, Daemon, ask, check, end_tests, packet, read_exactly
+from daemon_clients import TIME_LIMIT, Daemon, ask, check, end_tests, free_port, packet, read_exactly
 
 SOURCES = {"A": "127.0.0.2", "B": "127.0.0.3", "C": "127.0.0.4"}
 CONFIGURATION = """\
@@ -24,14 +24,6 @@ name = "web1"
 """ + "".join(f'[[host.service]]\nname = "{service}"\n' for service in SOURCES)
 
 
-def free_ports(count):
-    probes = [socket.create_server(("127.0.0.1", 0)) for _ in range(count)]
-    ports = [probe.getsockname()[1] for probe in probes]
-    for probe in probes:
-        probe.close()
-    return ports
-
-
 class Gateway:
     """A gateway with a folder and ports that stay, and the log pages of its runs that have ended."""
 
@@ -40,10 +32,11 @@ class Gateway:
         self.folder = os.path.join(folder, name)
         os.mkdir(self.folder)
         self.name = name
-        agents, operators, pages = free_ports(3)
+        agents, operators, pages = (free_port() for _ in range(3))
         self.configuration = CONFIGURATION.format(agents=agents, operators=operators, pages=pages)
         self.agents, self.pages = agents, pages
         self.logs = []
+        self.restored = set()  # service and output of each result that a restore has sent
         self.start()
 
     def start(self):
@@ -97,7 +90,7 @@ def balancer_files(folder, example, gateways):
     """The example's configuration, with the addresses of these gateways and a free port."""
     with open(example, encoding="ascii") as file:
         text = file.read()
-    port = free_ports(1)[0]
+    port = free_port()
     text, count = re.subn(r"bind :5667", f"bind 127.0.0.1:{port}", text)
     check("the example's frontend", count, 1)
     for number, gateway in enumerate(gateways, 1):
@@ -170,13 +163,13 @@ def serving(gateways, service):
     return [gateway for gateway in gateways if line.search(gateway.daemon.page())]
 
 
-def helper(helpers, name, gateway, *words):
+def control(ctl, gateway, word, *words):
+    """How nscagatectl ended with these words."""
     path = os.path.join(gateway.folder, "gateway.toml")
-    return subprocess.run([os.path.join(helpers, name), "--config", path, *words], capture_output=True, text=True,
-                          timeout=60, check=False)
+    return subprocess.run([ctl, word, "--config", path, *words], capture_output=True, text=True, timeout=60, check=False)
 
 
-def play(program, helpers, example, folder):
+def play(program, ctl, example, folder):
     log = Log(folder)
     log.start()
     gateways = [Gateway(program, folder, f"gw{number}") for number in (1, 2, 3)]
@@ -191,14 +184,14 @@ def play(program, helpers, example, folder):
     try:
         wait_for("HAProxy runs", lambda: os.path.exists(admin) and set(states(admin).values()) == {"UP"})
         check("whose HAProxy is", owner(balancer.pid), "haproxy" if os.geteuid() == 0 else owner(os.getpid()))
-        ended = play_senders(helpers, folder, gateways, admin, port)
+        ended = play_senders(ctl, folder, gateways, admin, port)
         wait_for("the log has the gateway that ended", lambda: f"Server gateways/{ended} is DOWN" in log.text)
     finally:
         balancer.kill()
         balancer.wait()
 
 
-def play_senders(helpers, folder, gateways, admin, port):
+def play_senders(ctl, folder, gateways, admin, port):
     senders = [Sender(folder, port, service, source) for service, source in SOURCES.items()]
     for sender in senders:
         sender.start()
@@ -209,7 +202,7 @@ def play_senders(helpers, folder, gateways, admin, port):
         check(f"{service} keeps to one gateway", len(serving(gateways, service)), 1)
     first = serving(gateways, "A")[0]
     others = [gateway for gateway in gateways if gateway is not first]
-    restart(helpers, first, others, admin, port)
+    restart(ctl, first, others, admin, port)
     check("no sender has failed", [sender.unsent for sender in senders], [0, 0, 0])
     second = serving(others, "A")[0]
     end_without_a_word(second, admin)
@@ -225,7 +218,7 @@ def play_senders(helpers, folder, gateways, admin, port):
     return second.name
 
 
-def restart(helpers, first, others, admin, port):
+def restart(ctl, first, others, admin, port):
     """A rolling restart: the gateway is taken out first, and serves to their end the connections that it has."""
     ask(first.daemon, "[1] ADD_HOST_COMMENT;web1;1;ann;stays")
     with socket.create_connection(("127.0.0.1", port), TIME_LIMIT, (SOURCES["A"], 0)) as late:
@@ -236,15 +229,17 @@ def restart(helpers, first, others, admin, port):
         late.sendall(packet(int(time.time()), b"web1", b"", 0, b"on its way"))
     wait_for("its connections end", lambda: sessions(admin, first.name) == 0)
     kept = os.path.join(first.folder, "page")
-    stopped = helper(helpers, "nscagate-stop", first, kept)
+    stopped = control(ctl, first, "stop", kept)
     check("it is stopped", (stopped.returncode, stopped.stderr), (0, ""))
+    with open(kept, encoding="ascii") as file:
+        first.restored = set(re.findall(r"^object;web1;(\w+);OK;.*;(\d+)$", file.read(), re.MULTILINE))
     first.take_log()
     logged = "PROCESS_HOST_CHECK_RESULT;web1;0;on its way -> Accepted" in first.logs[0]
     check("the packet that was on its way is there", logged, True)
     wait_for("another gateway takes over", lambda: len(serving(others, "A")) == 1)
     first.start()
-    restored = helper(helpers, "nscagate-restore", first, kept)
-    check("it is brought about again", (restored.returncode, restored.stderr), (0, ""))
+    restored = control(ctl, first, "restore", kept)
+    check("it is restored", (restored.returncode, restored.stdout), (0, "restored: each row is shown again\n"))
     check("its comment is there", ";user;1;" in first.daemon.page(), True)
     command(admin, f"set server gateways/{first.name} state ready")
     wait_for("it serves again", lambda: states(admin)[first.name] == "UP")
@@ -266,7 +261,7 @@ def count_results(senders, gateways, first, second):
         found = []
         for output in sender.sent:
             names = [name for name, log in logs.items() for _ in range(log.get((sender.service, output), 0))]
-            if restored_in(first, sender.service, output):
+            if (sender.service, output) in first.restored:
                 names.remove(first.name)
             found.append(names)
         check(f"{sender.service} has sent much", len(found) > 50, True)
@@ -281,21 +276,15 @@ def count_results(senders, gateways, first, second):
           f"without a word, where {unsent} more were called unsent")
 
 
-def restored_in(gateway, service, output):
-    """Whether nscagate-restore brought this result to a gateway: by its last client, the operator."""
-    line = rf" 3:\d+ PROCESS_SERVICE_CHECK_RESULT;web1;{service};0;{output} -> Accepted$"
-    return re.search(line, gateway.logs[-1], re.MULTILINE) is not None
-
-
 def sessions(admin, name):
     row = next(line for line in command(admin, "show stat").splitlines() if line.startswith(f"gateways,{name},"))
     return int(row.split(",")[4])
 
 
 def main():
-    program, helpers, example = (os.path.abspath(word) for word in sys.argv[1:4])
+    program, ctl, example = (os.path.abspath(word) for word in sys.argv[1:4])
     with tempfile.TemporaryDirectory() as folder:
-        play(program, helpers, example, folder)
+        play(program, ctl, example, folder)
     end_tests()
 
 

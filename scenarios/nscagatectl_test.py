@@ -405,6 +405,111 @@ def play_a_full_output(operator):
     check("a full output", (ran.returncode, ran.stderr), (3, b"nscagatectl: the output can't be written\n"))
 
 
+class PrintingDaemon:
+    """A daemon that prints to a file, over ports that stay the same from one run to the next."""
+
+    def __init__(self, program, folder):
+        self.program = program
+        self.folder = folder
+        self.log = os.path.join(folder, "log")
+        self.config = os.path.join(folder, "printing.toml")
+        ports = [free_port() for _ in range(3)]
+        with open(self.config, "w", encoding="ascii") as file:
+            file.write(TABLE.replace("127.0.0.1:0", "127.0.0.1:%d") % tuple(ports))
+        self.begin()
+
+    def begin(self):
+        with open(self.log, "wb") as log:
+            self.process = subprocess.Popen([self.program, "serve", "--config", self.config], stdout=log)
+        end = time.monotonic() + TIME_LIMIT
+        while os.path.getsize(self.log) < 60 and time.monotonic() < end:
+            time.sleep(0.02)
+
+    def kill(self):
+        self.process.kill()
+        self.process.wait()
+
+
+def free_port():
+    with socket.create_server(("127.0.0.1", 0)) as server:
+        return server.getsockname()[1]
+
+
+def without_ages(ran):
+    status, output, errors = ran
+    return status, *(re.sub(r"\d+ seconds old", "N seconds old", text) for text in (output, errors))
+
+
+BY_PAGE = ("nscagatectl: restoring from a page that is N seconds old, without a log: "
+           "passive checks that were disabled are enabled\n")
+BY_LOG = "restoring from a log, and a page that is N seconds old\n"
+SHOWN_AGAIN = "restored: each row is shown again\n"
+
+
+def play_keeping(program, daemon_program, folder):
+    """What a gateway shows is kept by `check` and by `stop`, and restored from its log, or else from its page."""
+    daemon = PrintingDaemon(daemon_program, folder)
+    page = os.path.join(folder, "page")
+
+    def ctl(*words):
+        return without_ages(run(program, *words, "--config", daemon.config))
+
+    ctl("result", "web1", "HTTP", "--state=CRITICAL", "--output=timeout; 10s")
+    ctl("ack", "web1", "HTTP", "-c", "on it", "--sticky")
+    ctl("downtime", "web1", "-c", "disk", "--for=2h")
+    check("a page that check keeps", ctl("check", "--keep", page)[0], 0)
+    check("it is the owner's alone", (os.stat(page).st_mode & 0o777, os.path.exists(page + ".new")), (0o600, False))
+    status, output, _ = ctl("check", "--keep", os.path.join(folder, "none", "page"))
+    check("a page that can't be kept", (status, f"the page can't be kept in {folder}/none/page; " in output), (1, True))
+    check("pages of two gateways", ctl("check", "a=127.0.0.1:1", "b=127.0.0.1:1", "--keep", page), unknown("bad words"))
+    daemon.kill()
+    check("nobody is restored to", ctl("restore", page, "--wait=1"), (3, "", BY_PAGE + "nscagatectl: the gateway serves no page\n"))
+    daemon.begin()
+    status, output, errors = ctl("restore", page, "--dry-run")
+    check("what would be sent", (status, re.sub(r"^\[\d+\] ([A-Z_]+;[^;]+).*", r"\1", output, flags=re.MULTILINE), errors),
+          (0, "PROCESS_SERVICE_CHECK_RESULT;web1\nACKNOWLEDGE_SVC_PROBLEM;web1\nSCHEDULE_HOST_DOWNTIME;web1\n", BY_PAGE))
+    check("a page is restored", ctl("restore", page), (0, SHOWN_AGAIN, BY_PAGE))
+    check("its downtime is there", ctl("cancel", "1"), (0, "cancelled: downtime 1\n", ""))
+    check("a gateway that isn't fresh", ctl("restore", page),
+          (2, "", BY_PAGE + "nscagatectl: the gateway is no fresh one: operators' commands stand on its page\n"))
+    ctl("passive", "off", "web1")
+    check("a stop", ctl("stop", page, "--log", daemon.log, "--pid", str(daemon.process.pid)),
+          (0, "stopped: all that was queued is kept\n", ""))
+    check("its log page is kept", os.path.exists(page + ".log"), True)
+    daemon.process.wait()
+    daemon.begin()
+    check("a log is restored", ctl("restore", page), (0, BY_LOG + SHOWN_AGAIN, ""))
+    check("its setting is there", ctl("result", "web1", "--state=UP", "--output=x", "--wait=1"),
+          (1, "", "nscagatectl: web1: queued, and not shown in time\n"))
+    check("a log is restored once", os.path.exists(page + ".log"), False)
+    play_faulty_files(ctl, page)
+    check("nothing to stop", ctl("stop", page, "--wait=1", "--operators=127.0.0.1:1"),
+          (3, "", "nscagatectl: SHUTDOWN_PROGRAM was not answered by closing\n"))
+    daemon.kill()
+
+
+def play_faulty_files(ctl, page):
+    """Kept files that no gateway wrote, or too long ago, are not restored."""
+    with open(page, "rb") as file:
+        text = file.read()
+    for name, faulty in (("an escape that no page has", text.replace(b"on it", b"\\x6fn it")), ("a byte", text.replace(b"on", b"\x01")),
+                         ("a NUL", text.replace(b"on it", b"\\x00")), ("a lone backslash", text.replace(b"on it", b"\\")),
+                         ("a cut page", text[:-1]), ("no page", b"220 mail\r\n"), ("nothing", b"")):
+        with open(page, "wb") as file:
+            file.write(faulty)
+        check(name, ctl("restore", page), (2, "", "nscagatectl: the kept page is no status page\n"))
+    with open(page, "wb") as file:
+        file.write(re.sub(rb"^status \d+", b"status 1000000000", text))
+    check("an old page", ctl("restore", page)[0], 2)
+    os.remove(page)
+    check("no page", ctl("restore", page), (2, "", "nscagatectl: the kept files can't be read\n"))
+    check("no log", ctl("restore", page, "--log", page), (2, "", "nscagatectl: the kept files can't be read\n"))
+    with open(page, "wb") as file:
+        file.write(b"agents 127.0.0.1:1\n")
+    check("a log without a log page", ctl("restore", page, "--log", page),
+          (2, "", "nscagatectl: there is no log page in the kept log\n"))
+
+
 def main():
     program = sys.argv[2]
     with tempfile.TemporaryDirectory() as folder:
@@ -432,6 +537,7 @@ def main():
         play_a_full_log(program, folder)
         play_tests_of_configurations(program, folder)
         play_watching(program, folder)
+        play_keeping(program, sys.argv[1], folder)
     end_tests()
 
 

@@ -1,4 +1,4 @@
-"""Plays days of a daemon that the helpers stop and start again: python3 restart_test.py PROGRAM HELPERS [PART].
+"""Plays days of a daemon that nscagatectl stops and restores: python3 restart_test.py PROGRAM CTL [PART].
 Ends with a line 'N passed, M failed'."""
 import os
 import re
@@ -9,7 +9,7 @@ import tempfile
 import threading
 import time
 
-from daemon_clients import Daemon, ask, check, end_tests, packet, read_all, read_exactly
+from daemon_clients import TIME_LIMIT, Daemon, ask, check, end_tests, free_port, packet, read_all, read_exactly
 
 HEAD = """\
 agents = "127.0.0.1:0"
@@ -44,13 +44,34 @@ freshness = 2
 """
 
 CONFIGURATION = HEAD + OBJECTS
-HTTP = ("web1", "HTTP")
+STOPPED = (0, "stopped: all that was queued is kept\n", "")
+RESTORED = (0, "restored: each row is shown again\n", "")
 EVERY_BYTE = "".join(chr(byte) for byte in range(1, 256) if chr(byte) not in "\n\r\t ;") + "\t\\\\x0a\\"
-program = helpers = folder = ""
+program = ctl = folder = ""
+
+
+class Logged(Daemon):
+    """A daemon that prints to the file `log`, as the unit has it."""
+
+    def __init__(self, configuration):
+        path, log = os.path.join(folder, "gateway.toml"), os.path.join(folder, "log")
+        write(path, configuration)
+        with open(log, "wb") as file:
+            self.process = subprocess.Popen([program, "serve", "--config", path], stdout=file, stderr=subprocess.PIPE)
+        end = time.monotonic() + TIME_LIMIT
+        while read(log).count("\n") < 3 and time.monotonic() < end:
+            time.sleep(0.01)
+        found = re.findall(r"^(\w+) ([0-9.]+):(\d+)$", read(log), re.M)
+        self.hosts = {name: host for name, host, _ in found}
+        self.ports = {name: int(port) for name, _, port in found}
+
+    def end(self, time_limit=TIME_LIMIT):
+        errors = self.process.communicate(timeout=time_limit)[1]
+        return self.process.returncode, read(os.path.join(folder, "log")), errors.decode("latin-1")
 
 
 def start(configuration=CONFIGURATION):
-    return Daemon(program, folder, configuration)
+    return Logged(configuration)
 
 
 def send(daemon, *packets):
@@ -69,31 +90,29 @@ def escaped(text):
     return text.replace("\\", "\\\\").translate(shown)
 
 
-def helper(name, *words, path=""):
-    """The status of a helper with these words, what it printed, and its errors. The commands of a path come first."""
-    environment = {**os.environ, "PATH": path + os.environ["PATH"]}
-    ran = subprocess.run([os.path.join(helpers, name), *words], env=environment, capture_output=True, timeout=100,
-                         check=False)
+def control(*words):
+    """The status of nscagatectl with these words, what it printed, and its errors."""
+    ran = subprocess.run([ctl, *words], capture_output=True, timeout=200, check=False)
     return ran.returncode, ran.stdout.decode("latin-1"), ran.stderr.decode("latin-1")
 
 
-def addresses(daemon):
-    return ["--config", os.path.join(folder, "gateway.toml"), "--operators", f"127.0.0.1:{daemon.ports['operators']}",
+def addresses(daemon, operators=None):
+    return ["--config", os.path.join(folder, "gateway.toml"), "--operators", operators or f"127.0.0.1:{daemon.ports['operators']}",
             "--pages", f"127.0.0.1:{daemon.ports['pages']}"]
 
 
-def stop(daemon, kept, pid=""):
-    """How nscagate-stop ended, and then the daemon, which is waited for meanwhile, as systemd does."""
+def stop(daemon, kept, *words):
+    """How the stop ended, and then the daemon, which is waited for meanwhile, as systemd does."""
     ended = []
     waiting = threading.Thread(target=lambda: ended.append(daemon.end()))
     waiting.start()
-    status = helper("nscagate-stop", *addresses(daemon), "--pid", pid, kept)
+    status = control("stop", *addresses(daemon), *words, kept)
     waiting.join()
     return status, ended[0]
 
 
-def restore(daemon, kept, *words):
-    return helper("nscagate-restore", *addresses(daemon), *words, kept)
+def restore(daemon, kept, *words, operators=None):
+    return control("restore", *addresses(daemon, operators), "--agents", f"127.0.0.1:{daemon.ports['agents']}", *words, kept)
 
 
 def read(path):
@@ -133,7 +152,7 @@ def meaning(page, becomes_fixed=False):
                 starts, ends = begin, str(min(int(begin) + int(lasts), 4294967295))
             elif trigger != "0" and trigger not in texts:
                 starts = begin
-            kind = "fixed"
+            kind, trigger = "fixed", "0"
         downtime.append((host, service, kind, texts.get(trigger, ""), starts, ends, lasts, begin == "-", author, text))
     return objects, comments, sorted(downtime)
 
@@ -187,7 +206,8 @@ def fill(daemon):
     return now
 
 
-def play_a_day():
+def play_a_day(*words):
+    """The day is kept by these words of a stop, and restored."""
     kept = os.path.join(folder, "kept")
     daemon = start()
     now = fill(daemon)
@@ -198,40 +218,41 @@ def play_a_day():
     check("the comment that is deleted was the right one", "its comment is deleted" in page, False)
     # Entry 5 is over after 2 seconds, the window of entry 4 and the result of SQL a second later.
     time.sleep(max(0.0, now + 4.2 - time.time()))
-    (status, output, errors), ended = stop(daemon, kept)
-    check("nscagate-stop", (status, output, errors), (0, "", ""))
-    check("the daemon was shut down", (ended[0], ended[1].split(" ", 1)[0], ended[2]), (0, "log", ""))
+    found, ended = stop(daemon, kept, *words)
+    check(f"a stop {words}", found, STOPPED)
+    check("the daemon was shut down", (ended[0], "\nlog " in ended[1], ended[2]), (0, True, ""))
+    check("the log is kept too", os.path.exists(kept + ".log"), "--log" in words)
     page = read(kept)
     check("the kept page has entry 8 without the one above", [entry[0] for entry in rows(page)["downtime"]],
           ["1", "2", "3", "4", "6", "7", "8", "9", "10", "12", "13", "14"])
     config = os.path.join(folder, "gateway.toml")
-    status, output, errors = helper("nscagate-restore", "--config", config, "--dry-run", kept)
+    status, output, errors = control("restore", "--config", config, "--dry-run", kept)
     check("a dry run", (status, output.count("\n") > 20, "PENDING" in output), (1, True, False))
     daemon = start()
     status, output, errors = restore(daemon, kept)
-    check("nscagate-restore", (status, output), (1, ""))
-    left_out = [re.sub(r"^nscagate-restore: (\S+ line \d+: )?", "", line) for line in errors.splitlines()]
-    check("what is left out", left_out,
-          ["left out: its acknowledgement, since its result is not sent",
-           "1 results are not sent: they are older than their objects' freshness"])
+    said = "restoring from a log, and a page that is N seconds old\n" if "--log" in words else ""
+    check("a restore", (status, re.sub(r"\d+ seconds", "N seconds", output)), (1, said))
     restored = daemon.page()
-    compare_day("a day", page, restored)
+    compare_day("a day", page, restored, errors)
     return daemon, restored, kept
 
 
-def compare_day(what, kept, restored):
-    """The page is as it was, but for SQL, whose result is old, and for comments whose acknowledgement is over."""
+def compare_day(what, kept, restored, errors):
+    """The page is as it was, but for SQL, whose result is old, for comments whose acknowledgement is over, for two that are there again
+    with their acknowledgement and their entry, and for an entry whose window is over; all that is missing is named."""
     objects, comments, downtime = meaning(kept, becomes_fixed=True)
     objects = [("db1", "SQL # 1", "PENDING", True, "-", "0", "") if one[1] == "SQL # 1" else one for one in objects]
-    over = ("cleared", "of an old result")
-    comments = sorted((*one[:2], "user", *one[3:]) if one[5] in over else one for one in comments)
-    # The window of the entry whose window is over is that of what it waits for.
-    ends = next(one[5] for one in downtime if one[9] == "fixed after flexible")
-    downtime = [(*one[:5], ends, *one[6:]) if one[9] == "its window is over" else one for one in downtime]
+    over = ("cleared", "of an old result", "first")
+    comments = [(*one[:2], "user", *one[3:]) if one[5] in over else one for one in comments if one[5] != "its window is over"]
+    comments += [("web1", "c\\\\d \xc3\xa9", "ack", "0", "ann", "its comment is deleted"),
+                 ("db1", "", "downtime", "0", "bob", "without its comment")]
     found = meaning(restored)
     check(f"{what}: objects", found[0], objects)
-    check(f"{what}: comments", found[1], comments)
-    check(f"{what}: downtime", found[2], downtime)
+    check(f"{what}: comments", found[1], sorted(comments))
+    check(f"{what}: downtime", found[2], [one for one in downtime if one[9] != "its window is over"])
+    for text in ("SQL # 1;CRITICAL;", "bob;its window is over", ";ack;1;.*;ann;first", ";ann;cleared", ";ann;of an old result",
+                 ";bob;flexible after two seconds", ";bob;ten minutes"):
+        check(f"{what}: {text} is named", re.search("not to be shown again: .*" + text, errors) is not None, True)
 
 
 def play_the_next_day(daemon, page, kept):
@@ -241,11 +262,12 @@ def play_the_next_day(daemon, page, kept):
     daemon.process.kill()
     daemon.end()
     daemon = start()
-    check("nscagate-restore of a page that was restored", restore(daemon, kept), (0, "", ""))
+    check("a page that was restored", restore(daemon, kept)[:2], RESTORED[:2])
     restored = daemon.page()
     compare("the next day", page, restored)
-    check("what was restored isn't restored twice",
-          restore(daemon, kept), (2, "", "nscagate-restore: the daemon has comments or downtime: it is no fresh one\n"))
+    status, output, errors = restore(daemon, kept)
+    check("what was restored isn't restored twice", (status, output, errors.splitlines()[1:]),
+          (2, "", ["nscagatectl: the gateway is no fresh one: operators' commands stand on its page"]))
     check("nothing was sent twice", meaning(daemon.page()), meaning(restored))
     # What hangs on an entry is deleted with it.
     entry = next(row[0] for row in rows(restored)["downtime"] if row[10].startswith("waits; "))
@@ -253,11 +275,10 @@ def play_the_next_day(daemon, page, kept):
     left = [row[10] for row in rows(daemon.page_with("the last one"))["downtime"]]
     check("a chain is deleted with its first entry",
           [text for text in left if "after waits" in text or "after flexible" in text or "window" in text], [])
-    # Without --pid, the helper looks at the port of pages.
-    (status, _, errors), ended = stop(daemon, kept)
-    check("the second stop", (status, errors, ended[0]), (0, "", 0))
-    check("the page before is kept too", meaning(read(kept + ".before")), meaning(restored))
-    check("a stop without a daemon", helper("nscagate-stop", *addresses(daemon), kept)[0], 3)
+    # Without --pid, it looks at the port of pages.
+    found, ended = stop(daemon, kept)
+    check("the second stop", (found, ended[0]), (STOPPED, 0))
+    check("a stop without a daemon", control("stop", *addresses(daemon), kept)[0], 3)
     check("its page is as it was", [row[10] for row in rows(read(kept))["downtime"]], left)
 
 
@@ -287,8 +308,7 @@ class Probe(threading.Thread):
 
 def play_a_quick_restart():
     """How long senders are refused: the unit's commands, one after another, with 2,000 comments."""
-    with socket.create_server(("127.0.0.1", 0)) as free:
-        port = free.getsockname()[1]
+    port = free_port()
     configuration = CONFIGURATION.replace('agents = "127.0.0.1:0"', f'agents = "127.0.0.1:{port}"')
     kept = os.path.join(folder, "quick")
     daemon = start(configuration)
@@ -298,10 +318,12 @@ def play_a_quick_restart():
     probe.start()
     time.sleep(0.5)
     began = time.monotonic()
-    check("a quick stop", stop(daemon, kept, str(daemon.process.pid))[0], (0, "", ""))
+    check("a quick stop", stop(daemon, kept, "--pid", str(daemon.process.pid), "--log", os.path.join(folder, "log"))[0], STOPPED)
     daemon = start(configuration)
     served = time.monotonic()
-    check("a quick restore", restore(daemon, kept), (0, "", ""))
+    status, output, errors = restore(daemon, kept, "--wait", "100")
+    check("a quick restore", (status, re.sub(r"\d+", "N", output), errors),
+          (0, "restoring from a log, and a page that is N seconds old\nrestored: each row is shown again\n", ""))
     took = time.monotonic() - served
     time.sleep(0.2)
     probe.is_stopped = True
@@ -325,6 +347,7 @@ def play_a_busy_end():
         try:
             while "closing" not in queued[-1:]:
                 queued.extend(ask(daemon, *["[1] ADD_HOST_COMMENT;web1;1;ann;x"] * 20))
+                time.sleep(0.005)
         except OSError:
             pass
     operator = threading.Thread(target=enter)
@@ -332,7 +355,7 @@ def play_a_busy_end():
     time.sleep(0.2)
     status, ended = stop(daemon, kept)
     operator.join()
-    check("a stop amid an operator's lines", (status, ended[0]), ((0, "", ""), 0))
+    check("a stop amid an operator's lines", (status, ended[0]), (STOPPED, 0))
     counted = len(rows(read(kept))["comment"])
     check("each comment of the log is kept", (counted > 0, f"log {counted}" in ended[1].split("\n")), (True, True))
 
@@ -355,15 +378,16 @@ def play_newer_results():
     daemon = start()
     send(daemon, ("web1", "", 0, "new"), ("web1", "HTTP", 1, "new"), ("web1", "a\\b", 2, "new"),
          ("db1", "", 2, "newest"))
-    status, _, errors = restore(daemon, kept)
-    left_out = re.findall(r" line (\d+): left out: the daemon has no such object\n", errors)
-    check("an object that is gone is reported", (status, left_out), (1, ["6", "11"]))
+    status, _, errors = restore(daemon, kept, "--wait", "2")
+    left_out = re.findall(r"not sent, since the gateway has no such object: (\w+);gone;", errors)
+    check("an object that is gone is reported", (status, left_out), (1, ["PROCESS_HOST_CHECK_RESULT", "ADD_HOST_COMMENT"]))
     objects, comments, _ = meaning(daemon.page())
     check("new results stay", [(one[0], one[1], one[2], one[4]) for one in objects if one[6].startswith("new")],
-          [("web1", "", "UP", "-"), ("web1", "HTTP", "WARNING", "sticky"), ("web1", "a\\\\b", "CRITICAL", "-"),
+          [("web1", "", "UP", "-"), ("web1", "HTTP", "WARNING", "-"), ("web1", "a\\\\b", "CRITICAL", "-"),
            ("db1", "", "UNREACHABLE", "-")])
-    check("and their acknowledgements as they are then", [(one[2], one[5]) for one in comments],
-          [("ack", "stays"), ("user", "stays as a note")])
+    check("no state is acknowledged that nobody has seen", sorted((one[2], one[5]) for one in comments),
+          [("user", "over"), ("user", "stays"), ("user", "stays as a note"), ("user", "stays too")])
+    check("and each is named", len(re.findall("not sent, since the object has another state now: ACKNOWLEDGE_", errors)), 4)
     daemon.process.kill()
     daemon.end()
 
@@ -372,7 +396,7 @@ def play_newer_results():
 # how each is sent, or nothing: start, end, fixed, trigger, duration.
 ENTRIES = [
     ("1", "fixed", 0, -50, 500, 0, "-", (-50, 500, 1, 0, 0)),
-    ("2", "flexible", 1, -50, 500, 300, "-", (-50, 250, 1, 1, 300)),
+    ("2", "flexible", 1, -50, 500, 300, "-", (-50, 500, 0, 1, 300)),
     ("3", "fixed", 0, -50, -10, 0, "-", None),
     ("4", "flexible", 3, -50, 500, 200, "-", (-50, 150, 1, 0, 200)),
     ("5", "fixed", 3, 300, 400, 7, "-", (-50, 400, 1, 0, 7)),
@@ -381,40 +405,49 @@ ENTRIES = [
     ("8", "fixed", 3, -90, -50, 60, "-", None),
     ("9", "flexible", 0, -90, 100, 60, "-", (-90, 100, 0, 0, 60)),
     ("10", "flexible", 9, -90, -30, 60, "-", (-90, 100, 0, 9, 60)),
-    ("11", "fixed", 0, -200, 3, 0, -150, None),
+    ("11", "fixed", 0, -200, 60, 0, -150, (-200, 60, 1, 0, 0)),
     ("12", "flexible", 11, -200, 500, 900, -150, (-150, 750, 1, 0, 900)),
-    ("13", "flexible", 2, -90, 500, 2000, "-", (-50, 1950, 1, 2, 2000)),
+    ("13", "flexible", 2, -90, 500, 2000, "-", (-90, 500, 0, 2, 2000)),
     ("14", "fixed", 9, -90, 50, 5, "-", (-90, 50, 1, 9, 5)),
     ("15", "flexible", 14, -90, 500, 5, "-", (-90, 500, 0, 14, 5)),
-    ("16", "flexible", 0, -120, 500, 115, -110, None),
+    ("16", "flexible", 0, -120, 500, 100, -110, None),
     ("17", "fixed", 0, 400, 500, 0, "-", (400, 500, 1, 0, 0)),
 ]
 
 
+def scheduled(lines, now):
+    """What a fresh daemon schedules by these lines, by the text of each entry: start and end in seconds from now, whether it is fixed, the
+    text of its trigger, its duration; and the texts of the lines that it refuses, since their end has come."""
+    found, texts, refused = {}, {"0": ""}, []
+    for line in lines.splitlines():
+        starts, ends, fixed, trigger, lasts, _, text = line.split(";")[2:]
+        if int(ends) <= now:
+            refused.append(text)
+            continue
+        found[text] = (int(starts) - now, int(ends) - now, int(fixed), texts.get(trigger, trigger), int(lasts))
+        texts[str(len(found))] = text
+    return found, refused
+
+
 def play_time_passes():
-    """What has begun or is over since the page was written: each entry as what it is now."""
+    """What has begun or is over since the page was written: each entry as what it is now, or left out and named."""
     now = int(time.time())
     page = f"status {now - 100}\nobject;web1;;PENDING;-;fresh;-;3;\n"
     for number, (entry, *_) in enumerate(ENTRIES, 1):
         page += f"comment;{number};web1;;downtime;0;{now - 300};bob;entry {entry}\n"
-    lines = {}
-    for entry, kind, trigger, starts, ends, lasts, begin, sent in ENTRIES:
+    for entry, kind, trigger, starts, ends, lasts, begin, _ in ENTRIES:
         shown = begin if begin == "-" else now + begin
-        window = f"{now + starts};{now + ends};{lasts};{shown}"
-        page += f"downtime;{entry};web1;;{kind};{trigger};{window};bob;entry {entry}\n"
-        if sent:
-            lines[entry] = sent
-    # Untriggered ones first, and then each after its trigger, which is named by its new id.
-    order = [entry for entry in lines if lines[entry][3] == 0] + [entry for entry in lines if lines[entry][3] != 0]
-    expected = ""
-    for entry in order:
-        starts, ends, fixed, trigger, lasts = lines[entry]
-        trigger = order.index(str(trigger)) + 1 if trigger else 0
-        expected += (f"[0] SCHEDULE_HOST_DOWNTIME;web1;{now + starts};{now + ends};{fixed};{trigger};{lasts};bob;"
-                     f"entry {entry}\n")
+        page += f"downtime;{entry};web1;;{kind};{trigger};{now + starts};{now + ends};{lasts};{shown};bob;entry {entry}\n"
     config = write(os.path.join(folder, "passes.toml"), CONFIGURATION)
-    found = helper("nscagate-restore", "--config", config, "--dry-run", write(os.path.join(folder, "passes"), page))
-    check("each entry as what it is now", found, (0, expected, ""))
+    _, output, errors = control("restore", "--config", config, "--dry-run", write(os.path.join(folder, "passes"), page))
+    found, refused = scheduled(output, now)
+    check("lines of entries that are over", refused, [])
+    for entry, *_, sent in ENTRIES:
+        text = f"entry {entry}"
+        expected = sent and (*sent[:3], f"entry {sent[3]}" if sent[3] else "", sent[4])
+        if text not in found and re.search(rf";{text}$", errors, re.M):
+            expected = None
+        check(text, found.get(text), expected)
 
 
 GOOD_PAGE = ("status 100\nobject;web1;;UP;90;fresh;-;1;up\nobject;web1;HTTP;CRITICAL;90;fresh;-;0;x\n"
@@ -451,26 +484,17 @@ def play_faulty_pages():
             kept += ".none"
         else:
             write(kept, text)
-        status, output, errors = restore(daemon, kept)
-        check(f"a faulty page: {what}", (status, output, errors[:18], errors.count("\n")),
-              (2, "", "nscagate-restore: ", 1))
-        dry = helper("nscagate-restore", "--config", config, "--dry-run", kept)
+        status, output, errors = restore(daemon, kept, "--old")
+        check(f"a faulty page: {what}", (status, output, errors[:13], errors.count("\n")), (2, "", "nscagatectl: ", 1))
+        dry = control("restore", "--config", config, "--old", "--dry-run", kept)
         check(f"a faulty page in a dry run: {what}", dry[:2], (2, ""))
     write(kept, GOOD_PAGE + "closing;95\n")
-    status, output, errors = helper("nscagate-restore", "--config", config, "--dry-run", kept)
+    status, output, errors = restore(daemon, kept)
+    named = re.fullmatch(r"nscagatectl: there is no kept log, and the kept page is \d+ seconds old: --old restores it\n", errors)
+    check("a good page that is old", (status, output, named is not None), (2, "", True))
+    output = control("restore", "--config", config, "--old", "--dry-run", kept)[1]
     check("the page that they are made of is good",
-          (status, output.count("SCHEDULE_HOST_DOWNTIME;web1;50;4000000000;1;0;0;bob;x\n")), (0, 1))
-    now = int(time.time())
-    write(kept, f"status {now}\nobject;web1;a\\\\b;OK;90;fresh;-;0;one\\x0atwo\\\\x0a\\\\\\x0a\n"
-          f"object;web1;HTTP;OK;{now};fresh;-;0;three \n")
-    status, output, errors = helper("nscagate-restore", "--config", config, "--dry-run", kept)
-    check("an output with an LF, and one with a blank at its end", (status, output, len(errors.splitlines())),
-          (0, "[0] PROCESS_SERVICE_CHECK_RESULT;web1;a\\b;0;one\\ntwo\\x0a\\\\n\n"
-           "[0] PROCESS_SERVICE_CHECK_RESULT;web1;HTTP;0;three \n", 2))
-    write(kept, GOOD_PAGE.replace(";bob;x", ";bob;x\\x0ay").replace("downtime;0;90", "user;0;90"))
-    status, output, errors = helper("nscagate-restore", "--config", config, "--dry-run", kept)
-    check("texts with an LF are left out",
-          (status, "SCHEDULE" in output or "ADD" in output, len(errors.splitlines())), (1, False, 3))
+          output.count("SCHEDULE_HOST_DOWNTIME;web1;50;4000000000;1;0;0;bob;x\n"), 1)
     check("nothing was sent", ask(daemon, "[1] ADD_HOST_COMMENT;web1;0;ann;x"), ["queued 1"])
     daemon.process.kill()
     daemon.end()
@@ -479,30 +503,20 @@ def play_faulty_pages():
 def play_faulty_words():
     none = os.path.join(folder, "none")
     config = write(os.path.join(folder, "words.toml"), CONFIGURATION)
-    inline = write(os.path.join(folder, "inline.toml"), 'host = [{name = "web1"}]\n')
-    page = write(os.path.join(folder, "page"), "status 100\n")
-    for name in ("nscagate-stop", "nscagate-restore"):
-        for words in ((), ("--wait",), ("--wait", "x", page), ("--pid", "x", page), ("--colour", page), (page, page),
-                      ("--config", none, page), ("--config", inline, page), ("--config", config, page),
-                      ("--pages", "web1:5669", page)):
-            status, output, errors = helper(name, *words)
-            check(f"{name} {words}", (status, output, errors.startswith(name + ": ")), (2, "", True))
-        status, output, _ = helper(name, "--help")
-        check(f"{name} --help", (status, output.startswith(f"usage: {name} ")), (0, True))
-    other = os.path.join(folder, "other")
-    os.mkdir(other)
-    for name in ("nc", "nc.openbsd"):
-        write(os.path.join(other, name), "#!/bin/sh\necho '[v1.10-47]' >&2\n")
-        os.chmod(os.path.join(other, name), 0o755)
-    for name in ("nscagate-stop", "nscagate-restore"):
-        check(f"{name} with another nc", helper(name, "--config", config, page, path=other + ":"),
-              (2, "", f"{name}: the nc of OpenBSD is not installed\n{name}: see {name} --help\n"))
+    faulty = write(os.path.join(folder, "faulty.toml"), 'host = [{nam = "web1"}]\n')
+    page = write(os.path.join(folder, "page"), f"status {int(time.time())}\n")
+    for name in ("stop", "restore"):
+        for words in ((), ("--wait",), ("--wait", "x", page), ("--wait", "0", page), ("--colour", page), (page, page),
+                      ("--config", none, page), ("--config", faulty, page), ("--pages", "web1:5669", page)):
+            status, output, errors = control(name, *words)
+            check(f"{name} {words}", (status, output, errors != ""), (2, "", True))
     closed = ["--config", config, "--pages", "127.0.0.1:9", "--operators", "127.0.0.1:9"]
-    check("a restore without a daemon", helper("nscagate-restore", *closed, "--wait", "0", page)[0], 3)
+    check("a restore without a daemon", control("restore", *closed, "--wait", "1", page)[0], 3)
     with subprocess.Popen(["true"]) as ended:
         ended.wait()
-        check("a restore whose daemon has ended", helper("nscagate-restore", *closed, "--pid", str(ended.pid), page),
-              (3, "", "nscagate-restore: the daemon has ended\n"))
+        status, output, errors = control("restore", *closed, "--pid", str(ended.pid), page)
+        check("a restore whose daemon has ended", (status, output, errors.splitlines()[1:]),
+              (3, "", ["nscagatectl: the gateway has ended"]))
 
 
 def play_a_full_disk():
@@ -512,8 +526,7 @@ def play_a_full_disk():
     os.mkdir(kept + ".new")
     write(kept, "old\n")
     status, ended = stop(daemon, kept)
-    check("nscagate-stop without room for the page", (status, ended[0]),
-          ((1, "", f"nscagate-stop: {kept} can't be written, so no page is kept yet\n"), 0))
+    check("a stop without room for the page", (status, ended[0]), ((1, "", "nscagatectl: stopped, and nothing is kept\n"), 0))
     check("the page before stays", read(kept), "old\n")
 
 
@@ -527,7 +540,7 @@ def refuse_first(address, refused):
             connection, _ = server.accept()
             with connection, socket.create_connection(address) as daemon, daemon.makefile("r") as answers:
                 for line in connection.makefile("rb"):
-                    name = line.decode("latin-1").strip("\n")
+                    name = line.decode("latin-1").strip("\n").split(" ", 1)[1]
                     if refused.get(name, 0) > 0:
                         refused[name] -= 1
                         connection.sendall(b"full\n")
@@ -539,25 +552,21 @@ def refuse_first(address, refused):
 
 
 def play_a_full_queue():
-    """Results that find the queue full are sent again, before the acknowledgements of their problems; comments too."""
-    daemon = start()
+    """A line that finds the queue full is sent again, and named where it stays so."""
     now = int(time.time())
     kept = write(os.path.join(folder, "full"), f"status {now}\nobject;web1;;DOWN;{now};fresh;normal;0;down\n"
                  f"object;web1;HTTP;CRITICAL;{now};fresh;sticky;0;timeout\nobject;db1;;DOWN;{now};fresh;-;0;gone\n"
                  f"comment;1;web1;;ack;1;{now};ann;on it\ncomment;2;web1;HTTP;ack;0;{now};ann;on it\n"
                  f"comment;3;web1;;user;1;{now};ann;one\ncomment;4;web1;;user;1;{now};ann;two\n")
-    line = "[0] PROCESS_SERVICE_CHECK_RESULT;web1;HTTP;2;timeout"
-    refused = {"[0] PROCESS_HOST_CHECK_RESULT;web1;1;down": 1, line: 2, "[0] PROCESS_HOST_CHECK_RESULT;db1;1;gone": 99,
-               "[0] ADD_HOST_COMMENT;web1;1;ann;one": 1}
-    operators = refuse_first(("127.0.0.1", daemon.ports["operators"]), refused)
-    status, output, errors = restore(daemon, kept, "--operators", operators)
-    check("a full queue", (status, output, errors), (1, "", f"nscagate-restore: {kept} line 4: answered full\n"))
-    check("lines are sent again", (refused[line], [one[4] for one in meaning(daemon.page_with(";sticky;"))[0][:2]]),
-          (0, ["normal", "sticky"]))
-    # Where a line was left out, the helper ends without a look at the page.
-    check("comments too", [row[7] for row in rows(daemon.page_with(";one\n"))["comment"]], ["on it", "on it", "two", "one"])
-    daemon.process.kill()
-    daemon.end()
+    for times, expected in ((1, RESTORED[:2]), (99, (3, ""))):
+        daemon = start()
+        operators = refuse_first(("127.0.0.1", daemon.ports["operators"]), {"ADD_HOST_COMMENT;web1;1;ann;one": times})
+        status, output, errors = restore(daemon, kept, operators=operators)
+        check("a queue that is full", (status, output), expected)
+        check("it is named", "nscagatectl: the queue is full: ADD_HOST_COMMENT;web1;1;ann;one\n" in errors, times > 1)
+        check("the acknowledgements are there", [one[4] for one in meaning(daemon.page_with(";sticky;"))[0][:2]], ["normal", "sticky"])
+        daemon.process.kill()
+        daemon.end()
 
 
 def play_a_full_log():
@@ -565,16 +574,15 @@ def play_a_full_log():
     daemon = start(HEAD.replace("capacity = 256", "capacity = 1") + OBJECTS.replace("limit = 100_000", "limit = 1"))
     lines = "".join(f"comment;{number};web1;;user;0;90;ann;{number}\n" for number in range(1, 5))
     kept = write(os.path.join(folder, "kept"), "status 100\nobject;web1;;PENDING;-;fresh;-;0;\n" + lines)
-    status, _, errors = restore(daemon, kept)
-    check("a full log", (status, errors),
-          (1, "".join(f"nscagate-restore: {kept} line {line}: answered full\n" for line in (5, 6))))
+    status, _, errors = restore(daemon, kept, "--old")
+    check("a full log", (status, "nscagatectl: the queue is full: ADD_HOST_COMMENT;web1;0;ann;3\n" in errors), (3, True))
     status, ended = stop(daemon, kept)
-    check("nscagate-stop with a full log", (status, ended[0], ended[2]), ((0, "", ""), 3, "nscagate: LogFull\n"))
+    check("a stop with a full log", (status, ended[0], ended[2]), (STOPPED, 3, "nscagate: LogFull\n"))
     check("the page of a full log is kept", [row[7] for row in rows(read(kept))["comment"]], ["1"])
 
 
 def play_two_days():
-    play_the_next_day(*play_a_day())
+    play_the_next_day(*play_a_day("--log", os.path.join(folder, "log")))
 
 
 def play_ends():
@@ -596,8 +604,8 @@ PARTS = {"days": play_two_days, "ends": play_ends, "pages": play_pages, "logs": 
 
 
 def main():
-    global program, helpers, folder
-    program, helpers = os.path.abspath(sys.argv[1]), os.path.abspath(sys.argv[2])
+    global program, ctl, folder
+    program, ctl = os.path.abspath(sys.argv[1]), os.path.abspath(sys.argv[2])
     if len(sys.argv) > 3:
         with tempfile.TemporaryDirectory() as folder:
             PARTS[sys.argv[3]]()

@@ -14,7 +14,7 @@ import sys
 import tempfile
 import time
 
-from daemon_clients import CONFIGURATION, TIME_LIMIT, Daemon, check, end_tests, read_all, read_exactly
+from daemon_clients import CONFIGURATION, TIME_LIMIT, Daemon, check, end_tests, free_port, read_all, read_exactly
 
 ENDED = []  # processes to end
 
@@ -22,11 +22,6 @@ ENDED = []  # processes to end
 def run(*words, text=None):
     ran = subprocess.run(words, input=text, capture_output=True, text=True, timeout=60, check=False)
     return ran.returncode, ran.stdout + ran.stderr
-
-
-def free_port():
-    with socket.create_server(("127.0.0.1", 0)) as probe:
-        return probe.getsockname()[1]
 
 
 def read(path):

@@ -10,7 +10,7 @@ import tempfile
 import threading
 import time
 
-from daemon_clients import CONFIGURATION, TIME_LIMIT, Daemon, ask, check, end_tests, packet, read_all, read_exactly
+from daemon_clients import CONFIGURATION, TIME_LIMIT, Daemon, ask, check, end_tests, free_port, packet, read_all, read_exactly
 
 
 def send(daemon, packets, rest=b""):
@@ -322,11 +322,6 @@ def play_limits_of_a_session(program, folder):
     check("the last session closes", ask(daemon, "[1] SHUTDOWN_PROGRAM"), ["closing"])
     status, output, _ = daemon.end()
     check("the status with few reads", (status, output.split("\n", 1)[0]), (0, "log 3"))
-
-
-def free_port(host):
-    with socket.create_server((host, 0)) as probe:
-        return probe.getsockname()[1]
 
 
 def play_three_addresses(program, folder):

@@ -1,5 +1,6 @@
 """Tests of the program statusweb over gateways that this file plays."""
 import concurrent.futures
+import email.utils
 import html
 import html.parser
 import http.client
@@ -17,6 +18,7 @@ import tempfile
 import threading
 import time
 import urllib.parse
+import xml.etree.ElementTree
 
 PROGRAM = sys.argv[1]
 passed = failed = 0
@@ -159,7 +161,7 @@ class Tags(html.parser.HTMLParser):
     def handle_endtag(self, tag):
         self.tags.append(('/' + tag, []))
         self.text += {'td': ' | ', 'th': ' | ', 'a': ' ', 'span': ' '}.get(
-            tag, '\0' if tag in ('title', 'h1', 'h2', 'p', 'div', 'tr', 'footer') else '')
+            tag, '\0' if tag in ('title', 'h1', 'h2', 'p', 'div', 'nav', 'caption', 'tr', 'footer') else '')
         if tag == 'form':
             self.form = None
         if tag == 'td':
@@ -283,10 +285,10 @@ def test_faults(now):
                             ('cut', 'damaged or cut off at line 4'), ('http', 'does not show a status page'),
                             ('empty', 'does not show a status page'), ('still', 'stands still'),
                             ('closing', 'is closing')]:
-            alarm = f'<p class="alarm"><strong>Gateway {name}</strong>'
+            alarm = f'<p class="alarm" role="alert"><strong>Gateway <bdi>{name}</bdi></strong>'
             lines = [line for line in page.decode().split('\n') if line.startswith(alarm)]
             test(f'an alarm: {name}', len(lines) == 1 and html.unescape(cause) in html.unescape(lines[0]), page[:3000])
-        test('the good gateway has no alarm', b'Gateway good' not in page)
+        test('the good gateway has no alarm', b'Gateway <bdi>good' not in page)
         test('its objects are shown', b'acknowledged' in page and b'web1' in page)
         reachable = {row['name']: row['reachable'] for row in read['gateways']}
         test('JSON names who can be read', reachable == {
@@ -297,7 +299,9 @@ def test_faults(now):
              and 'nscagate_up{gateway="good"} 1' in up, up)
     with Web(('down', free_port()), ('gone', free_port())) as web:
         page, read = web.text('/'), web.json()
-        test('a page over no gateway', page.count(b'<p class="alarm">') == 2 and read['objects'] == [], page[:3000])
+        test('without a page of any gateway the status is 503', [web.ask(path)[0].status for path in (
+            '/', '/status.json', '/metrics', '/changes', '/style.css')] == [503, 503, 200, 200, 200])
+        test('a page over no gateway', page.count(b'<p class="alarm"') == 2 and read['objects'] == [], page[:3000])
 
 
 def test_sharing(now):
@@ -385,6 +389,57 @@ def test_since(now):
             test(f'since when, of page {number + 1}', found == since, (found, since))
 
 
+def test_changes(now):
+    """The changes of states on the pages of two gateways, as a page, as JSON lines and as a feed, the newest first."""
+    def page(moment, host, *states):
+        return b'status %d\n' % moment + b''.join(
+            b'object;%s;%s;%s;%d;fresh;-;0;x\n' % (host, service, state, moment) for service, state in states)
+    odd = '<b>"&\'ä\ufffd'
+    texts = {'east': page(now, b'web1', (b'', b'UP'), (b'HTTP', b'OK')),
+             'west': page(now, odd[:-1].encode() + b'\xff', (b'', b'UP'), (b'a/b c', b'WARNING'))}
+    gateways = {name: shows(lambda name=name: texts[name]) for name in texts}
+
+    def show(name, text):
+        texts[name] = text
+        count = gateways[name].count
+        soon(lambda: gateways[name].count >= count + 2)
+    with Web(*[(name, gateway.port) for name, gateway in gateways.items()]) as web:
+        test('no changes', web.text('/changes.json') == b'' and b'<caption><h2>Changes of states</h2>0 shown'
+             in web.text('/changes') and b'<entry>' not in web.text('/changes.atom'))
+        show('east', page(now + 1, b'web1', (b'', b'UP'), (b'HTTP', b'CRITICAL')))
+        show('west', page(now + 2, odd[:-1].encode() + b'\xff', (b'', b'UP'), (b'a/b c', b'OK')))
+        show('east', b'HTTP/1.1 400 Bad Request\r\n\r\n')
+        show('east', page(now + 4, b'web1', (b'', b'DOWN'), (b'HTTP', b'CRITICAL')))
+        wanted = [(now + 4, 'east', 'web1', None, 'UP', 'DOWN'), (now + 2, 'west', odd, 'a/b c', 'WARNING', 'OK'),
+                  (now + 1, 'east', 'web1', 'HTTP', 'OK', 'CRITICAL')]
+        response, lines = web.ask('/changes.json')
+        rows = [dict(zip(('moment', 'gateway', 'host', 'service', 'from', 'to'), row)) for row in wanted]
+        test('changes as JSON lines', lines == b''.join(json.dumps(
+            row, ensure_ascii=False, separators=(',', ':')).encode() + b'\n' for row in rows)
+            and response.getheader('content-type') == 'application/x-ndjson', lines)
+
+        def moment(seconds, between):
+            return time.strftime(f'%Y-%m-%d{between}%H:%M:%SZ', time.gmtime(seconds))
+        found = Tags(web.text('/changes'))
+        test('changes as a page', [row for row in found.rows if row] == [
+            [moment(when, ' '), host + (f' / {service}' if service else ''), before, after, at]
+            for when, at, host, service, before, after in wanted], found.rows)
+        response, feed = web.ask('/changes.atom')
+        read = xml.etree.ElementTree.fromstring(feed)
+        atom = '{http://www.w3.org/2005/Atom}'
+        test('changes as a feed', [(entry.findtext(atom + 'title'), entry.findtext(atom + 'updated'))
+                                   for entry in read.iter(atom + 'entry')] == [
+            (host + (f' / {service}' if service else '') + f': {before} to {after} at {at}', moment(when, 'T'))
+            for when, at, host, service, before, after in wanted]
+            and response.getheader('content-type') == 'application/atom+xml', feed)
+        ids = [entry.findtext(atom + 'id') for entry in read.iter(atom + 'entry')]
+        test('its ids and its links', len({*ids}) == 3 and ids[2] == 'nscagate:change?gateway=east&host=web1&service=HTTP'
+             f'&moment={now + 1}&from=OK&to=CRITICAL' and read.findtext(atom + 'updated') == moment(now + 4, 'T')
+             and urllib.parse.parse_qs(urllib.parse.urlsplit(read.findall(atom + 'entry')[0].find(
+                 atom + 'link').get('href')).query) == {'host': ['web1']}, feed)
+        test('each page links to them', b'<a href="/changes">' in web.text('/') and b'href="/changes.atom"' in web.text('/'))
+
+
 def test_slow_browsers(now):
     """Connections that send nothing, a byte a second, or read nothing, hold others for less than 10 s."""
     large = b'status %d\n' % now + b''.join(
@@ -395,7 +450,7 @@ def test_slow_browsers(now):
             connection = socket.socket()
             connection.setsockopt(socket.SOL_SOCKET, socket.SO_RCVBUF, 4096)
             connection.connect(('127.0.0.1', web.port))
-            connection.sendall(b'GET / HTTP/1.1\r\nHost: x\r\n\r\n')
+            connection.sendall(b'GET / HTTP/1.1\r\nHost: localhost\r\n\r\n')
             deaf.append(connection)
         silent = [web.connect() for _ in range(24)]
         slow = [web.connect() for _ in range(8)]
@@ -403,7 +458,7 @@ def test_slow_browsers(now):
 
         def drip(connection):
             try:
-                for byte in b'GET / HTTP/1.1\r\nHost: x\r\nA: b' + b'c' * 40:
+                for byte in b'GET / HTTP/1.1\r\nHost: localhost\r\nA: b' + b'c' * 40:
                     connection.sendall(bytes([byte]))
                     time.sleep(0.5)
             except OSError:
@@ -492,7 +547,7 @@ def test_ends(now):
         # A browser that has gone before its answer does not end the program.
         for _ in range(20):
             connection = again.connect()
-            connection.sendall(b'GET / HTTP/1.1\r\nHost: x\r\n\r\n')
+            connection.sendall(b'GET / HTTP/1.1\r\nHost: localhost\r\n\r\n')
             connection.setsockopt(socket.SOL_SOCKET, socket.SO_LINGER, struct.pack('ii', 1, 0))
             connection.close()
         test('browsers that go end nothing', b'web1' in again.text('/') and again.process.poll() is None)
@@ -509,7 +564,7 @@ def exchange(web, sent):
 
 
 def test_requests(now):
-    with Web(('east', shows(east(now)).port), words=['--title', 'a <b>', '--refresh', '60']) as web:
+    with Web(('east', shows(east(now)).port), words=['--title', 'a <b>', '--refresh', '60', '--host', 'status.example']) as web:
         test('where it listens is printed', web.line == f'listening 127.0.0.1:{web.port}\n'.encode(), web.line)
         response, page = web.ask('/')
         test('the title and the refresh', b'<title>(1) a &lt;b&gt;</title>' in page
@@ -523,6 +578,16 @@ def test_requests(now):
         test('the other fields', list(fields.values()) == [
             'nosniff', 'no-referrer', 'no-store', 'close', 'text/html; charset=utf-8'], fields)
         style, _ = web.ask('/style.css')
+        dates = [web.ask(path, method)[0].getheader('date') for path, method in [
+            ('/', 'GET'), ('/style.css', 'GET'), ('/other', 'GET'), ('/', 'POST'), ('/', 'HEAD')]]
+        test('each answer has its date', all(
+            abs(email.utils.parsedate_to_datetime(date).timestamp() - time.time()) < 5 for date in dates), dates)
+        for host, status in [(b'localhost', 200), (b'localhost:80', 200), (b'10.0.0.1:8080', 200), (b'[::1]:8080', 200),
+                             (b'status.example', 200), (b'evil.example', 421), (b'127.0.0.1.evil.example:8080', 421),
+                             (b'localhost.evil.example', 421), (b'status.example.evil.example', 421)]:
+            answer = exchange(web, b'GET / HTTP/1.1\r\nHost: ' + host + b'\r\n\r\n')
+            test(f'the host {host.decode()} is {status}', answer.startswith(b'HTTP/1.1 %d ' % status)
+                 and (b'web1' in answer) == (status == 200), answer[:300])
         test('the style', style.status == 200 and style.getheader('cache-control') == 'max-age=300')
         for method, path, status, body in [
                 ('GET', '/other', 404, None), ('GET', '/status.jso', 404, None), ('GET', '//', 404, None),
@@ -532,7 +597,12 @@ def test_requests(now):
             test(f'{method} {path} is {status}', found[0].status == status, found)
             test(f'{method} {path} has the policy', found[0].getheader('content-security-policy') == policy)
         test('the methods of a refusal', web.ask('/', 'POST')[0].getheader('allow') == 'GET, HEAD')
-        test('HEAD has no body', web.ask('/', 'HEAD')[1] == b'')
+        for path in ['/', '/status.json', '/metrics', '/changes', '/changes.json', '/changes.atom', '/style.css']:
+            (whole, _), (head, body) = web.ask(path), web.ask(path, 'HEAD')
+            fields = [[field for field in answer.getheaders() if field[0] not in ('date', 'content-length')]
+                      for answer in (whole, head)]
+            test(f'HEAD {path} has the status and the fields of GET, and no body', whole.status == head.status == 200
+                 and fields[0] == fields[1] and body == b'', (fields, body))
         for name, sent, line in [
                 ('HTTP/1.0', b'GET / HTTP/1.0\r\n\r\n', b'HTTP/1.0 200'),
                 ('no host', b'GET / HTTP/1.1\r\n\r\n', b'HTTP/1.1 400'),
@@ -548,7 +618,7 @@ def test_words():
                   ['--gateway', here, '--listen', 'nowhere'], ['--gateway', here, '--refresh', '1'],
                   ['--gateway', here, '--refresh', '3601'], ['--gateway', here, '--refresh', 'x'],
                   ['--gateway', here, '--every', '0'], ['--gateway', here, '--every', '31'],
-                  ['--gateway', 'a=' + here, '--gateway', 'a=' + here], ['--gateway', here, 'more'],
+                  ['--gateway', 'a=' + here, '--gateway', 'a=' + here], ['--gateway', '=' + here], ['--gateway', here, 'more'],
                   ['--gateway', here, '--help']]:
         run = subprocess.run([PROGRAM, *words], capture_output=True, timeout=10)
         test(f'bad words: {" ".join(words)}', run.returncode == 2 and run.stdout == b''
@@ -694,7 +764,7 @@ def main():
     now = int(time.time())
     at_once(*[lambda check=check: run(check) for check in [test_words, test_pages, test_names]], *[
         lambda check=check: run(check, now) for check in [
-            test_texts, test_faults, test_old, test_since, test_sharing, test_descriptors, test_ends, test_requests, test_browser]])
+            test_texts, test_faults, test_old, test_since, test_changes, test_sharing, test_descriptors, test_ends, test_requests, test_browser]])
     # What takes the processors for itself.
     run(test_slow_browsers, int(time.time()))
     run(test_memory, int(time.time()))
