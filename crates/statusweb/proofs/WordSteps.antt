@@ -1,13 +1,17 @@
 -- Values that were given, or their defaults, and what they set.
-use Rattle.std.proofs.Common.{◌≡◌, ◌<◌, ◌==◌, true, false, ℕ, List, [], ◌∷◌, length, Option, Some, None, Result, Ok, Err, unwrap_or, Bor, ap, sym, subst, ◌∙◌, arith}
+use Rattle.std.proofs.Common.{◌≡◌, ◌<◌, ◌==◌, true, false, ℕ, List, [], ◌∷◌, length, Option, Some, None, Result, Ok, Err, unwrap_or, Bor, ◌⊎◌, inl, inr, ap, sym, subst, ◌∙◌, arith}
 use Rattle.std.proofs.lemmas.Bool.{eqb-true, true≢false}
 use Rattle.std.proofs.lemmas.List.{nil_from_length}
 use Rattle.clap.specs.Walk.{texts}
-use Rattle.clap.specs.Words.{AddsArg, App, Row, Rule, Text, app_of, rule_of, with_rule}
+use Rattle.clap.specs.Words.{AddsArg, App, IsAmong, Kinds, Row, Rule, Text, app_of, kind_of, rule_of, with_rule}
 use Rattle.clap.specs.declared.builder.arg.Arg.{Arg}
 use Rattle.clap.specs.declared.builder.command.Command.{Command}
-use Rattle.statusweb.specs.declared.words.Settings.{Settings}
-use Rattle.statusweb.specs.Words.{gateways_of, Sets}
+use Rattle.clap.specs.declared.error.Error.{Error}
+use Rattle.clap.specs.declared.error.kind.ErrorKind.{ErrorKind}
+use Rattle.statusweb.specs.declared.words.BadValue.{BadValue}
+use Rattle.statusweb.specs.declared.words.WordsFault.{WordsFault}
+use Rattle.statusweb.specs.declared.words.WordsFault.TheVariants.{Refused, Bad, OutOfMemory}
+use Rattle.statusweb.specs.Words.{gateways_of}
 
 pub given : {A : Type 0} {value : A} {found : Option A} (default : A) → Some value ≡ found
     → value ≡ unwrap_or found default
@@ -16,16 +20,9 @@ given default is = ap (λ found. unwrap_or found default) is
 pub not_given : {A : Type 0} {found : Option A} (default : A) → None ≡ found → default ≡ unwrap_or found default
 not_given default is = ap (λ found. unwrap_or found default) is
 
-pub nothing_given : (found : List Row) (settings : Settings) → [] ≡ gateways_of found → Sets found settings → ⊥
-nothing_given found settings none sets =
-    let some : 0 < 0 = subst (λ (given : List Text). 0 < length given) (sym none) sets.some in
-    absurd (omega (arith, some))
-
-pub none_given : (values : List (Bor (List ℕ))) (found : List Row) (settings : Settings) → texts values ≡ gateways_of found
-    → (length values == 0) ≡ true → Sets found settings → ⊥
-none_given values found settings same none sets =
-    let empty = nil_from_length values (eqb-true (length values) 0 none) in
-    nothing_given found settings (sym (ap texts empty) ∙ same) sets
+pub nothing_given : (values : List (Bor (List ℕ))) (found : List Row) → texts values ≡ gateways_of found
+    → (length values == 0) ≡ true → gateways_of found ≡ []
+nothing_given values found same none = sym same ∙ ap texts (nil_from_length values (eqb-true (length values) 0 none))
 
 pub some_given : (values : List (Bor (List ℕ))) (found : List Row) → texts values ≡ gateways_of found
     → (length values == 0) ≡ false → 0 < length (gateways_of found)
@@ -34,9 +31,24 @@ some_given (value ∷ values) found same some =
     let more : 0 < length (texts (value ∷ values)) = omega arith in
     subst (λ (given : List Text). 0 < length given) same more
 
-pub same_fault : {T U E : Type 0} (fault other : E) → ◌≡◌ {A = Result T E} (Err fault) (Err other)
-    → ◌≡◌ {A = Result U E} (Err fault) (Err other)
-same_fault fault other same = ap (λ result. elim result [ Ok value ↦ Err fault | Err known ↦ Err known ]) same
+-- the value of a fault that is this one
+pub same_value : {T : Type 0} (known value : BadValue) → ◌≡◌ {A = Result T WordsFault} (Err (Bad known)) (Err (Bad value))
+    → known ≡ value
+same_value known value same =
+    ap (λ result. elim result [
+      | Ok other ↦ known
+      | Err fault ↦ elim fault [ Refused error ↦ known | Bad found ↦ found | OutOfMemory ↦ known ]
+    ]) same
+
+-- what clap refuses, but where memory ran out
+pub is_among : {T : Type 0} (kinds : Kinds) (error other : Error) (fault : WordsFault) (memory : ErrorKind)
+    → ((known : Error) → fault ≡ Refused known → (error ≡ known) × (kind_of error ≡ memory → ⊥))
+    → ◌≡◌ {A = Result T WordsFault} (Err fault) (Err (Refused other))
+    → (kind_of error ≡ memory) ⊎ IsAmong (kind_of error) kinds → IsAmong (kind_of other) kinds
+is_among kinds error other fault memory refused same has =
+    let known = refused other (ap (λ result. elim result [ Ok value ↦ fault | Err found ↦ found ]) same) in
+    subst (λ (error : Error). IsAmong (kind_of error) kinds) known.0
+    (elim has [ inl is ↦ absurd (known.1 is) | inr among ↦ among ])
 
 -- a command line with one more argument
 pub app_more : (old new : Command) (arg : Arg) (rule : Rule) (app : App) → AddsArg old arg new → arg.global ≡ false

@@ -1,9 +1,3 @@
 pub mod Words
 pub mod Fault
-pub mod Answers
-pub mod Causes
-pub mod Watching
-pub mod Pages
-pub mod Changing
-pub mod Hosts
 pub mod Service

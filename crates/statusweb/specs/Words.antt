@@ -1,15 +1,19 @@
--- What the words after the program's name ask for (`AskFor`): they are read by clap, whose definitions say what it makes
--- of the command line `program`. Own rules.
-use Rattle.std.specs.Prelude.{◌≡◌, ℕ, ◌+◌, ◌<◌, ◌≤◌, ◌⊎◌, ⊤, true, ◌==◌, List, [], ◌∷◌, length, map, take, drop, Option, Some, None, unwrap_or, codes}
-use Rattle.std.specs.List.{IsDistinct, position}
+-- What the words after the program's name ask for (`AskFor`), and the value that an option can't have (`IsBadValue`). They
+-- are read by clap, whose definitions say what it makes of the command line `program`. Own rules.
+use Rattle.std.specs.Prelude.{◌≡◌, ℕ, ◌<◌, true, List, [], length, map, Some, unwrap_or, codes}
+use Rattle.std.specs.declared.net.socket_addr.SocketAddr.{SocketAddr}
+use Rattle.std.specs.List.{Any, IsDistinct}
 use Rattle.std.specs.Str.{bytes_eq}
-use Rattle.std.specs.Str.Parse.{IsNumeral, digits_value, without_leading_plus}
 use Rattle.std.specs.Net.Grammar.{IsSocketText}
 use Rattle.clap.specs.Words.{App, Row, Rule, Text, all_of, fault_of, first_of, new_app, new_rule, with_rule}
 use Rattle.clap.specs.Simple.{matches_of}
 use Rattle.clap.specs.declared.builder.ArgAction.TheVariants.{Set, Append}
-use Rattle.statusweb.specs.declared.words.Place.{Place}
+use Rattle.page_watching.specs.declared.places.Place.{Place}
+use Rattle.page_watching.specs.Places.{name_of, Names, NameAll, WritesEvery}
+use Rattle.status_serving.specs.Headings.{WritesRefresh}
 use Rattle.statusweb.specs.declared.words.Settings.{Settings}
+use Rattle.statusweb.specs.declared.words.BadValue.{BadValue}
+use Rattle.statusweb.specs.declared.words.BadValue.TheVariants.{Listen, Refresh, Every, Gateway, SameName, NoGateway}
 
 -- `--NAME VALUE`
 abbrev pub option_of : List ℕ → Rule
@@ -52,48 +56,6 @@ gateways_of found = unwrap_or (all_of (codes "gateway") found) []
 abbrev pub hosts_of : List Row → List Text
 hosts_of found = unwrap_or (all_of (codes "host") found) []
 
--- the index of the first `=` (61)
-abbrev pub equals_in : List ℕ → Option ℕ
-equals_in value = position (λ byte. byte == 61) value
-
--- NAME of `NAME=ADDRESS`; an address alone is its own name
-abbrev pub name_of : List ℕ → List ℕ
-name_of value = elim (equals_in value) [ Some index ↦ take index value | None ↦ value ]
-
--- ADDRESS of `NAME=ADDRESS`, or the address alone
-abbrev pub address_of : List ℕ → List ℕ
-address_of value = elim (equals_in value) [ Some index ↦ drop (index + 1) value | None ↦ value ]
-
--- a value of `--gateway` names this place, whose name is not empty
-abbrev pub Names : List ℕ → Place → Type 0
-Names value place =
-    (place.name.now ≡ name_of value) × IsSocketText (address_of value) place.address × (0 < length (name_of value))
-
--- these values name these places, in their order
-abbrev pub NameAll : List (List ℕ) → List Place → Type 0
-NameAll [] [] = ⊤
-NameAll (value ∷ values) (place ∷ places) = Names value place × NameAll values places
-NameAll _ _ = ⊥
-
--- the seconds after which a browser asks again: 0 (never), or 2 to 3600
-abbrev pub IsRefresh : ℕ → Type 0
-IsRefresh seconds = (seconds ≡ 0) ⊎ ((2 ≤ seconds) × (seconds ≤ 3600))
-
--- a text writes these seconds
-abbrev pub WritesRefresh : List ℕ → ℕ → Type 0
-WritesRefresh text seconds =
-    IsNumeral 10 (without_leading_plus text)
-    × (digits_value 10 (without_leading_plus text) ≡ seconds)
-    × IsRefresh seconds
-
--- a text writes 1 to 30 seconds between fetches
-abbrev pub WritesEvery : List ℕ → ℕ → Type 0
-WritesEvery text seconds =
-    IsNumeral 10 (without_leading_plus text)
-    × (digits_value 10 (without_leading_plus text) ≡ seconds)
-    × (1 ≤ seconds)
-    × (seconds ≤ 30)
-
 -- what was found in the words sets this
 pub record Sets (found : List Row) (settings : Settings) : Type 0 where
   pub listen : IsSocketText (value_of (codes "listen") (codes "127.0.0.1:8080") found) settings.listen
@@ -108,3 +70,13 @@ pub record Sets (found : List Row) (settings : Settings) : Type 0 where
 -- the words ask for these settings
 abbrev pub AskFor : List Text → Settings → Type 0
 AskFor words settings = (fault_of program words ≡ []) × Sets (matches_of program words) settings
+
+-- what was found in the words has this value, which its option can't have
+abbrev pub IsBadValue : BadValue → List Row → Type 0
+IsBadValue Listen found =
+    (address : SocketAddr) → IsSocketText (value_of (codes "listen") (codes "127.0.0.1:8080") found) address → ⊥
+IsBadValue Refresh found = (seconds : ℕ) → WritesRefresh (value_of (codes "refresh") (codes "30") found) seconds → ⊥
+IsBadValue Every found = (seconds : ℕ) → WritesEvery (value_of (codes "every") (codes "5") found) seconds → ⊥
+IsBadValue Gateway found = Any (λ value. (place : Place) → Names value place → ⊥) (gateways_of found)
+IsBadValue SameName found = IsDistinct bytes_eq (map name_of (gateways_of found)) → ⊥
+IsBadValue NoGateway found = gateways_of found ≡ []

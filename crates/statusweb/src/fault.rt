@@ -1,8 +1,10 @@
 ghost use Rattle.std.specs.Prelude.{◌≡◌, ◌≢◌};
 ghost use Rattle.std.specs.IoError.{error_kind};
+ghost use Rattle.statusweb.specs.Fault.{bad_line};
 
-use crate::words::WordsFault;
+use crate::words::BadValue;
 use gate_reader::{Fault, Sink, put_last, put_line};
+use status_serving::ServeFault;
 use std::alloc::AllocError;
 use std::io;
 use std::io::ErrorKind;
@@ -10,8 +12,12 @@ use std::io::ErrorKind;
 /// Why the program doesn't serve.
 #[derive(Debug, Drop)]
 pub enum WebFault {
-    /// The words after the program's name ask for nothing, or can't be read as text.
+    /// The words after the program's name can't be read as text.
     BadArguments,
+    /// clap refuses the words, with this message of whole lines.
+    Refused(String),
+    /// An option can't have this value.
+    Bad(BadValue),
     /// This address can't be bound.
     Bind(String),
     /// Memory ran out.
@@ -32,16 +38,30 @@ impl From<AllocError> for WebFault {
     }
 }
 
-impl From<WordsFault> for WebFault {
+impl From<ServeFault> for WebFault {
     ghost use Rattle.statusweb.specs.Fault.{web_fault};
 
     ghost from_gives = { λ fault other. other ≡ web_fault fault };
 
-    fn from(fault: WordsFault) -> WebFault {
+    fn from(fault: ServeFault) -> WebFault {
         match fault {
-            WordsFault::BadArguments => WebFault::BadArguments,
-            WordsFault::OutOfMemory => WebFault::OutOfMemory,
+            ServeFault::Spawn => WebFault::Spawn,
+            ServeFault::OutOfMemory => WebFault::OutOfMemory,
         }
+    }
+}
+
+// The line that reports a bad value.
+fn bad_line(value: BadValue) -> &'static [u8]
+    ensures { result.now ≡ bad_line value }
+{
+    match value {
+        BadValue::Listen => b"statusweb: --listen: not an IP address and a port\n",
+        BadValue::Refresh => b"statusweb: --refresh: not 0 or 2 to 3600\n",
+        BadValue::Every => b"statusweb: --every: not 1 to 30\n",
+        BadValue::Gateway => b"statusweb: --gateway: not [NAME=]ADDRESS:PORT\n",
+        BadValue::SameName => b"statusweb: --gateway: two of one name\n",
+        BadValue::NoGateway => b"statusweb: --gateway: missing\n",
     }
 }
 
@@ -55,7 +75,7 @@ impl Fault for WebFault {
     /// 2 for the words, 4 where the address can't be bound, and otherwise 3. Own rule.
     fn status(&self) -> u8 {
         match self {
-            WebFault::BadArguments => 2,
+            WebFault::BadArguments | WebFault::Refused(_) | WebFault::Bad(_) => 2,
             WebFault::Bind(_) => 4,
             WebFault::OutOfMemory | WebFault::Spawn | WebFault::WriteFault => 3,
         }
@@ -65,6 +85,8 @@ impl Fault for WebFault {
     fn report<E: Sink>(&self, errors: &mut E) -> io::Result<()> {
         match self {
             WebFault::BadArguments => put_last(errors, b"statusweb: bad arguments\n"),
+            WebFault::Refused(message) => put_last(errors, message.as_bytes()),
+            WebFault::Bad(value) => put_last(errors, bad_line(*value)),
             WebFault::Bind(address) => put_line(errors, b"statusweb: bind ", address.as_bytes()),
             WebFault::OutOfMemory => put_last(errors, b"statusweb: OutOfMemory\n"),
             WebFault::Spawn => put_last(errors, b"statusweb: Spawn\n"),

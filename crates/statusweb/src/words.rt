@@ -1,25 +1,17 @@
-ghost use Rattle.std.specs.Prelude.{◌≡◌, ◌++◌, ◌∷◌, [], List, IsOk, IfOk, IfErr, false, IsTrue, IsFalse, Ok, Err, MatchResult, map, string_bytes, codes};
-ghost use Rattle.std.specs.List.{IsDistinct, list_any};
-ghost use Rattle.std.specs.Str.{bytes_eq};
-ghost use Rattle.std.specs.Net.Grammar.{IsSocketText};
+ghost use Rattle.std.specs.Prelude.{◌≡◌, ◌≢◌, IfOk, false, IsTrue, IsFalse, Err, map, string_bytes, codes};
 ghost use Rattle.clap.specs.Walk.{texts};
-ghost use Rattle.clap.specs.Words.{new_app, app_of, rule_of, found_of, rows_of, first_of, all_of};
-ghost use Rattle.statusweb.specs.declared.words.Settings.{Settings as Asked};
-ghost use Rattle.statusweb.specs.declared.words.Place.{Place as Named};
-ghost use Rattle.statusweb.specs.declared.words.WordsFault.TheVariants.{BadArguments};
-ghost use Rattle.statusweb.specs.Words.{option_of, gateway, host, hosts_of, unnamed, program, name_of, address_of, Names, NameAll, WritesRefresh, WritesEvery, value_of, gateways_of, Sets, AskFor};
+ghost use Rattle.clap.specs.Words.{IsAmong, new_app, app_of, rule_of, fault_of, found_of, kind_of, rows_of, first_of, all_of};
+ghost use Rattle.clap.specs.Simple.{matches_of};
+ghost use Rattle.clap.specs.declared.error.Error.{Error as Refusal};
+ghost use Rattle.statusweb.specs.declared.words.WordsFault.TheVariants.{Refused, Bad};
+ghost use Rattle.statusweb.specs.Words.{option_of, gateway, host, hosts_of, unnamed, program, value_of, gateways_of, Sets, AskFor, IsBadValue};
 
 use clap::error::ErrorKind;
-use clap::{Arg, ArgAction, ArgMatches, Command};
-use std::alloc::{AllocError, AllocFailed, Global};
+use clap::{Arg, ArgAction, ArgMatches, Command, Error};
+use page_watching::{Place, PlacesFault, address_in, every_in, places_in};
+use status_serving::refresh_in;
+use std::alloc::{AllocError, Global};
 use std::net::SocketAddr;
-
-/// A gateway's name, and the address of its pages port.
-#[derive(Clone, Copy, Debug)]
-pub struct Place<'a> {
-    pub name: &'a str,
-    pub address: SocketAddr,
-}
 
 /// What the program is run with.
 #[derive(Drop)]
@@ -35,13 +27,30 @@ pub struct Settings<'a> {
     pub hosts: Vec<&'a str>,
 }
 
-/// Why the words are no settings.
+/// A value that its option can't have.
 #[derive(Clone, Copy, Debug, PartialEq, Eq)]
+pub enum BadValue {
+    /// `--listen` is no IP address and port.
+    Listen,
+    /// `--refresh` is not 0 or 2 to 3600.
+    Refresh,
+    /// `--every` is not 1 to 30.
+    Every,
+    /// A `--gateway` has an empty name, or no IP address and port.
+    Gateway,
+    /// Two of `--gateway` have one name.
+    SameName,
+    /// There is no `--gateway`.
+    NoGateway,
+}
+
+/// Why the words are no settings.
+#[derive(Debug, Drop)]
 pub enum WordsFault {
-    /// No gateway, one of no name, two of one name, an address that is no IP address and port, a
-    /// refresh that is not 0 or 2 to 3600, seconds between fetches that are not 1 to 30, or an
-    /// unknown word.
-    BadArguments,
+    /// clap refuses them, or they ask for help: its message.
+    Refused(Error),
+    /// An option can't have this value.
+    Bad(BadValue),
     /// Memory ran out.
     OutOfMemory,
 }
@@ -56,22 +65,15 @@ impl From<AllocError> for WordsFault {
     }
 }
 
-impl<T: Drop> From<AllocFailed<T>> for WordsFault {
-    ghost use Rattle.statusweb.specs.declared.words.WordsFault.TheVariants.{OutOfMemory};
-
-    ghost from_gives = { λ _ fault. fault ≡ OutOfMemory };
-
-    fn from(_: AllocFailed<T>) -> WordsFault {
-        WordsFault::OutOfMemory
-    }
-}
-
 // `--NAME VALUE`.
-fn option<'a>(alloc: Global, name: &'a str) -> Arg<'a>
+fn option<'a>(alloc: Global, name: &'a str, help: &'a str) -> Arg<'a>
     ensures rule { rule_of result ≡ option_of name.entry.now }
     ensures local { result.global ≡ false }
 {
-    Arg::new(alloc, name).long(name).action(ArgAction::Set)
+    Arg::new(alloc, name)
+        .long(name)
+        .action(ArgAction::Set)
+        .help(help)
 }
 
 // `--gateway VALUE`, which is there once or more.
@@ -83,6 +85,7 @@ fn gateway<'a>(alloc: Global) -> Arg<'a>
         .long("gateway")
         .required(true)
         .action(ArgAction::Append)
+        .help("The pages port of a gateway, as [NAME=]ADDRESS:PORT; once for each")
 }
 
 // `--host VALUE`, which may be there more than once.
@@ -93,103 +96,39 @@ fn host<'a>(alloc: Global) -> Arg<'a>
     Arg::new(alloc, "host")
         .long("host")
         .action(ArgAction::Append)
+        .help("A name under which browsers reach it; once for each")
 }
 
 fn unnamed<'a>(alloc: Global) -> Command<'a>
     ensures { app_of result ≡ unnamed (new_app (codes "statusweb")) }
 {
-    Command::new(alloc, "statusweb").no_binary_name(true)
+    Command::new(alloc, "statusweb").no_binary_name(true).about(
+        "Shows the status pages of gateways to browsers, scripts and Prometheus",
+    )
 }
 
 fn command_line<'a>(alloc: Global) -> Result<Command<'a>, AllocError>
     ensures { IfOk result (λ command. app_of command ≡ program) }
 {
     unnamed(alloc)
-        .arg(option(alloc, "listen"))?
+        .arg(option(
+            alloc,
+            "listen",
+            "Where browsers connect [default: 127.0.0.1:8080]",
+        ))?
         .arg(gateway(alloc))?
-        .arg(option(alloc, "title"))?
-        .arg(option(alloc, "refresh"))?
-        .arg(option(alloc, "every"))?
+        .arg(option(alloc, "title", "The title of the page [default: nscagate]"))?
+        .arg(option(
+            alloc,
+            "refresh",
+            "The seconds after which a browser asks again: 0 (never), or 2 to 3600 [default: 30]",
+        ))?
+        .arg(option(
+            alloc,
+            "every",
+            "The seconds between two fetches of a page: 1 to 30 [default: 5]",
+        ))?
         .arg(host(alloc))
-}
-
-fn address_in(text: &str) -> Result<SocketAddr, WordsFault>
-    ensures { MatchResult result (IsSocketText text.now)
-        (λ fault. (address : _) → IsSocketText text.now address → ⊥) }
-{
-    match SocketAddr::parse_ascii(text.as_bytes()) {
-        Ok(address) => Ok(address),
-        Err(_) => Err(WordsFault::BadArguments),
-    }
-}
-
-// `NAME=ADDRESS`, or an address, which is its own name.
-fn parts_of<'a>(value: &'a str) -> (&'a str, &'a str)
-    ensures name { result.0.now ≡ name_of value.entry.now }
-    ensures address { result.1.now ≡ address_of value.entry.now }
-{
-    match value.split_once('=') {
-        Some((name, address)) => (name, address),
-        None => (value, value),
-    }
-}
-
-fn place_in<'a>(value: &'a str) -> Result<Place<'a>, WordsFault>
-    ensures { MatchResult result (Names value.entry.now)
-        (λ fault. (place : Named) → Names value.entry.now place → ⊥) }
-{
-    let (name, text) = parts_of(value);
-    if name.is_empty() {
-        return Err(WordsFault::BadArguments);
-    }
-    match address_in(text) {
-        Ok(address) => Ok(Place { name, address }),
-        Err(fault) => Err(fault),
-    }
-}
-
-fn is_named(places: &[Place<'_>], name: &str) -> bool
-    ensures { result ≡ list_any (λ place. bytes_eq place.name.now name.now) places.now }
-{
-    places.iter().any(|place| place.name == name)
-}
-
-fn places_in<'a>(alloc: Global, values: &[&'a str]) -> Result<Vec<Place<'a>>, WordsFault>
-    ensures places { IfOk result (λ places. NameAll (texts values.now) places.items) }
-    ensures distinct { IsOk result → IsDistinct bytes_eq (map name_of (texts values.now)) }
-    ensures refused { result ≡ Err BadArguments → (places : List Named)
-        → NameAll (texts values.now) places
-        → IsDistinct bytes_eq (map name_of (texts values.now)) → ⊥ }
-{
-    let mut places: Vec<Place<'a>> = Vec::new(alloc);
-    for value in values {
-        let place = place_in(*value)?;
-        if is_named(places.as_slice(), place.name) {
-            return Err(WordsFault::BadArguments);
-        }
-        places.push(place)?;
-    }
-    Ok(places)
-}
-
-fn refresh_in(text: &str) -> Result<u32, WordsFault>
-    ensures { MatchResult result (WritesRefresh text.now)
-        (λ fault. (seconds : _) → WritesRefresh text.now seconds → ⊥) }
-{
-    match text.parse::<u32>() {
-        Ok(seconds) if seconds == 0 || (2..=3600).contains(&seconds) => Ok(seconds),
-        _ => Err(WordsFault::BadArguments),
-    }
-}
-
-fn every_in(text: &str) -> Result<u32, WordsFault>
-    ensures { MatchResult result (WritesEvery text.now)
-        (λ fault. (seconds : _) → WritesEvery text.now seconds → ⊥) }
-{
-    match text.parse::<u32>() {
-        Ok(seconds) if (1..=30).contains(&seconds) => Ok(seconds),
-        _ => Err(WordsFault::BadArguments),
-    }
 }
 
 // The value of an option, or its default.
@@ -214,18 +153,25 @@ fn hosts_in<'a>(alloc: Global, matches: &ArgMatches<'a>) -> Result<Vec<&'a str>,
 
 fn settings_in<'a>(alloc: Global, matches: &ArgMatches<'a>) -> Result<Settings<'a>, WordsFault>
     ensures found { IfOk result (Sets (rows_of (found_of matches.now))) }
-    ensures refused { result ≡ Err BadArguments → (settings : Asked)
-        → Sets (rows_of (found_of matches.now)) settings → ⊥ }
+    ensures bad { (value : BadValue) → result ≡ Err (Bad value)
+        → IsBadValue value (rows_of (found_of matches.now)) }
+    ensures ours { (error : Refusal) → result ≡ Err (Refused error) → ⊥ }
 {
     let Some(values) = matches.get_strs("gateway") else {
-        return Err(WordsFault::BadArguments);
+        return Err(WordsFault::Bad(BadValue::NoGateway));
     };
     if values.is_empty() {
-        return Err(WordsFault::BadArguments);
+        return Err(WordsFault::Bad(BadValue::NoGateway));
     }
-    let listen = address_in(value_of(matches, "listen", "127.0.0.1:8080"))?;
-    let refresh = refresh_in(value_of(matches, "refresh", "30"))?;
-    let every = every_in(value_of(matches, "every", "5"))?;
+    let Some(listen) = address_in(value_of(matches, "listen", "127.0.0.1:8080")) else {
+        return Err(WordsFault::Bad(BadValue::Listen));
+    };
+    let Some(refresh) = refresh_in(value_of(matches, "refresh", "30")) else {
+        return Err(WordsFault::Bad(BadValue::Refresh));
+    };
+    let Some(every) = every_in(value_of(matches, "every", "5")) else {
+        return Err(WordsFault::Bad(BadValue::Every));
+    };
     let title = value_of(matches, "title", "nscagate");
     let hosts = hosts_in(alloc, matches)?;
     match places_in(alloc, values) {
@@ -237,7 +183,21 @@ fn settings_in<'a>(alloc: Global, matches: &ArgMatches<'a>) -> Result<Settings<'
             every,
             hosts,
         }),
-        Err(fault) => Err(fault),
+        Err(PlacesFault::BadPlace) => Err(WordsFault::Bad(BadValue::Gateway)),
+        Err(PlacesFault::SameName) => Err(WordsFault::Bad(BadValue::SameName)),
+        Err(PlacesFault::OutOfMemory) => Err(WordsFault::OutOfMemory),
+    }
+}
+
+// The fault of words that clap refuses.
+fn fault_of(error: Error) -> WordsFault
+    ensures bad { (value : BadValue) → result ≡ Bad value → ⊥ }
+    ensures refused { (other : Refusal) → result ≡ Refused other
+        → (error ≡ other) × (kind_of error ≢ ErrorKind.OutOfMemory) }
+{
+    match error.kind() {
+        ErrorKind::OutOfMemory => WordsFault::OutOfMemory,
+        _ => WordsFault::Refused(error),
     }
 }
 
@@ -245,20 +205,20 @@ fn settings_in<'a>(alloc: Global, matches: &ArgMatches<'a>) -> Result<Settings<'
 /// more, `--title TEXT`, `--refresh SECONDS`, `--every SECONDS` and `--host NAME` as often as needed, in
 /// any spelling that `clap` reads.
 ///
-/// `BadArguments` as its variant says. `OutOfMemory` may be returned in place of any answer.
+/// `Refused`: clap refuses them, or they ask for help. `Bad`: this value. `OutOfMemory` may be
+/// returned in place of any answer.
 pub fn read_words<'a>(alloc: Global, words: &'a [String]) -> Result<Settings<'a>, WordsFault>
     ensures asked { IfOk result (AskFor (map string_bytes words.entry.now)) }
-    ensures refused { result ≡ Err BadArguments → (settings : Asked)
-        → AskFor (map string_bytes words.entry.now) settings → ⊥ }
+    ensures refused { (error : Refusal) → result ≡ Err (Refused error)
+        → IsAmong (kind_of error) (fault_of program (map string_bytes words.entry.now)) }
+    ensures bad { (value : BadValue) → result ≡ Err (Bad value)
+        → IsBadValue value (matches_of program (map string_bytes words.entry.now)) }
 {
     let Ok(command) = command_line(alloc) else {
         return Err(WordsFault::OutOfMemory);
     };
     match command.try_get_matches_from(words) {
         Ok(matches) => settings_in(alloc, &matches),
-        Err(error) => match error.kind() {
-            ErrorKind::OutOfMemory => Err(WordsFault::OutOfMemory),
-            _ => Err(WordsFault::BadArguments),
-        },
+        Err(error) => Err(fault_of(error)),
     }
 }

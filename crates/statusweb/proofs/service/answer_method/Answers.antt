@@ -1,14 +1,15 @@
 use Rattle.std.proofs.Common.{◌≡◌, Bool, Option, Some, rules, subst}
 use Rattle.http.specs.Request.{head_of}
 use Rattle.statusweb.specs.Service.{body_asked, IsMethodAnswer}
-use Rattle.statusweb.proofs.ServiceSteps.{on_ok}
+use Rattle.web_answers.proofs.FieldSteps.{on_ok}
 use Rattle.statusweb.proofs.service.answer_method.Goals as goal
 
 pub returns-in-Some : goal.returns-in-Some
 returns-in-Some g c =
-    let settings = c.args.web.now.watch.now.settings.now in
+    let heading = c.args.site.now.heading in
+    let places = c.args.site.now.watch.now.places.now in
     let head = head_of c.args.request.now in
     let same : Some c.in-Some.whole ≡ body_asked (head_of c.args.request.now).method = search rules in
     on_ok c.send_path.result
-    (λ answer. subst (λ (asked : Option Bool). IsMethodAnswer asked settings c.args.now head c.send_path.new.response) same answer)
+    (λ answer. subst (λ (asked : Option Bool). IsMethodAnswer asked heading places c.args.now head c.send_path.new.response) same answer)
     c.send_path.ensures

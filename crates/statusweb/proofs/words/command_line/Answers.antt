@@ -1,4 +1,4 @@
-use Rattle.statusweb.proofs.BodySteps.{if_ok}
+use Rattle.status_serving.proofs.BodySteps.{if_ok}
 use Rattle.statusweb.proofs.WordSteps.{app_more}
 use Rattle.statusweb.proofs.words.command_line.Goals as goal
 

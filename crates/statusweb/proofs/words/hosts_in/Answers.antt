@@ -2,7 +2,7 @@ use Rattle.std.proofs.Common.{[], ap, codes, ◌∙◌}
 use Rattle.clap.specs.Walk.{texts}
 use Rattle.clap.specs.Words.{found_of}
 use Rattle.clap.proofs.WalkLemmas.{raw_values-rows}
-use Rattle.statusweb.proofs.BodySteps.{if_ok}
+use Rattle.status_serving.proofs.BodySteps.{if_ok}
 use Rattle.statusweb.proofs.WordSteps.{given, not_given}
 use Rattle.statusweb.proofs.words.hosts_in.Goals as goal
 

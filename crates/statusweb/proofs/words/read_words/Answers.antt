@@ -1,8 +1,11 @@
-use Rattle.std.proofs.Common.{◌≡◌, List, [], true, map, string_bytes, ap, sym, subst, ◌∙◌}
-use Rattle.clap.specs.Words.{App, Row, Text, app_of, fault_of, is_simple_and_free}
+use Rattle.std.proofs.Common.{◌≡◌, ◌⊎◌, List, [], true, map, string_bytes, ap, sym, subst, ◌∙◌}
+use Rattle.clap.specs.Words.{App, IsAmong, Row, Text, app_of, fault_of, is_simple_and_free}
+use Rattle.clap.specs.Values.{kind_of}
+use Rattle.clap.specs.declared.error.kind.ErrorKind.TheVariants.{OutOfMemory}
 use Rattle.clap.specs.Simple.{is_simple, matches_of}
-use Rattle.statusweb.specs.Words.{Sets}
-use Rattle.statusweb.proofs.BodySteps.{if_ok}
+use Rattle.statusweb.specs.Words.{Sets, IsBadValue}
+use Rattle.status_serving.proofs.BodySteps.{if_ok}
+use Rattle.statusweb.proofs.WordSteps.{is_among}
 use Rattle.statusweb.proofs.words.read_words.Goals as goal
 
 pub returns-in-Ok-try_get_matches_from-clause-asked :
@@ -18,11 +21,19 @@ returns-in-Ok-try_get_matches_from-clause-asked c =
     (λ settings known. (none, subst (λ (found : List Row). Sets found settings) rows known))
     c.settings_in.ensures.found
 
-pub returns-in-Ok-try_get_matches_from-clause-refused :
-    goal.returns-in-Ok-try_get_matches_from-clause-refused
-returns-in-Ok-try_get_matches_from-clause-refused c = λ bad settings asks.
+pub returns-in-Ok-try_get_matches_from-clause-bad : goal.returns-in-Ok-try_get_matches_from-clause-bad
+returns-in-Ok-try_get_matches_from-clause-bad c = λ value same.
     let words : List Text = map string_bytes c.args.words.now in
     let is : is_simple (app_of c.in-Ok.command) ≡ true = ap is_simple c.in-Ok.ensures in
     let rows = (c.in-Ok-try_get_matches_from.ensures.matches is).0
     ∙ ap (λ (app : App). matches_of app words) c.in-Ok.ensures in
-    c.settings_in.ensures.refused bad settings (subst (λ (found : List Row). Sets found settings) (sym rows) asks.1)
+    subst (λ (found : List Row). IsBadValue value found) rows (c.settings_in.ensures.bad value same)
+
+pub returns-in-Err-clause-refused : goal.returns-in-Err-clause-refused
+returns-in-Err-clause-refused c = λ other same.
+    let words : List Text = map string_bytes c.args.words.now in
+    let free : is_simple_and_free (app_of c.in-Ok.command) ≡ true = ap is_simple_and_free c.in-Ok.ensures in
+    let Has : App → Type 0 =
+    λ app. (kind_of c.in-Err.error ≡ OutOfMemory) ⊎ IsAmong (kind_of c.in-Err.error) (fault_of app words) in
+    is_among _ c.in-Err.error other c.fault_of.result OutOfMemory c.fault_of.ensures.refused same
+    (subst Has c.in-Ok.ensures (c.in-Err.ensures.kinds free))

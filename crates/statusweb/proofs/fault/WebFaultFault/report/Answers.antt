@@ -1,7 +1,7 @@
 use Rattle.statusweb.proofs.fault.WebFaultFault.report.Goals as goal
 
 pub returns-in-Bind-clause-ok : goal.returns-in-Bind-clause-ok
-returns-in-Bind-clause-ok g c = rw (c.in-Bind.is) (rw (c.as_bytes.ensures.value) at c.put_line.ensures.ok)
+returns-in-Bind-clause-ok g c = rw (c.in-Bind.is) (rw (c.as_bytes-in-Bind.ensures.value) at c.put_line.ensures.ok)
 
 pub returns-in-OutOfMemory-clause-ok : goal.returns-in-OutOfMemory-clause-ok
 returns-in-OutOfMemory-clause-ok g c = rw (c.in-OutOfMemory.is) c.put_last-in-OutOfMemory.ensures.ok

@@ -1,0 +1,50 @@
+-- Gateways that are shown one after another, what a query selects of their objects, and the page of that.
+use Rattle.std.proofs.Common.{◌≡◌, ℕ, ◌+◌, ◌<◌, ◌≤◌, List, [], ◌∷◌, ◌++◌, length, take, get_or, Result, Ok, Err, IfOk, ap, sym, ◌∙◌, subst}
+use Rattle.std.specs.List.{AllZip}
+use Rattle.std.proofs.lemmas.List.{take_all, take_more}
+use Rattle.std.proofs.lemmas.Slice.Zip.{all_zipped_more}
+use Rattle.status_merge.specs.declared.gateway.Gateway.{Gateway}
+use Rattle.status_merge.specs.declared.gateway.MergedObject.{MergedObject}
+use Rattle.status_merge.specs.declared.query.Choice.{Choice}
+use Rattle.status_merge.specs.Selecting.{selected}
+use Rattle.status_view.specs.declared.view.View.{View}
+use Rattle.status_view.specs.Shapes.{page_shape}
+use Rattle.status_view.specs.Page.{page_nodes}
+use Rattle.status_view.specs.Filling.{filled, html_bytes}
+use Rattle.status_serving.specs.declared.headings.Heading.{Heading}
+use Rattle.page_watching.specs.declared.watching.Seen.{Seen}
+use Rattle.status_serving.specs.Pages.{IsShown, Views, IsPage}
+
+taken_more : {A : Type 0} (list : List A) (index : ℕ) (one : A) → index < length list → one ≡ get_or list index one
+    → take (index + 1) list ≡ take index list ++ one ∷ []
+taken_more list index one inside is =
+    take_more list index one inside ∙ ap (λ last. take index list ++ last ∷ []) (sym is)
+
+pub shown_more : (now : ℕ) (seen : List Seen) (index : ℕ) (one : Seen) (gateways more : List Gateway) (gateway : Gateway)
+    → index < length seen → one ≡ get_or seen index one → AllZip (IsShown now) (take index seen) gateways
+    → more ≡ gateways ++ gateway ∷ [] → IsShown now one gateway → AllZip (IsShown now) (take (index + 1) seen) more
+shown_more now seen index one gateways more gateway inside is shown pushed here =
+    let zipped = all_zipped_more (IsShown now) (take index seen) gateways one gateway shown here in
+    let whole = subst (AllZip (IsShown now) (take index seen ++ one ∷ [])) (sym pushed) zipped in
+    subst (λ (front : List Seen). AllZip (IsShown now) front more) (sym (taken_more seen index one inside is)) whole
+
+pub all_shown : (now : ℕ) (seen : List Seen) (index : ℕ) (gateways : List Gateway) → length seen ≤ index
+    → AllZip (IsShown now) (take index seen) gateways → AllZip (IsShown now) seen gateways
+all_shown now seen index gateways ends shown =
+    subst (λ (front : List Seen). AllZip (IsShown now) front gateways) (take_all index seen ends) shown
+
+pub if_ok : {T E : Type 0} {P Q : T → Type 0} (result : Result T E) → ((value : T) → P value → Q value) → IfOk result P → IfOk result Q
+if_ok (Ok value) step known = step value known
+if_ok (Err error) step known = tt
+
+pub selected_as : (choice chosen : Choice) (host part : List ℕ) (objects all : List MergedObject)
+    → choice ≡ chosen → host ≡ part → objects ≡ all → selected choice host objects ≡ selected chosen part all
+selected_as choice chosen host part objects all same_choice same_host same =
+    ap (λ choice. selected choice host objects) same_choice
+    ∙ ap (λ host. selected chosen host objects) same_host
+    ∙ ap (selected chosen part) same
+
+pub page_of : (heading : Heading) (gateways : List Gateway) (query : List ℕ) (clock : ℕ) (body : List ℕ) (view : View)
+    → Views heading gateways query clock view → body ≡ html_bytes (filled view (page_nodes (page_shape view)))
+    → IsPage heading gateways query clock body
+page_of heading gateways query clock body view views page = (view, views, page)

@@ -1,0 +1,3 @@
+pub mod BodySteps
+pub mod ChangingSteps
+pub mod SendingSteps

@@ -1,0 +1,38 @@
+use Rattle.std.proofs.Common.{[], ap, map, refl, ◌∙◌}
+use Rattle.status_merge.specs.Entries.{comment_view, comment_lines, downtime_view, downtime_lines}
+use Rattle.status_view.specs.declared.view.View.{View}
+use Rattle.status_serving.proofs.BodySteps.{selected_as, page_of}
+use Rattle.status_serving.proofs.bodies.html_body.Goals as goal
+
+pub returns : goal.returns
+returns c =
+    let asked = c.in_ok-query.ensures in
+    let gateways = c.args.gateways.now in
+    let view : View = record {
+      title = c.args.heading.now.title;
+      clock = c.args.clock;
+      refresh = c.args.heading.now.refresh;
+      query = record { ref_ptr = (0, 0); now = c.in_ok-query.query };
+      gateways = c.args.gateways;
+      all = c.as_slice-2.result;
+      objects = c.as_slice-3.result;
+      comments = c.as_slice-4.result;
+      downtimes = c.as_slice-5.result;
+      changes = record { ref_ptr = (0, 0); now = [] };
+    } in
+    page_of _ _ _ _ _ view (record {
+      title = refl;
+      clock = refl;
+      refresh = refl;
+      choice = asked.choice;
+      host = asked.host;
+      seconds = asked.refresh;
+      pages = refl;
+      all = c.as_slice-2.ensures.value ∙ c.in_ok-all.ensures.merged;
+      objects = c.as_slice-3.ensures.value ∙ c.in_ok-objects.ensures
+          ∙ selected_as _ _ _ _ _ _ asked.choice asked.host (c.as_slice.ensures.value ∙ c.in_ok-all.ensures.merged);
+      comments = ap (map comment_view) c.as_slice-4.ensures.value ∙ c.in_ok-comments.ensures
+          ∙ ap (λ host. comment_lines host gateways) asked.host;
+      downtimes = ap (map downtime_view) c.as_slice-5.ensures.value ∙ c.in_ok-downtimes.ensures
+          ∙ ap (λ host. downtime_lines host gateways) asked.host;
+    }) (c.into_bytes.ensures ∙ c.in_ok-html_page.ensures.page)

@@ -1,0 +1,4 @@
+pub mod Headings
+pub mod Pages
+pub mod Changing
+pub mod Sending

@@ -1,0 +1,125 @@
+-- What is shown of gateways: the page that is kept of each (`IsShown`); and the pages are merged, selected by the query
+-- of a URL, and laid out as HTML (`IsPage`), as JSON (`json_body`) or as metrics (`metrics_body`): `IsStatusBody`.
+use Rattle.std.specs.Prelude.{◌≡◌, ℕ, ◌-◌, min, Bool, true, false, List, [], map, Option, Some, None, Result, Ok, Err, String, codes, string_bytes}
+use Rattle.std.specs.declared.alloc.Global.{Global}
+use Rattle.std.specs.Arc.{arc_value}
+use Rattle.std.specs.List.{AllZip, flat_map}
+use Rattle.form_urlencoded.specs.Form.{raw_pairs}
+use Rattle.status_reading.specs.declared.page.StatusPage.{StatusPage}
+use Rattle.status_reading.specs.declared.page.ReadFault.{ReadFault}
+use Rattle.status_reading.specs.Rows.{page_view}
+use Rattle.status_reading.specs.Faults.{IsFaultOf}
+use Rattle.status_memory.specs.declared.memory.Kept.{Kept}
+use Rattle.status_memory.specs.Memory.{is_old}
+use Rattle.status_merge.specs.declared.gateway.Gateway.{Gateway}
+use Rattle.status_merge.specs.declared.gateway.Old.{Old}
+use Rattle.status_merge.specs.declared.gateway.MergedObject.{MergedObject}
+use Rattle.status_merge.specs.Asking.{choice_asked, host_asked, refresh_asked}
+use Rattle.status_merge.specs.Objects.{objects_on, merged}
+use Rattle.status_merge.specs.Selecting.{selected}
+use Rattle.status_merge.specs.Entries.{comment_view, comment_lines, downtime_view, downtime_lines}
+use Rattle.status_view.specs.declared.view.View.{View}
+use Rattle.status_view.specs.Shapes.{page_shape}
+use Rattle.status_view.specs.Page.{page_nodes}
+use Rattle.status_view.specs.Filling.{filled, html_bytes}
+use Rattle.status_export.specs.Document.{compact_text, status_document}
+use Rattle.status_export.specs.Metrics.{metrics_page}
+use Rattle.status_serving.specs.declared.headings.Heading.{Heading}
+use Rattle.status_serving.specs.declared.bodies.Form.{Form}
+use Rattle.status_serving.specs.declared.bodies.Form.TheVariants.{Html, Json, Metrics}
+use Rattle.page_watching.specs.declared.causes.NoPage.{NoPage}
+use Rattle.page_watching.specs.declared.watching.Seen.{Seen}
+use Rattle.page_watching.specs.Causes.{read_cause, cause_of}
+use Rattle.page_watching.specs.Watching.{Shared, bytes_of, IsTextOf}
+
+-- ---- what is kept
+
+-- a text is read as this page, or this is the cause why it is none
+abbrev pub IsReadAs : List ℕ → Result StatusPage (String Global) → Type 0
+IsReadAs text (Ok page) = IsTextOf text (page_view page)
+IsReadAs text (Err cause) = (fault : ReadFault) × IsFaultOf text fault × (string_bytes cause ≡ read_cause fault)
+
+-- the page that is kept, or the cause why there is none
+abbrev pub IsPageOf : Option (Kept Shared) → Option NoPage → Result StatusPage (String Global) → Type 0
+IsPageOf (Some kept) fault page = IsReadAs (bytes_of kept.page.text) page
+IsPageOf None fault (Ok page) = ⊥
+IsPageOf None fault (Err cause) = string_bytes cause ≡ cause_of fault
+
+-- whether the page that is kept is old at a moment, how old in seconds, and the cause why there is no newer one
+abbrev pub IsOldOf : Bool → ℕ → Option (Kept Shared) → Option NoPage → Option Old → Type 0
+IsOldOf true now (Some kept) fault (Some old) =
+    (old.age ≡ min (now - kept.moment) 4294967295) × (string_bytes old.cause ≡ cause_of fault)
+IsOldOf true now (Some kept) fault None = ⊥
+IsOldOf true now None fault old = old ≡ None
+IsOldOf false now last fault old = old ≡ None
+
+-- since when each object of the page that is kept has its state
+abbrev pub since_in : Option (Kept Shared) → List ℕ
+since_in None = []
+since_in (Some kept) = (arc_value kept.page.text).since.items
+
+-- a gateway as it is shown at a moment, of which this is kept
+pub record IsShown (now : ℕ) (seen : Seen) (gateway : Gateway) : Type 0 where
+  pub name : gateway.name.now ≡ seen.place.name.now
+  pub page : IsPageOf seen.memory.last seen.memory.fault gateway.page
+  pub old : IsOldOf (is_old now seen.memory) now seen.memory.last seen.memory.fault gateway.old
+  pub most : gateway.most ≡ seen.memory.most
+  pub since : gateway.since.now ≡ since_in seen.memory.last
+
+-- ---- what is shown of it
+
+-- the objects of all pages, each once
+abbrev pub objects_of : List Gateway → List MergedObject
+objects_of gateways = merged (flat_map objects_on gateways)
+
+-- those that a query selects, in their order
+abbrev pub asked_of : List Gateway → List ℕ → List MergedObject
+asked_of gateways query = selected (choice_asked (raw_pairs query)) (host_asked (raw_pairs query)) (objects_of gateways)
+
+-- a page of these gateways for a query at this clock shows this
+pub record Views (heading : Heading) (gateways : List Gateway) (query : List ℕ) (now : ℕ) (view : View) : Type 0 where
+  pub title : view.title.now ≡ heading.title.now
+  pub clock : view.clock ≡ now
+  pub refresh : view.refresh ≡ heading.refresh
+  pub choice : view.query.now.choice ≡ choice_asked (raw_pairs query)
+  pub host : string_bytes view.query.now.host ≡ host_asked (raw_pairs query)
+  pub seconds : view.query.now.refresh ≡ refresh_asked heading.refresh (raw_pairs query)
+  pub pages : view.gateways.now ≡ gateways
+  pub all : view.all.now ≡ objects_of gateways
+  pub objects : view.objects.now ≡ asked_of gateways query
+  pub comments : map comment_view view.comments.now ≡ comment_lines (host_asked (raw_pairs query)) gateways
+  pub downtimes : map downtime_view view.downtimes.now ≡ downtime_lines (host_asked (raw_pairs query)) gateways
+
+-- the page for a browser at this clock
+abbrev pub IsPage : Heading → List Gateway → List ℕ → ℕ → List ℕ → Type 0
+IsPage heading gateways query clock body =
+    (view : View) × Views heading gateways query clock view
+    × (body ≡ html_bytes (filled view (page_nodes (page_shape view))))
+
+-- the same as JSON
+abbrev pub json_body : List Gateway → List ℕ → List ℕ
+json_body gateways query =
+    compact_text (status_document gateways (asked_of gateways query) (host_asked (raw_pairs query)))
+
+-- the metrics of all objects
+abbrev pub metrics_body : List Gateway → List ℕ
+metrics_body gateways = metrics_page gateways (objects_of gateways)
+
+-- the status of these gateways at this clock in this form
+abbrev pub IsStatusText : Heading → List Gateway → List ℕ → ℕ → Form → List ℕ → Type 0
+IsStatusText heading gateways query clock Html body = IsPage heading gateways query clock body
+IsStatusText heading gateways query clock Json body = body ≡ json_body gateways query
+IsStatusText heading gateways query clock Metrics body = body ≡ metrics_body gateways
+
+-- the status of what is kept of gateways, for an answer that has a body; nothing for another
+abbrev pub IsStatusBody : Bool → Heading → List Seen → List ℕ → ℕ → Form → List ℕ → Type 0
+IsStatusBody true heading seen query clock form body =
+    (gateways : List Gateway) × AllZip (IsShown clock) seen gateways
+    × IsStatusText heading gateways query clock form body
+IsStatusBody false heading seen query clock form body = body ≡ []
+
+-- the type of a form
+abbrev pub status_kind : Form → List ℕ
+status_kind Html = codes "text/html; charset=utf-8"
+status_kind Json = codes "application/json"
+status_kind Metrics = codes "text/plain; version=0.0.4; charset=utf-8"

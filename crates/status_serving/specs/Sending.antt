@@ -1,0 +1,46 @@
+-- The responses with the status (`IsStatusOf`) and with the changes (`AreChangesOf`) of gateways. Own rules.
+use Rattle.std.specs.Prelude.{◌≡◌, ℕ, Bool, List, map, is_some, if◌then◌else◌}
+use Rattle.std.specs.List.{list_any}
+use Rattle.http_server.specs.declared.response.Response.{Response}
+use Rattle.page_watching.specs.declared.places.Place.{Place}
+use Rattle.page_watching.specs.declared.watching.Seen.{Seen}
+use Rattle.page_watching.specs.Watching.{seen_place}
+use Rattle.web_answers.specs.Answers.{IsSent}
+use Rattle.status_serving.specs.declared.headings.Heading.{Heading}
+use Rattle.status_serving.specs.declared.bodies.Form.{Form}
+use Rattle.status_serving.specs.declared.bodies.Form.TheVariants.{Html, Json, Metrics}
+use Rattle.status_serving.specs.declared.changing.ChangesForm.{ChangesForm}
+use Rattle.status_serving.specs.Pages.{IsStatusBody, status_kind}
+use Rattle.status_serving.specs.Changing.{IsChangesBody, kind_of}
+
+-- whether a page is kept of a gateway
+abbrev pub is_reached : Seen → Bool
+is_reached seen = is_some seen.memory.last
+
+-- without a page of any gateway the service is unavailable (RFC 9110, section 15.6.4)
+abbrev pub reached_code : List Seen → ℕ
+reached_code seen = if list_any is_reached seen then 200 else 503
+
+-- the status code of a form; the metrics say themselves who is reached
+abbrev pub status_code : List Seen → Form → ℕ
+status_code seen Html = reached_code seen
+status_code seen Json = reached_code seen
+status_code seen Metrics = 200
+
+-- the status of the gateways at these places, of which this is kept, at this clock in this form, with its body or without
+pub record IsStatusOf (heading : Heading) (places : List Place) (clock : ℕ) (query : List ℕ) (form : Form) (whole : Bool)
+    (response : Response) : Type 0 where
+  pub seen : List Seen
+  pub body : List ℕ
+  pub at : map seen_place seen ≡ places
+  pub made : IsStatusBody whole heading seen query clock form body
+  pub sent : IsSent (status_code seen form) (status_kind form) body response
+
+-- the same of the changes of these gateways
+pub record AreChangesOf (heading : Heading) (places : List Place) (clock : ℕ) (form : ChangesForm) (whole : Bool)
+    (response : Response) : Type 0 where
+  pub seen : List Seen
+  pub body : List ℕ
+  pub at : map seen_place seen ≡ places
+  pub made : IsChangesBody whole heading seen clock form body
+  pub sent : IsSent 200 (kind_of form) body response

@@ -1,0 +1,193 @@
+//! The bodies of pages: what is kept of the gateways is read, merged, selected by a query and shown.
+ghost use Rattle.std.specs.Prelude.{◌≡◌, map, IfOk};
+ghost use Rattle.std.specs.List.{AllZip};
+ghost use Rattle.status_memory.specs.Memory.{is_old};
+ghost use Rattle.status_serving.specs.Pages.{IsPageOf, IsOldOf, since_in, IsShown, IsPage, json_body, metrics_body, IsStatusText, IsStatusBody, status_kind};
+
+use crate::headings::Heading;
+use http::HeaderValue;
+use page_watching::{NoPage, Seen, Shared, cause_of, read_cause};
+use status_export::{json_text, metrics_text};
+use status_memory::{Kept, Memory};
+use status_merge::{Gateway, Old, merge, merge_comments, merge_downtimes, read_query, select};
+use status_reading::{StatusPage, read_status_page};
+use status_view::{View, html_page};
+use std::alloc::{AllocError, Global};
+
+/// In which form the status is shown.
+#[derive(Clone, Copy)]
+pub enum Form {
+    Html,
+    Json,
+    Metrics,
+}
+
+// The page that is kept of a gateway, or the cause why there is none.
+fn page_of<'t>(
+    alloc: Global,
+    memory: &'t Memory<Shared, NoPage>,
+) -> Result<Result<StatusPage<'t>, String>, AllocError>
+    ensures { IfOk result (IsPageOf memory.now.last memory.now.fault) }
+{
+    match &memory.last {
+        Some(kept) => match read_status_page(alloc, kept.page.text.text.as_slice()) {
+            Ok(page) => Ok(Ok(page)),
+            Err(fault) => Ok(Err(read_cause(alloc, fault)?)),
+        },
+        None => Ok(Err(cause_of(alloc, memory.fault)?)),
+    }
+}
+
+// Where the page that is kept of a gateway is old: its age, and the cause.
+fn old_of(
+    alloc: Global,
+    memory: &Memory<Shared, NoPage>,
+    now: u64,
+) -> Result<Option<Old>, AllocError>
+    ensures { IfOk result (IsOldOf (is_old now memory.now) now memory.now.last memory.now.fault) }
+{
+    match &memory.last {
+        Some(kept) if memory.is_old(now) => Ok(Some(Old {
+            age: u32::try_from(now.saturating_sub(kept.moment)).unwrap_or(u32::MAX),
+            cause: cause_of(alloc, memory.fault)?,
+        })),
+        _ => Ok(None),
+    }
+}
+
+// Since when each object of that page has its state.
+fn since_in(last: &Option<Kept<Shared>>) -> &[u32]
+    ensures { result.now ≡ since_in last.now }
+{
+    match last {
+        Some(kept) => kept.page.text.since.as_slice(),
+        None => &[],
+    }
+}
+
+/// The gateways of which this is kept, as they are shown at a moment, in seconds since 1970. The only
+/// error is out of memory.
+pub fn gateways_of<'t>(
+    alloc: Global,
+    seen: &'t [Seen<'t>],
+    now: u64,
+) -> Result<Vec<Gateway<'t>>, AllocError>
+    ensures { IfOk result (λ gateways. AllZip (IsShown now) seen.now gateways.items) }
+{
+    let mut gateways = Vec::new(alloc);
+    for one in seen {
+        gateways.push(Gateway {
+            name: one.place.name,
+            page: page_of(alloc, &one.memory)?,
+            old: old_of(alloc, &one.memory, now)?,
+            most: one.memory.most,
+            since: since_in(&one.memory.last),
+        })?;
+    }
+    Ok(gateways)
+}
+
+// The page for a browser.
+fn html_body(
+    alloc: Global,
+    heading: &Heading<'_>,
+    gateways: &[Gateway<'_>],
+    query: &str,
+    clock: u32,
+) -> Result<Vec<u8>, AllocError>
+    ensures { IfOk result (λ body.
+        IsPage heading.now gateways.now query.now clock body.items) }
+{
+    let query = read_query(alloc, query, heading.refresh)?;
+    let all = merge(alloc, gateways)?;
+    let objects = select(alloc, all.as_slice(), &query)?;
+    let comments = merge_comments(alloc, gateways, &query)?;
+    let downtimes = merge_downtimes(alloc, gateways, &query)?;
+    let view = View {
+        title: heading.title,
+        clock,
+        refresh: heading.refresh,
+        query: &query,
+        gateways,
+        all: all.as_slice(),
+        objects: objects.as_slice(),
+        comments: comments.as_slice(),
+        downtimes: downtimes.as_slice(),
+        changes: &[],
+    };
+    Ok(html_page(alloc, &view)?.into_bytes())
+}
+
+// The same for scripts.
+fn json_body(
+    alloc: Global,
+    heading: &Heading<'_>,
+    gateways: &[Gateway<'_>],
+    query: &str,
+) -> Result<Vec<u8>, AllocError>
+    ensures { IfOk result (λ body. body.items ≡ json_body gateways.now query.now) }
+{
+    let query = read_query(alloc, query, heading.refresh)?;
+    let all = merge(alloc, gateways)?;
+    let objects = select(alloc, all.as_slice(), &query)?;
+    json_text(alloc, gateways, objects.as_slice(), &query)
+}
+
+// The metrics of all objects.
+fn metrics_body(alloc: Global, gateways: &[Gateway<'_>]) -> Result<Vec<u8>, AllocError>
+    ensures { IfOk result (λ body. body.items ≡ metrics_body gateways.now) }
+{
+    let objects = merge(alloc, gateways)?;
+    metrics_text(alloc, gateways, objects.as_slice())
+}
+
+fn status_text(
+    alloc: Global,
+    heading: &Heading<'_>,
+    gateways: &[Gateway<'_>],
+    query: &str,
+    clock: u32,
+    form: Form,
+) -> Result<Vec<u8>, AllocError>
+    ensures { IfOk result (λ body.
+        IsStatusText heading.now gateways.now query.now clock form body.items) }
+{
+    match form {
+        Form::Html => html_body(alloc, heading, gateways, query, clock),
+        Form::Json => json_body(alloc, heading, gateways, query),
+        Form::Metrics => metrics_body(alloc, gateways),
+    }
+}
+
+/// The status of the gateways of which this is kept, in a form, for an answer that has a body;
+/// nothing for another. The only error is out of memory.
+pub fn status_body<'t>(
+    alloc: Global,
+    heading: &Heading<'_>,
+    seen: &'t [Seen<'t>],
+    query: &str,
+    clock: u32,
+    form: Form,
+    whole: bool,
+) -> Result<Vec<u8>, AllocError>
+    ensures { IfOk result (λ body.
+        IsStatusBody whole heading.now seen.now query.now clock form body.items) }
+{
+    if whole {
+        let gateways = gateways_of(alloc, seen, u64::from(clock))?;
+        status_text(alloc, heading, gateways.as_slice(), query, clock, form)
+    } else {
+        Ok(Vec::new(alloc))
+    }
+}
+
+/// The type of a form.
+pub fn status_kind(form: Form) -> HeaderValue
+    ensures { result.bytes ≡ status_kind form }
+{
+    HeaderValue::from_static(match form {
+        Form::Html => "text/html; charset=utf-8",
+        Form::Json => "application/json",
+        Form::Metrics => "text/plain; version=0.0.4; charset=utf-8",
+    })
+}

@@ -1,8 +1,0 @@
-use Rattle.std.proofs.Common.{◌≡◌, ◌++◌, drop, map}
-use Rattle.std.specs.List.{flat_map}
-use Rattle.statusweb.specs.Changing.{named, changes_on}
-use Rattle.statusweb.proofs.changing.all_changes.Given as goal
-
-abbrev pub invariant-loop-one : goal.invariant-loop-one
-invariant-loop-one l =
-    map named l.changes.items ++ flat_map changes_on (drop l.one-index l.seen) ≡ flat_map changes_on l.seen

@@ -1,9 +1,0 @@
-use Rattle.statusweb.proofs.ServiceSteps.{on_ok, shown_as}
-use Rattle.statusweb.proofs.service.send_status.Goals as goal
-
-pub returns : goal.returns
-returns g c =
-    on_ok c.send.result
-    (λ sent. shown_as _ c.args.now _ _ _ _ _ _ _ _ _ c.in_ok-seen.ensures c.as_slice-known.ensures.value
-    c.in_ok-body.ensures c.status_code.ensures c.status_kind.ensures sent)
-    c.send.ensures

@@ -1,0 +1,86 @@
+use http::StatusCode;
+use http_server::Response;
+use page_watching::{Watch, places_in};
+use status_serving::{
+    ChangesForm, Form, Heading, Site, changes_body, send_changes, send_status, send_style,
+    status_body,
+};
+use std::alloc::Global;
+use std::sync::Wait;
+use std::test::Fail;
+
+const HEADING: Heading<'static> = Heading {
+    title: "nscagate",
+    refresh: 30,
+};
+
+const METRICS: &[u8] = b"# HELP nscagate_up Whether the gateway's status page was read.\n\
+# TYPE nscagate_up gauge\n\
+nscagate_up{gateway=\"east\"} 0\n";
+
+// What is shown of a gateway before its first page: its metrics, and its changes.
+fn shown<R: Wait>(rt: &R, alloc: Global) -> Result<(Vec<u8>, Vec<u8>), Fail> {
+    let places = places_in(alloc, &["east=127.0.0.1:5669"])?;
+    let watch = Watch::new(alloc, places.as_slice())?;
+    let seen = watch.seen(rt, alloc)?;
+    let seen = seen.as_slice();
+    let metrics = status_body(
+        alloc,
+        &HEADING,
+        seen,
+        "",
+        1_795_464_900,
+        Form::Metrics,
+        true,
+    )?;
+    let changes = changes_body(
+        alloc,
+        &HEADING,
+        seen,
+        1_795_464_900,
+        ChangesForm::Lines,
+        true,
+    )?;
+    Ok((metrics, changes))
+}
+
+#[test]
+fn a_gateway_without_a_page_is_down(rt: HostRuntime) -> Result<(), Fail> {
+    let (metrics, changes) = shown(&rt, rt.alloc())?;
+    assert!(rt; metrics.starts_with(METRICS));
+    assert!(rt; changes.is_empty());
+    Ok(())
+}
+
+// The statuses of what is answered before the first page.
+fn statuses<R: Wait>(rt: &R, alloc: Global) -> Result<[StatusCode; 3], Fail> {
+    let places = places_in(alloc, &["east=127.0.0.1:5669"])?;
+    let watch = Watch::new(alloc, places.as_slice())?;
+    let site = Site {
+        rt,
+        alloc,
+        watch: &watch,
+        heading: HEADING,
+    };
+    let mut status = Response::new(alloc);
+    send_status(&site, 1_795_464_900, Form::Html, "", true, &mut status)?;
+    let mut changes = Response::new(alloc);
+    send_changes(&site, 1_795_464_900, ChangesForm::Feed, true, &mut changes)?;
+    let mut style = Response::new(alloc);
+    send_style(alloc, &mut style)?;
+    Ok([status.status, changes.status, style.status])
+}
+
+#[test]
+fn without_a_page_the_status_is_unavailable(rt: HostRuntime) -> Result<(), Fail> {
+    let statuses = statuses(&rt, rt.alloc())?;
+    assert!(rt;
+        statuses
+            == [
+                StatusCode::SERVICE_UNAVAILABLE,
+                StatusCode::OK,
+                StatusCode::OK
+            ]
+    );
+    Ok(())
+}
