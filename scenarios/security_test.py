@@ -2,6 +2,7 @@
 Ends with a line 'N passed, M failed'."""
 import base64
 import getpass
+import gzip
 import http.client
 import os
 import re
@@ -194,8 +195,10 @@ PasswordAuthentication no
 
 
 def get(port, path, user=None, certificate_file=None, method="GET"):
-    """The status of a request, and its text; over TLS where a certificate is given."""
-    headers = {"Authorization": "Basic " + base64.b64encode(user.encode()).decode()} if user else {}
+    """The status of a request, its text, where it leads, and how it is compressed; over TLS where a certificate is given."""
+    headers = {"Accept-Encoding": "gzip"}
+    if user:
+        headers["Authorization"] = "Basic " + base64.b64encode(user.encode()).decode()
     if certificate_file:
         context = ssl.create_default_context(cafile=certificate_file)
         client = http.client.HTTPSConnection("status.example.com", port, timeout=10, context=context)
@@ -204,7 +207,10 @@ def get(port, path, user=None, certificate_file=None, method="GET"):
         client = http.client.HTTPConnection("127.0.0.1", port, timeout=10)
     client.request(method, path, headers=headers)
     answer = client.getresponse()
-    return answer.status, answer.read().decode("utf-8", "replace"), answer.getheader("location")
+    body, coding = answer.read(), answer.getheader("content-encoding")
+    if coding == "gzip":
+        body = gzip.decompress(body)
+    return answer.status, body.decode("utf-8", "replace"), answer.getheader("location"), coding
 
 
 def test_pages(daemon, statusweb, folder, examples):
@@ -239,9 +245,9 @@ scgi_temp_path {folder};
     check("without a password", get(secure, "/", None, pem)[0], 401)
     check("metrics without a password", get(secure, "/metrics", None, pem)[0], 401)
     check("a wrong password", get(secure, "/", "ann:bad word", pem)[0], 401)
-    status, text, _ = get(secure, "/", "ann:good word", pem)
-    check("with the password", (status, "web1" in text), (200, True))
-    check("JSON with the password", get(secure, "/status.json", "ann:good word", pem)[0], 200)
+    for path in ("/", "/status.json"):
+        status, text, _, coding = get(secure, path, "ann:good word", pem)
+        check(f"{path} with the password, compressed", (status, "web1" in text, coding), (200, True, "gzip"))
     check("another method", get(secure, "/", "ann:good word", pem, "POST")[0], 403)
     check("without TLS", get(plain, "/", "ann:good word")[::2], (301, "https://127.0.0.1/"))
     certificate(folder, "other", "status.example.com")
