@@ -14,14 +14,14 @@ OUTPUT = 'OK - the output of a plugin, with some numbers 12345 | time=0.0%03ds;;
 
 
 def status_page(count):
-    """The status page of this many objects, of which each eighth is a host."""
+    """The status page of this many objects, of which each sixteenth is a host: a gateway has 1,024 at most."""
     now = int(time.time())
     lines = ['status %d' % now]
     for index in range(count):
-        state = STATES[index % 10] if index % 8 else 'UP'
-        service = 'service %d' % (index % 8) if index % 8 else ''
+        state = STATES[index % 10] if index % 16 else 'UP'
+        service = 'service %d' % (index % 16) if index % 16 else ''
         lines.append('object;host%05d;%s;%s;%d;fresh;-;0;%s'
-                     % (index // 8, service, state, now - index % 300, OUTPUT % (index % 1000)))
+                     % (index // 16, service, state, now - index % 300, OUTPUT % (index % 1000)))
     return ('\n'.join(lines) + '\n').encode()
 
 
