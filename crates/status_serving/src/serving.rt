@@ -1,34 +1,25 @@
-//! The connections of browsers, served by 32 threads, while others fetch the gateways' pages.
+//! The connections of browsers, served by a few threads, while others fetch the gateways' pages.
 ghost use Rattle.std.specs.Prelude.{◌≡◌};
 
 use crate::sending::Site;
-use http_server::{Config, Connection, Service, serve as serve_connection};
-use page_fetching::Timed;
-use std::alloc::{AllocError, Global};
-use std::hash::RandomState;
+use http_server::{Config, Service};
+use std::alloc::AllocError;
 use std::net::{Net, TcpListener, TcpStream};
 use std::random::RandomSource;
 use std::sync::Wait;
 use std::thread::Threads;
-use std::time::{Clock, Duration, Instant};
+use std::time::Clock;
 use std::{io, thread};
 use thiserror::Error;
+use web_connections::Browsers;
 
-// How many connections are served at once.
-const WORKERS: u32 = 32;
-// The seconds after the accept in which a request has to be whole.
-const REQUEST_TIMEOUT: u64 = 4;
-// The seconds after the accept in which the answer has to be sent.
-const ANSWER_TIMEOUT: u64 = 10;
-// The bytes of the longest body of a request. No body is used: a longer one is refused unread.
+// The bytes of the longest body of a request: a longer one is refused unread.
 const LONGEST_BODY: usize = 16 << 10;
-// The milliseconds of a pause where no connection can be accepted, as without descriptors.
-const ACCEPT_PAUSE: u64 = 50;
 
 /// Why nothing is served.
 #[derive(Clone, Copy, Debug, PartialEq, Eq, Error)]
 pub enum ServeFault {
-    /// No thread can be started.
+    /// No thread can be started, or has a descriptor to wait with.
     #[error("no thread can be started")]
     Spawn,
     /// Memory ran out.
@@ -46,46 +37,22 @@ impl From<AllocError> for ServeFault {
     }
 }
 
-fn answer<R: Clock + RandomSource + Wait, S: Service + Copy>(
-    rt: &R,
-    alloc: Global,
-    service: &S,
-    stream: TcpStream,
-) -> io::Result<()> {
-    let begun = Instant::now(rt)?;
-    let mut service = *service;
+// The browsers of one thread.
+fn browsers_of<R: Net<Listener = TcpListener, Stream = TcpStream> + Clock>(
+    site: &Site<'_, R>,
+    listener: &TcpListener,
+) -> io::Result<Browsers> {
     let mut config = Config::default();
     config.max_body_len = LONGEST_BODY;
-    let mut connection = Connection::new(alloc, RandomState::new(rt)?, config);
-    let mut reader = Timed::new(rt, &stream, begun, REQUEST_TIMEOUT);
-    let mut writer = Timed::new(rt, &stream, begun, ANSWER_TIMEOUT);
-    serve_connection(&mut connection, &mut service, &mut reader, &mut writer)
+    Browsers::new(site.rt, site.alloc, listener.try_clone()?, config)
 }
 
-// Serves connections one after another, for ever. What goes wrong ends a connection, and no more.
-fn work<R: Clock + RandomSource + Wait, S: Service + Copy>(
-    rt: &R,
-    alloc: Global,
-    listener: &TcpListener,
-    service: &S,
-) {
-    for _ in rt.forever() {
-        match listener.accept() {
-            Ok((stream, _)) => {
-                let _ = answer(rt, alloc, service, stream);
-            }
-            Err(_) => {
-                let _ = thread::sleep(rt, Duration::from_millis(ACCEPT_PAUSE));
-            }
-        }
-    }
-}
-
-/// Fetches the pages of all gateways, and then serves a listener on 32 threads, or as many as can be
-/// started, each connection by a copy of the service, while another thread for each gateway fetches its
+/// Fetches the pages of all gateways, and then serves a listener on this many threads, or as many as
+/// can be started, each by a copy of the service, while another thread for each gateway fetches its
 /// page again, so many seconds after each fetch; for ever.
 ///
-/// `Spawn`: no thread can be started. `OutOfMemory`: there is none to begin with.
+/// `Spawn`: no thread can be started, or has a descriptor to wait with. `OutOfMemory`: there is none to
+/// begin with.
 pub fn serve<
     R: Net<Listener = TcpListener, Stream = TcpStream>
         + Threads
@@ -93,16 +60,26 @@ pub fn serve<
         + Clock
         + RandomSource
         + Sync,
-    S: Service + Copy + Sync,
->(site: &Site<'_, R>, listener: &TcpListener, every: u32, service: &S) -> Result<(), ServeFault> {
+    S: Service + Copy + Send + Sync,
+>(
+    site: &Site<'_, R>,
+    listener: &TcpListener,
+    workers: u32,
+    every: u32,
+    service: &S,
+) -> Result<(), ServeFault> {
     let rt = site.rt;
     let alloc = site.alloc;
     let watch = site.watch;
     watch.fetch_all(rt, alloc)?;
     thread::scope(thread::scope_env(), rt, |scope| {
         let mut is_served = false;
-        for _ in 0..WORKERS {
-            let started = scope.spawn(move || work(rt, alloc, listener, service));
+        for _ in 0..workers {
+            let Ok(mut browsers) = browsers_of(site, listener) else {
+                break;
+            };
+            let mut service = *service;
+            let started = scope.spawn(move || browsers.serve(rt, &mut service));
             is_served |= started.is_ok();
         }
         if !is_served {

@@ -23,6 +23,9 @@ use std::time::Clock;
 use std::{env, io};
 use words::{Settings, WordsFault, read_words};
 
+// How many threads answer browsers.
+const WORKERS: u32 = 8;
+
 fn arguments(rt: &(impl Env + AllocGlobal)) -> io::Result<Vec<String>> {
     let mut words = env::args(rt)?;
     let _name = words.next();
@@ -73,7 +76,13 @@ fn serve_on<
         heading,
     };
     let hosts = settings.hosts.as_slice();
-    serve(&site, listener, settings.every, &Web { site, hosts })
+    serve(
+        &site,
+        listener,
+        WORKERS,
+        settings.every,
+        &Web { site, hosts },
+    )
 }
 
 fn run<
