@@ -461,6 +461,27 @@ def test_idle_browsers(now):
             connection.close()
 
 
+def test_tiles(now):
+    """The number of each tile is that of the objects that its link shows."""
+    page = b'status %d\n' % now + b''.join(
+        b'object;%s;%s;%s;%s;%s;-;0;x\n' % (host, service, state, b'-' if state == b'PENDING' else b'%d' % now, mark)
+        for host, service, state, mark in [
+            (b'a', b'', b'DOWN', b'fresh'), (b'a', b'1', b'CRITICAL', b'fresh'), (b'a', b'2', b'WARNING', b'stale'),
+            (b'a', b'3', b'PENDING', b'fresh'), (b'a', b'4', b'UNKNOWN', b'fresh'), (b'b', b'', b'PENDING', b'fresh'),
+            (b'b', b'1', b'OK', b'stale'), (b'c', b'', b'UNREACHABLE', b'fresh'), (b'd', b'', b'UP', b'fresh')])
+    with Web(('east', shows(page).port)) as web:
+        text = web.text('/?host=a&refresh=0').decode()
+        tiles = re.findall('<a class="tile [^>]* href="([^"]*)"><b>([0-9]+)</b> ([a-z]+)', text)
+        wanted = dict(unhandled=5, stale=2, pending=2, objects=9, down=1, unreachable=1, up=1, critical=1, warning=1,
+                      unknown=1, ok=1)
+        test('the tiles', {name: int(number) for _, number, name in tiles} == wanted, tiles)
+        for link, number, name in tiles:
+            shown = web.text(html.unescape(link))
+            test(f'the tile {name}', f'</h2>{number} of 9 shown' in shown.decode() and b'http-equiv' not in shown, shown[:2000])
+        test('the title counts what needs attention', '<title>(6) nscagate' in text, text[:400])
+        test('the rows that do not are dimmed', text.count('<tr class="') == 5 and text.count(' handled"') == 1, text)
+
+
 def test_slow_browsers(now):
     """Connections that send nothing, a byte a second, or read nothing, hold nobody, and end."""
     large = b'status %d\n' % now + b''.join(
@@ -786,7 +807,7 @@ def main():
     now = int(time.time())
     at_once(*[lambda check=check: run(check) for check in [test_words, test_pages, test_names]], *[
         lambda check=check: run(check, now) for check in [
-            test_texts, test_faults, test_old, test_since, test_changes, test_sharing, test_descriptors, test_ends, test_requests, test_browser]])
+            test_texts, test_faults, test_old, test_since, test_changes, test_tiles, test_sharing, test_descriptors, test_ends, test_requests, test_browser]])
     # What takes the processors for itself.
     run(test_idle_browsers, int(time.time()))
     run(test_slow_browsers, int(time.time()))

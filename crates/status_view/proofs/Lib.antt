@@ -1,3 +1,4 @@
 pub mod CalendarSteps
 pub mod LayoutSteps
+pub mod TileLaws
 pub mod FillingSteps

@@ -78,7 +78,6 @@ change_text change.GatewayInLink shown = byte_serialize shown.gateway.now
 abbrev pub slot_text : View → Slot → List ℕ
 slot_text view slot.Title = view.title.now
 slot_text view slot.HostAsked = string_bytes view.query.now.host
-slot_text view slot.HostInLink = byte_serialize (string_bytes view.query.now.host)
 slot_text view (slot.Gateway i) = text_at (λ gateway. gateway.name.now) view.gateways.now i
 slot_text view (slot.Cause i) = text_at cause_text view.gateways.now i
 slot_text view (slot.Object i what) = text_at (object_text what) view.objects.now i

@@ -66,7 +66,7 @@ age_nodes moment (Some last) = ago_nodes (codes "<td class=\"num cell\" title=\"
 unfoldable pub object_nodes : Bool → ℕ → ObjectShape → List NodeView
 object_nodes several index row =
     (Markup (codes "<tr class=\"") ∷ Markup (choice_word (In row.state)) ∷ [])
-    ++ nodes_if (not row.is_unhandled) (Markup (codes " handled") ∷ [])
+    ++ nodes_if (not row.is_urgent) (Markup (codes " handled") ∷ [])
     ++ (Markup (codes "\"><td class=\"cell\"><span class=\"badge state\">")
     ∷ Markup (state_name row.state)
     ∷ Markup (codes "</span></td>")

@@ -11,7 +11,7 @@ use Rattle.status_view.specs.ListsLayout.{entries_nodes}
 -- what stands before the lists
 unfoldable pub head_nodes : PageShapeView → List NodeView
 head_nodes shape =
-    document_nodes shape.refresh shape.counts.unhandled
+    document_nodes shape.refresh shape.urgent
     ++ title_nodes shape.gateways
     ++ alarms_nodes shape.clock shape.gateways
     ++ summary_nodes shape

@@ -1,5 +1,7 @@
 -- What decides the markup of a page: `page_shape`. A shape has states, marks, moments, counts and ids, and no text.
-use Rattle.std.specs.Prelude.{ℕ, Bool, false, not, ◌==◌, List, map, length, string_len, Option, Some, None, is_some, Ok, Err}
+use Rattle.std.specs.Prelude.{ℕ, Bool, false, not, ◌==◌, nat_lt, List, map, length, count_by, Option, Some, None, is_some, Ok, Err}
+use Rattle.gate_model.specs.declared.state.State.TheVariants.{Pending}
+use Rattle.gate_model.specs.State.{is_same_state}
 use Rattle.status_merge.specs.declared.gateway.Gateway.{Gateway}
 use Rattle.status_merge.specs.declared.gateway.Old.{Old}
 use Rattle.status_merge.specs.declared.gateway.MergedObject.{MergedObject}
@@ -7,7 +9,7 @@ use Rattle.status_merge.specs.declared.entries.CommentLine.{CommentLine}
 use Rattle.status_merge.specs.declared.entries.DowntimeLine.{DowntimeLine}
 use Rattle.status_merge.specs.declared.counts.Counts.{Counts}
 use Rattle.status_merge.specs.declared.query.Choice.{Choice}
-use Rattle.status_merge.specs.Ranks.{is_unhandled, counts_of}
+use Rattle.status_merge.specs.Ranks.{rank, counts_of}
 use Rattle.status_view.specs.declared.shape.GatewayShape.{GatewayShape}
 use Rattle.status_view.specs.declared.shape.ObjectShape.{ObjectShape}
 use Rattle.status_view.specs.declared.shape.EntryMarks.{EntryMarks}
@@ -30,8 +32,9 @@ pub record PageShapeView : Type 0 where
   pub choice : Choice
   pub refresh : ℕ
   pub keeps_refresh : Bool
-  pub keeps_host : Bool
   pub counts : Counts
+  pub pending : ℕ
+  pub urgent : ℕ
   pub gateways : List GatewayShape
   pub objects : List ObjectShape
   pub comments : List EntryShapeView
@@ -48,8 +51,9 @@ shape_view shape = record {
   choice = shape.choice;
   refresh = shape.refresh;
   keeps_refresh = shape.keeps_refresh;
-  keeps_host = shape.keeps_host;
   counts = shape.counts;
+  pending = shape.pending;
+  urgent = shape.urgent;
   gateways = shape.gateways.items;
   objects = shape.objects.items;
   comments = map entry_shape_view shape.comments.items;
@@ -76,6 +80,10 @@ gateway_shape gateway = elim gateway.page [
   | Err cause ↦ record { moment = None; is_closing = false; age = None; objects = 0; most = 0 }
 ]
 
+-- an unhandled problem, or a stale object that is no problem, needs attention: the ranks 0 to 4
+abbrev pub is_urgent : MergedObject → Bool
+is_urgent object = nat_lt (rank object.row) 5
+
 -- the shape of an object's row
 abbrev pub object_shape : MergedObject → ObjectShape
 object_shape object = record {
@@ -85,7 +93,7 @@ object_shape object = record {
   stale = object.row.stale;
   acknowledgement = object.row.acknowledgement;
   depth = object.row.depth;
-  is_unhandled = is_unhandled object.row;
+  is_urgent = is_urgent object;
   moment = object.moment;
   since = object.since;
 }
@@ -125,8 +133,9 @@ page_shape view = record {
   choice = view.query.now.choice;
   refresh = view.query.now.refresh;
   keeps_refresh = not (view.query.now.refresh == view.refresh);
-  keeps_host = not (string_len view.query.now.host == 0);
   counts = counts_of view.all.now;
+  pending = count_by (λ object. is_same_state object.row.state Pending) view.all.now;
+  urgent = count_by is_urgent view.all.now;
   gateways = map gateway_shape view.gateways.now;
   objects = map object_shape view.objects.now;
   comments = map comment_shape view.comments.now;

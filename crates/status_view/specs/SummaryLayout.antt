@@ -1,13 +1,19 @@
 -- The counts of a page, each with the link to the objects that it counts: `summary_nodes`. Its form: `form_nodes`.
 -- Own rules.
-use Rattle.std.specs.Prelude.{ℕ, Bool, true, false, ◌==◌, List, [], ◌∷◌, ◌++◌, codes}
+use Rattle.std.specs.Prelude.{◌≡◌, ℕ, Bool, true, false, ◌==◌, List, [], ◌∷◌, ◌++◌, length, codes}
 use Rattle.std.specs.List.{flat_map}
+use Rattle.gate_model.specs.declared.state.State.{State}
 use Rattle.gate_model.specs.declared.state.State.TheVariants.{Pending, Ok, Warning, Critical, Unknown, Up, Down, Unreachable}
 use Rattle.gate_model.specs.State.{is_same_state}
+use Rattle.gate_model.specs.Table.{object_kind}
+use Rattle.status_reading.specs.RowFaults.{service_name, is_state_of}
+use Rattle.status_merge.specs.declared.gateway.MergedObject.{MergedObject}
 use Rattle.status_merge.specs.declared.query.Choice.{Choice}
 use Rattle.status_merge.specs.declared.query.Choice.TheVariants.{All, Problems, Unhandled, Stale, In}
 use Rattle.status_merge.specs.Asking.{choice_word}
+use Rattle.status_merge.specs.Selecting.{selected}
 use Rattle.status_view.specs.declared.layout.Slot.TheVariants as slot
+use Rattle.status_view.specs.declared.summary_layout.Tile.{Tile}
 use Rattle.status_view.specs.Layout.{NodeView, Markup, Number, Text, nodes_if}
 use Rattle.status_view.specs.Shapes.{PageShapeView}
 
@@ -20,53 +26,89 @@ same_choice Stale Stale = true
 same_choice (In one) (In other) = is_same_state one other
 same_choice one other = false
 
--- the rest of a link's query, after its state: the host and the refresh that the query asks for
+-- the rest of a link's query, after its state: the refresh that the query asks for. A count is that of all hosts, so its
+-- link asks for all.
 unfoldable pub kept_nodes : PageShapeView → List NodeView
-kept_nodes shape =
-    nodes_if shape.keeps_host (Markup (codes "&amp;host=") ∷ Text slot.HostInLink ∷ [])
-    ++ nodes_if shape.keeps_refresh (Markup (codes "&amp;refresh=") ∷ Number shape.refresh ∷ [])
+kept_nodes shape = nodes_if shape.keeps_refresh (Markup (codes "&amp;refresh=") ∷ Number shape.refresh ∷ [])
+
+-- how many objects a choice takes, as its link shows them
+pub record TileView : Type 0 where
+  pub choice : Choice
+  pub name : List ℕ
+  pub count : ℕ
+
+abbrev pub tile_view : Tile → TileView
+tile_view tile = record { choice = tile.choice; name = tile.name.now; count = tile.count }
 
 -- a count, its name, and the link to the objects that it counts; the query's own choice is marked
-unfoldable pub tile_nodes : PageShapeView → Choice → List ℕ → ℕ → List NodeView
-tile_nodes shape choice name count =
-    (Markup (codes "<a class=\"tile ") ∷ Markup (choice_word choice) ∷ [])
-    ++ nodes_if (count == 0) (Markup (codes " zero") ∷ [])
-    ++ nodes_if (same_choice shape.choice choice) (Markup (codes "\" aria-current=\"true") ∷ [])
-    ++ (Markup (codes "\" href=\"/?state=") ∷ Markup (choice_word choice) ∷ [])
+unfoldable pub tile_nodes : PageShapeView → TileView → List NodeView
+tile_nodes shape tile =
+    (Markup (codes "<a class=\"tile ") ∷ Markup (choice_word tile.choice) ∷ [])
+    ++ nodes_if (tile.count == 0) (Markup (codes " zero") ∷ [])
+    ++ nodes_if (same_choice shape.choice tile.choice) (Markup (codes "\" aria-current=\"true") ∷ [])
+    ++ (Markup (codes "\" href=\"/?state=") ∷ Markup (choice_word tile.choice) ∷ [])
     ++ kept_nodes shape
-    ++ (Markup (codes "\"><b>") ∷ Number count ∷ Markup (codes "</b> ") ∷ Markup name ∷ Markup (codes "</a>") ∷ [])
-
-unfoldable pub all_nodes : PageShapeView → List NodeView
-all_nodes shape =
-    (Markup (codes "<nav class=\"counts\" aria-label=\"Counts\"><div class=\"group\">")
-    ∷ Markup (codes "<span class=\"of\">All</span>")
+    ++ (Markup (codes "\"><b>")
+    ∷ Number tile.count
+    ∷ Markup (codes "</b> ")
+    ∷ Markup tile.name
+    ∷ Markup (codes "</a>")
     ∷ [])
-    ++ tile_nodes shape Unhandled (codes "unhandled") shape.counts.unhandled
-    ++ tile_nodes shape Stale (codes "stale") shape.counts.stale
-    ++ tile_nodes shape All (codes "objects") shape.counts.objects
+
+-- tiles under a title
+unfoldable pub group_nodes : PageShapeView → List ℕ → List TileView → List NodeView
+group_nodes shape title tiles =
+    (Markup (codes "<div class=\"group\"><span class=\"of\">") ∷ Markup title ∷ Markup (codes "</span>") ∷ [])
+    ++ flat_map (tile_nodes shape) tiles
     ++ (Markup (codes "</div>") ∷ [])
 
-unfoldable pub hosts_nodes : PageShapeView → List NodeView
-hosts_nodes shape =
-    (Markup (codes "<div class=\"group\"><span class=\"of\">Hosts</span>") ∷ [])
-    ++ tile_nodes shape (In Down) (codes "down") shape.counts.down
-    ++ tile_nodes shape (In Unreachable) (codes "unreachable") shape.counts.unreachable
-    ++ tile_nodes shape (In Up) (codes "up") shape.counts.up
-    ++ tile_nodes shape (In Pending) (codes "pending") shape.counts.host_pending
-    ++ (Markup (codes "</div>") ∷ [])
+abbrev pub state_tile : State → List ℕ → ℕ → TileView
+state_tile state name count = record { choice = In state; name = name; count = count }
 
-unfoldable pub services_nodes : PageShapeView → List NodeView
-services_nodes shape =
-    (Markup (codes "<div class=\"group\"><span class=\"of\">Services</span>") ∷ [])
-    ++ tile_nodes shape (In Critical) (codes "critical") shape.counts.critical
-    ++ tile_nodes shape (In Warning) (codes "warning") shape.counts.warning
-    ++ tile_nodes shape (In Unknown) (codes "unknown") shape.counts.unknown
-    ++ tile_nodes shape (In Ok) (codes "ok") shape.counts.ok
-    ++ tile_nodes shape (In Pending) (codes "pending") shape.counts.service_pending
-    ++ (Markup (codes "</div></nav>\n") ∷ [])
+unfoldable pub all_tiles : PageShapeView → List TileView
+all_tiles shape =
+    record { choice = Unhandled; name = codes "unhandled"; count = shape.counts.unhandled }
+    ∷ record { choice = Stale; name = codes "stale"; count = shape.counts.stale }
+    ∷ state_tile Pending (codes "pending") shape.pending
+    ∷ record { choice = All; name = codes "objects"; count = shape.counts.objects }
+    ∷ []
+
+unfoldable pub host_tiles : PageShapeView → List TileView
+host_tiles shape =
+    state_tile Down (codes "down") shape.counts.down
+    ∷ state_tile Unreachable (codes "unreachable") shape.counts.unreachable
+    ∷ state_tile Up (codes "up") shape.counts.up
+    ∷ []
+
+unfoldable pub service_tiles : PageShapeView → List TileView
+service_tiles shape =
+    state_tile Critical (codes "critical") shape.counts.critical
+    ∷ state_tile Warning (codes "warning") shape.counts.warning
+    ∷ state_tile Unknown (codes "unknown") shape.counts.unknown
+    ∷ state_tile Ok (codes "ok") shape.counts.ok
+    ∷ []
 
 unfoldable pub summary_nodes : PageShapeView → List NodeView
-summary_nodes shape = all_nodes shape ++ hosts_nodes shape ++ services_nodes shape
+summary_nodes shape =
+    (Markup (codes "<nav class=\"counts\" aria-label=\"Counts\">") ∷ [])
+    ++ group_nodes shape (codes "All") (all_tiles shape)
+    ++ group_nodes shape (codes "Hosts") (host_tiles shape)
+    ++ group_nodes shape (codes "Services") (service_tiles shape)
+    ++ (Markup (codes "</nav>\n") ∷ [])
+
+-- ---- what a tile counts
+
+abbrev pub tiles_of : PageShapeView → List TileView
+tiles_of shape = all_tiles shape ++ host_tiles shape ++ service_tiles shape
+
+-- an object has a state of its kind, as on every page that is read
+abbrev pub HasOwnState : MergedObject → Type 0
+HasOwnState object =
+    is_state_of object.row.last (object_kind (service_name object.row.service.now)) object.row.state ≡ true
+
+-- the number of a tile is the length of what its link selects of these objects
+abbrev pub CountsSelected : List MergedObject → TileView → Type 0
+CountsSelected objects tile = tile.count ≡ length (selected tile.choice [] objects)
 
 -- ---- the form
 

@@ -179,7 +179,6 @@ fn fill_slot(alloc: Global, html: &mut Html, view: &View<'_>, slot: Slot) -> Res
     match slot {
         Slot::Title => html.text(view.title.as_bytes()),
         Slot::HostAsked => html.text(view.query.host.as_str().as_bytes()),
-        Slot::HostInLink => put_in_link(alloc, html, view.query.host.as_str().as_bytes()),
         Slot::Gateway(index) => match view.gateways.get(index) {
             Some(gateway) => html.text(gateway.name.as_bytes()),
             None => html.text(b""),

@@ -1,6 +1,9 @@
-ghost use Rattle.std.specs.Prelude.{◌≡◌, map, IfOk};
+ghost use Rattle.std.specs.Prelude.{◌≡◌, map, count_by, IfOk};
+ghost use Rattle.std.specs.List.{All};
+ghost use Rattle.gate_model.specs.State.{is_same_state};
 ghost use Rattle.status_view.specs.declared.view.View.{View as Shown};
-ghost use Rattle.status_view.specs.Shapes.{entry_shape_view, shape_view, old_age, gateway_shape, object_shape, comment_shape, downtime_shape, page_shape};
+ghost use Rattle.status_view.specs.Shapes.{entry_shape_view, shape_view, old_age, gateway_shape, is_urgent, object_shape, comment_shape, downtime_shape, page_shape};
+ghost use Rattle.status_view.specs.SummaryLayout.{tiles_of, HasOwnState, CountsSelected};
 ghost use Rattle.status_view.specs.Page.{page_nodes};
 ghost use Rattle.status_view.specs.Filling.{filled, html_bytes, without_texts};
 
@@ -11,9 +14,8 @@ use crate::shape::{
 };
 use crate::view::View;
 use html_text::Html;
-use status_merge::{
-    CommentLine, DowntimeLine, Gateway, MergedObject, Old, Origin, count, is_unhandled,
-};
+use status_merge::{CommentLine, DowntimeLine, Gateway, MergedObject, Old, Origin, count, rank};
+use status_reading::State;
 use std::alloc::{AllocError, Global};
 
 fn old_age(old: &Option<Old>) -> Option<u32>
@@ -57,7 +59,7 @@ fn object_shape(shown: &MergedObject<'_>) -> ObjectShape
         stale: row.stale,
         acknowledgement: row.acknowledgement,
         depth: row.depth,
-        is_unhandled: is_unhandled(row),
+        is_urgent: rank(row) < 5,
         moment: shown.moment,
         since: shown.since,
     }
@@ -152,6 +154,27 @@ fn downtime_shapes(alloc: Global, lines: &[DowntimeLine<'_>]) -> Result<Vec<Entr
     Ok(shapes)
 }
 
+fn pending_in(objects: &[MergedObject<'_>]) -> usize
+    ensures { result ≡ count_by (λ object. is_same_state object.row.state State.Pending) objects.now }
+{
+    objects
+        .iter()
+        .filter(|object| {
+            let found = object.row.state;
+            found == State::Pending
+        })
+        .count()
+}
+
+fn urgent_in(objects: &[MergedObject<'_>]) -> usize
+    ensures { result ≡ count_by is_urgent objects.now }
+{
+    objects
+        .iter()
+        .filter(|object| rank(&object.row) < 5)
+        .count()
+}
+
 /// What decides the markup of a page. The counts are those of all objects, whatever the query
 /// selects. The only error is out of memory.
 pub fn shape_of(alloc: Global, view: &View<'_>) -> Result<PageShape, AllocError>
@@ -162,8 +185,9 @@ pub fn shape_of(alloc: Global, view: &View<'_>) -> Result<PageShape, AllocError>
         choice: view.query.choice,
         refresh: view.query.refresh,
         keeps_refresh: view.query.refresh != view.refresh,
-        keeps_host: !view.query.host.is_empty(),
         counts: count(view.all),
+        pending: pending_in(view.all),
+        urgent: urgent_in(view.all),
         gateways: gateway_shapes(alloc, view.gateways)?,
         objects: object_shapes(alloc, view.objects)?,
         comments: comment_shapes(alloc, view.comments)?,
@@ -175,6 +199,10 @@ pub fn shape_of(alloc: Global, view: &View<'_>) -> Result<PageShape, AllocError>
 pub fn html_page(alloc: Global, view: &View<'_>) -> Result<Html, AllocError>
     ensures page { let view = view.entry.now in
         IfOk result (λ html. html ≡ html_bytes (filled view (page_nodes (page_shape view)))) }
+
+    // The number of each tile is the length of what its link selects.
+    ensures tiles { let view = view.entry.now in All HasOwnState view.all.now
+        → All (CountsSelected view.all.now) (tiles_of (page_shape view)) }
 
     // The texts have no part in the markup: any view of the same shape has a page with the same
     // markup and the same numbers, and its texts at the same places.

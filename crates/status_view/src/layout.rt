@@ -52,8 +52,6 @@ pub enum Slot {
     Title,
     /// The text of the query's host.
     HostAsked,
-    /// The same, as a value in a URL's query.
-    HostInLink,
     /// The name of the gateway of this index.
     Gateway(usize),
     /// Why there is no page of the gateway of this index.

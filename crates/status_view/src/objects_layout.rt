@@ -116,7 +116,7 @@ fn lay_out_object(
         Node::Markup("<tr class=\""),
         Node::Markup(choice_name(Choice::In(row.state))),
     ])?;
-    layout.put_if(!row.is_unhandled, &[Node::Markup(" handled")])?;
+    layout.put_if(!row.is_urgent, &[Node::Markup(" handled")])?;
     layout.put(&[
         Node::Markup("\"><td class=\"cell\"><span class=\"badge state\">"),
         Node::Markup(state_name(row.state)),

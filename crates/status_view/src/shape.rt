@@ -34,7 +34,8 @@ pub struct ObjectShape {
     pub stale: bool,
     pub acknowledgement: ShownAcknowledgement,
     pub depth: u32,
-    pub is_unhandled: bool,
+    /// Whether it needs attention: an unhandled problem, or stale and no problem.
+    pub is_urgent: bool,
     /// The moment of the page.
     pub moment: u32,
     pub since: u32,
@@ -87,9 +88,11 @@ pub struct PageShape {
     pub refresh: u32,
     /// Whether `refresh` is not the default, so that the links keep it.
     pub keeps_refresh: bool,
-    /// Whether the query asks for some hosts alone, so that the links keep that.
-    pub keeps_host: bool,
     pub counts: Counts,
+    /// How many objects are PENDING.
+    pub pending: usize,
+    /// How many objects need attention.
+    pub urgent: usize,
     pub gateways: Vec<GatewayShape>,
     pub objects: Vec<ObjectShape>,
     pub comments: Vec<EntryShape>,
@@ -100,7 +103,7 @@ fn lay_out_head(layout: &mut Layout, shape: &PageShape) -> Result<(), AllocError
     ensures { OnOk result (layout.new ≡ layout.old ++ head_nodes (shape_view shape.now)) }
 {
     let gateways = shape.gateways.as_slice();
-    lay_out_document(layout, shape.refresh, shape.counts.unhandled)?;
+    lay_out_document(layout, shape.refresh, shape.urgent)?;
     lay_out_title(layout, gateways)?;
     lay_out_alarms(layout, gateways, shape.clock)?;
     lay_out_summary(layout, shape)?;

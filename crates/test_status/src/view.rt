@@ -20,37 +20,36 @@ mp;B</a></h1><nav aria-label=\"Pages\"><a href=\"/\">Status</a> <a href=\"/chang
 </time></p></header>\n<main>\n<nav class=\"counts\" aria-label=\"Counts\"><div class=\"group\
 \"><span class=\"of\">All</span><a class=\"tile unhandled zero\" href=\"/?state=unhandled\">\
 <b>0</b> unhandled</a><a class=\"tile stale\" href=\"/?state=stale\"><b>1</b> stale</a><a cl\
-ass=\"tile all\" aria-current=\"true\" href=\"/?state=all\"><b>2</b> objects</a></div><div c\
-lass=\"group\"><span class=\"of\">Hosts</span><a class=\"tile down zero\" href=\"/?state=dow\
-n\"><b>0</b> down</a><a class=\"tile unreachable zero\" href=\"/?state=unreachable\"><b>0</b\
-> unreachable</a><a class=\"tile up\" href=\"/?state=up\"><b>1</b> up</a><a class=\"tile pen\
-ding zero\" href=\"/?state=pending\"><b>0</b> pending</a></div><div class=\"group\"><span cl\
-ass=\"of\">Services</span><a class=\"tile critical\" href=\"/?state=critical\"><b>1</b> crit\
-ical</a><a class=\"tile warning zero\" href=\"/?state=warning\"><b>0</b> warning</a><a class\
-=\"tile unknown zero\" href=\"/?state=unknown\"><b>0</b> unknown</a><a class=\"tile ok zero\
-\" href=\"/?state=ok\"><b>0</b> ok</a><a class=\"tile pending zero\" href=\"/?state=pending\
-\"><b>0</b> pending</a></div></nav>\n<form method=\"get\" action=\"/\" role=\"search\" aria-\
-label=\"Objects\"><label>State <select name=\"state\"><option selected>all</option><option>p\
-roblems</option><option>unhandled</option><option>stale</option><option>critical</option><op\
-tion>warning</option><option>unknown</option><option>ok</option><option>down</option><option\
->unreachable</option><option>up</option><option>pending</option></select></label> <label>Hos\
-t <input name=\"host\" value=\"\"></label> <label>Refresh <input name=\"refresh\" type=\"num\
-ber\" min=\"0\" max=\"3600\" value=\"30\"></label> <button>Show</button></form>\n<table><cap\
-tion><h2>Hosts and services</h2>2 of 2 shown</caption>\n<thead><tr><th scope=\"col\">State</\
-th><th scope=\"col\">Object</th><th scope=\"col\">Marks</th><th scope=\"col\">Since</th><th \
-scope=\"col\">Last result</th><th scope=\"col\">Output</th></tr></thead><tbody>\n<tr class=\
-\"up handled\"><td class=\"cell\"><span class=\"badge state\">UP</span></td><td class=\"name\
-\"><a href=\"/?host=web%2F1\"><bdi>web/1</bdi></a></td><td class=\"cell\"></td><td class=\"n\
-um cell\" data-name=\"since\" title=\"2026-11-23 20:11:00Z\">4 min ago</td><td class=\"num c\
-ell\" title=\"2026-11-23 20:14:00Z\">60 s ago</td><td class=\"out\"></td></tr>\n<tr class=\"\
-critical handled\"><td class=\"cell\"><span class=\"badge state\">CRITICAL</span></td><td cl\
-ass=\"name\"><a href=\"/?host=web%2F1\"><bdi>web/1</bdi></a> <span class=\"soft\">/</span> <\
-bdi>HTTP</bdi></td><td class=\"cell\"><span class=\"badge stale\">stale</span> <span class=\
-\"badge\">acknowledged, sticky</span> <span class=\"badge\">downtime 1</span></td><td class=\
-\"num cell\" data-name=\"since\" title=\"2026-11-23 20:15:00Z\">0 s ago</td><td class=\"num \
-cell\" title=\"2026-11-23 20:13:30Z\">90 s ago</td><td class=\"out\">a &lt;b&gt;\n10s</td></\
-tr>\n</tbody></table>\n</main><footer><a href=\"/status.json\">status.json</a> &middot; <a h\
-ref=\"/metrics\">metrics</a></footer>\n</body></html>\n";
+ass=\"tile pending zero\" href=\"/?state=pending\"><b>0</b> pending</a><a class=\"tile all\" \
+aria-current=\"true\" href=\"/?state=all\"><b>2</b> objects</a></div><div class=\"group\"><s\
+pan class=\"of\">Hosts</span><a class=\"tile down zero\" href=\"/?state=down\"><b>0</b> down\
+</a><a class=\"tile unreachable zero\" href=\"/?state=unreachable\"><b>0</b> unreachable</a>\
+<a class=\"tile up\" href=\"/?state=up\"><b>1</b> up</a></div><div class=\"group\"><span cla\
+ss=\"of\">Services</span><a class=\"tile critical\" href=\"/?state=critical\"><b>1</b> criti\
+cal</a><a class=\"tile warning zero\" href=\"/?state=warning\"><b>0</b> warning</a><a class=\
+\"tile unknown zero\" href=\"/?state=unknown\"><b>0</b> unknown</a><a class=\"tile ok zero\" \
+href=\"/?state=ok\"><b>0</b> ok</a></div></nav>\n<form method=\"get\" action=\"/\" role=\"se\
+arch\" aria-label=\"Objects\"><label>State <select name=\"state\"><option selected>all</opti\
+on><option>problems</option><option>unhandled</option><option>stale</option><option>critical\
+</option><option>warning</option><option>unknown</option><option>ok</option><option>down</op\
+tion><option>unreachable</option><option>up</option><option>pending</option></select></label\
+> <label>Host <input name=\"host\" value=\"\"></label> <label>Refresh <input name=\"refresh\
+\" type=\"number\" min=\"0\" max=\"3600\" value=\"30\"></label> <button>Show</button></form>\
+\n<table><caption><h2>Hosts and services</h2>2 of 2 shown</caption>\n<thead><tr><th scope=\"\
+col\">State</th><th scope=\"col\">Object</th><th scope=\"col\">Marks</th><th scope=\"col\">S\
+ince</th><th scope=\"col\">Last result</th><th scope=\"col\">Output</th></tr></thead><tbody>\
+\n<tr class=\"up handled\"><td class=\"cell\"><span class=\"badge state\">UP</span></td><td \
+class=\"name\"><a href=\"/?host=web%2F1\"><bdi>web/1</bdi></a></td><td class=\"cell\"></td><\
+td class=\"num cell\" data-name=\"since\" title=\"2026-11-23 20:11:00Z\">4 min ago</td><td c\
+lass=\"num cell\" title=\"2026-11-23 20:14:00Z\">60 s ago</td><td class=\"out\"></td></tr>\n\
+<tr class=\"critical handled\"><td class=\"cell\"><span class=\"badge state\">CRITICAL</span\
+></td><td class=\"name\"><a href=\"/?host=web%2F1\"><bdi>web/1</bdi></a> <span class=\"soft\
+\">/</span> <bdi>HTTP</bdi></td><td class=\"cell\"><span class=\"badge stale\">stale</span> \
+<span class=\"badge\">acknowledged, sticky</span> <span class=\"badge\">downtime 1</span></t\
+d><td class=\"num cell\" data-name=\"since\" title=\"2026-11-23 20:15:00Z\">0 s ago</td><td \
+class=\"num cell\" title=\"2026-11-23 20:13:30Z\">90 s ago</td><td class=\"out\">a &lt;b&gt;\
+\n10s</td></tr>\n</tbody></table>\n</main><footer><a href=\"/status.json\">status.json</a> &\
+middot; <a href=\"/metrics\">metrics</a></footer>\n</body></html>\n";
 
 // The page for a browser of one gateway's page.
 fn shown(alloc: Global) -> Result<Vec<u8>, ReadFault> {

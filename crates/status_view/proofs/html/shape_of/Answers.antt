@@ -4,8 +4,9 @@ use Rattle.status_view.proofs.html.shape_of.Goals as goal
 pub returns : goal.returns
 returns c =
     rw (
-      c.is_empty.ensures,
       c.count.ensures,
+      c.pending_in.ensures,
+      c.urgent_in.ensures,
       c.in_ok-gateway_shapes.ensures,
       c.in_ok-object_shapes.ensures,
       c.in_ok-comment_shapes.ensures,

@@ -1,5 +1,5 @@
 use Rattle.std.proofs.Common.{append_assoc, ◌++◌}
-use Rattle.status_view.specs.SummaryLayout.{tile_nodes}
+use Rattle.status_view.specs.SummaryLayout.{tile_view, tile_nodes}
 use Rattle.status_view.specs.Shapes.{shape_view}
 use Rattle.status_view.proofs.LayoutSteps.{ended}
 use Rattle.status_view.proofs.summary_layout.lay_out_tile.Goals as goal
@@ -8,7 +8,7 @@ pub returns : goal.returns
 unfolding tile_nodes
 returns c =
     ended c.put-3.result _ _
-    (c.args.layout.now ++ tile_nodes (shape_view c.args.shape.now) c.args.choice c.args.name.now c.args.count)
+    (c.args.layout.now ++ tile_nodes (shape_view c.args.shape.now) (tile_view c.args.tile.now))
     c.put-3.ensures
     (rw (
       c.in_ok-lay_out_kept.ensures,
