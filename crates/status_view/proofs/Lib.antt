@@ -2,3 +2,5 @@ pub mod CalendarSteps
 pub mod LayoutSteps
 pub mod TileLaws
 pub mod FillingSteps
+pub mod LinkLaws
+pub mod FilterSteps

@@ -49,19 +49,25 @@ change_nodes index row =
     ∷ Markup (codes "</td></tr>\n")
     ∷ [])
 
--- the page, which a browser asks for again after so many seconds
-unfoldable pub changes_nodes : ℕ → List ChangeShape → List NodeView
-changes_nodes refresh rows =
-    document_nodes refresh 0
-    ++ title_nodes []
-    ++ (Markup (codes "<table><caption><h2>Changes of states</h2>")
+-- a table of changes, with their number
+unfoldable pub changes_table : List ChangeShape → List NodeView
+changes_table rows =
+    (Markup (codes "<table><caption><h2>Changes of states</h2>")
     ∷ Number (length rows)
     ∷ Markup (codes " shown, the newest first: of each gateway the last 1,000 since this program started</caption>\n")
     ∷ Markup (codes "<thead><tr><th scope=\"col\">Time</th><th scope=\"col\">Object</th><th scope=\"col\">From</th>")
     ∷ Markup (codes "<th scope=\"col\">To</th><th scope=\"col\">Gateway</th></tr></thead><tbody>\n")
     ∷ [])
     ++ each_indexed change_nodes rows
-    ++ (Markup (codes "</tbody></table>\n</main><footer><a href=\"/changes.json\">changes.json</a> &middot; ")
+    ++ (Markup (codes "</tbody></table>\n") ∷ [])
+
+-- the page, which a browser asks for again after so many seconds
+unfoldable pub changes_nodes : ℕ → List ChangeShape → List NodeView
+changes_nodes refresh rows =
+    document_nodes refresh 0
+    ++ title_nodes []
+    ++ changes_table rows
+    ++ (Markup (codes "</main><footer><a href=\"/changes.json\">changes.json</a> &middot; ")
     ∷ Markup (codes "<a href=\"/changes.atom\">changes.atom</a></footer>\n</body></html>\n")
     ∷ [])
 

@@ -25,6 +25,7 @@ use Rattle.status_view.specs.declared.layout.ChangeText.TheVariants as change
 use Rattle.status_view.specs.declared.layout.Slot.{Slot}
 use Rattle.status_view.specs.declared.layout.Slot.TheVariants as slot
 use Rattle.status_view.specs.Layout.{Piece, Markup, Number, Text, NodeView}
+use Rattle.status_view.specs.Links.{object_link}
 
 -- a text of the item of this index; nothing where there is none
 abbrev pub text_at : {X : Type 0} → (X → List ℕ) → List X → ℕ → List ℕ
@@ -44,6 +45,7 @@ abbrev pub object_text : ObjectText → MergedObject → List ℕ
 object_text object.Host shown = plain_bytes shown.row.host.now
 object_text object.HostInLink shown = byte_serialize shown.row.host.now
 object_text object.Service shown = plain_bytes shown.row.service.now
+object_text object.Link shown = object_link shown.row.host.now shown.row.service.now
 object_text object.Output shown = plain_bytes shown.row.output.now
 object_text object.Gateway shown = shown.gateway.now
 

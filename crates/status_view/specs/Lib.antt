@@ -1,6 +1,7 @@
 pub mod Calendar
 pub mod Shapes
 pub mod Layout
+pub mod Links
 pub mod Times
 pub mod HeadLayout
 pub mod SummaryLayout
@@ -9,3 +10,4 @@ pub mod ListsLayout
 pub mod ChangesLayout
 pub mod Page
 pub mod Filling
+pub mod OneObject

@@ -12,21 +12,17 @@ use Rattle.status_view.specs.Layout.{NodeView, Markup, Number, Text, nodes_if, e
 use Rattle.status_view.specs.Times.{span_nodes, moment_nodes}
 use Rattle.status_view.specs.Shapes.{PageShapeView}
 
--- the name of the object of this index: its host, with the link to the host's objects, and its service where it is one
+-- the name of the object of this index, as the link to its page: its host, and its service where it is one
 unfoldable pub object_name_nodes : ℕ → Bool → List NodeView
 object_name_nodes index is_host =
-    (Markup (codes "<td class=\"name\"><a href=\"/?host=")
-    ∷ Text (slot.Object index text.HostInLink)
+    (Markup (codes "<td class=\"name\"><a href=\"")
+    ∷ Text (slot.Object index text.Link)
     ∷ Markup (codes "\"><bdi>")
     ∷ Text (slot.Object index text.Host)
-    ∷ Markup (codes "</bdi></a>")
     ∷ [])
     ++ nodes_if (not is_host)
-    (Markup (codes " <span class=\"soft\">/</span> <bdi>")
-    ∷ Text (slot.Object index text.Service)
-    ∷ Markup (codes "</bdi>")
-    ∷ [])
-    ++ (Markup (codes "</td>") ∷ [])
+    (Markup (codes "</bdi> <span class=\"soft\">/</span> <bdi>") ∷ Text (slot.Object index text.Service) ∷ [])
+    ++ (Markup (codes "</bdi></a></td>") ∷ [])
 
 -- the mark of an acknowledgement
 unfoldable pub acknowledgement_nodes : ShownAcknowledgement → List NodeView
@@ -80,19 +76,25 @@ object_nodes several index row =
     (Markup (codes "</td><td class=\"cell soft\" data-name=\"at\">") ∷ Text (slot.Object index text.Gateway) ∷ [])
     ++ (Markup (codes "</td></tr>\n") ∷ [])
 
--- the list, with how many objects it has, and how many there are
-unfoldable pub objects_nodes : PageShapeView → List NodeView
-objects_nodes shape =
-    let several = nat_lt 1 (length shape.gateways) in
-    (Markup (codes "<table><caption><h2>Hosts and services</h2>")
-    ∷ Number (length shape.objects)
-    ∷ Markup (codes " of ")
-    ∷ Number shape.counts.objects
-    ∷ Markup (codes " shown</caption>\n<thead><tr><th scope=\"col\">State</th>")
+-- the rest of a table of objects after its caption
+unfoldable pub objects_table : Bool → List ObjectShape → List NodeView
+objects_table several rows =
+    (Markup (codes "<thead><tr><th scope=\"col\">State</th>")
     ∷ Markup (codes "<th scope=\"col\">Object</th><th scope=\"col\">Marks</th><th scope=\"col\">Since</th>")
     ∷ Markup (codes "<th scope=\"col\">Last result</th><th scope=\"col\">Output</th>")
     ∷ [])
     ++ nodes_if several (Markup (codes "<th scope=\"col\">Gateway</th>") ∷ [])
     ++ (Markup (codes "</tr></thead><tbody>\n") ∷ [])
-    ++ each_indexed (object_nodes several) shape.objects
+    ++ each_indexed (object_nodes several) rows
     ++ (Markup (codes "</tbody></table>\n") ∷ [])
+
+-- the list, with how many objects it has, and how many there are
+unfoldable pub objects_nodes : PageShapeView → List NodeView
+objects_nodes shape =
+    (Markup (codes "<table><caption><h2>Hosts and services</h2>")
+    ∷ Number (length shape.objects)
+    ∷ Markup (codes " of ")
+    ∷ Number shape.counts.objects
+    ∷ Markup (codes " shown</caption>\n")
+    ∷ [])
+    ++ objects_table (nat_lt 1 (length shape.gateways)) shape.objects

@@ -17,6 +17,13 @@ head_nodes shape =
     ++ summary_nodes shape
     ++ form_nodes shape
 
+-- the end of a page of states
+unfoldable pub end_nodes : List NodeView
+end_nodes =
+    Markup (codes "</main><footer><a href=\"/status.json\">status.json</a> &middot; ")
+    ∷ Markup (codes "<a href=\"/metrics\">metrics</a></footer>\n</body></html>\n")
+    ∷ []
+
 -- the whole page
 unfoldable pub page_nodes : PageShapeView → List NodeView
 page_nodes shape =
@@ -24,6 +31,4 @@ page_nodes shape =
     ++ objects_nodes shape
     ++ entries_nodes Comments shape.comments
     ++ entries_nodes Downtimes shape.downtimes
-    ++ (Markup (codes "</main><footer><a href=\"/status.json\">status.json</a> &middot; ")
-    ∷ Markup (codes "<a href=\"/metrics\">metrics</a></footer>\n</body></html>\n")
-    ∷ [])
+    ++ end_nodes

@@ -2,7 +2,7 @@
 
 ghost use Rattle.std.specs.Prelude.{◌≡◌, ◌++◌, map, OnOk, IfOk};
 ghost use Rattle.status_view.specs.Layout.{each_indexed};
-ghost use Rattle.status_view.specs.ChangesLayout.{change_shape, change_nodes, changes_nodes, feed_id_nodes, feed_title_nodes, feed_entry_nodes, updated_at, feed_nodes};
+ghost use Rattle.status_view.specs.ChangesLayout.{change_shape, change_nodes, changes_table, changes_nodes, feed_id_nodes, feed_title_nodes, feed_entry_nodes, updated_at, feed_nodes};
 ghost use Rattle.status_view.specs.Filling.{filled, html_bytes};
 
 use crate::filling::fill;
@@ -37,7 +37,8 @@ fn change_shape(shown: &GatewayChange<'_>) -> ChangeShape
     }
 }
 
-fn change_shapes(
+/// What decides the markup of changes. The only error is out of memory.
+pub fn change_shapes(
     alloc: Global,
     changes: &[GatewayChange<'_>],
 ) -> Result<Vec<ChangeShape>, AllocError>
@@ -94,11 +95,10 @@ fn lay_out_changes(layout: &mut Layout, rows: &[ChangeShape]) -> Result<(), Allo
     Ok(())
 }
 
-fn lay_out_page(layout: &mut Layout, refresh: u32, rows: &[ChangeShape]) -> Result<(), AllocError>
-    ensures { OnOk result (layout.new ≡ layout.old ++ changes_nodes refresh rows.now) }
+/// Appends a table of changes.
+pub fn lay_out_changes_table(layout: &mut Layout, rows: &[ChangeShape]) -> Result<(), AllocError>
+    ensures { OnOk result (layout.new ≡ layout.old ++ changes_table rows.now) }
 {
-    lay_out_document(layout, refresh, 0)?;
-    lay_out_title(layout, &[])?;
     layout.put(&[
         Node::Markup("<table><caption><h2>Changes of states</h2>"),
         Node::Number(rows.len() as u64),
@@ -113,10 +113,17 @@ fn lay_out_page(layout: &mut Layout, refresh: u32, rows: &[ChangeShape]) -> Resu
         ),
     ])?;
     lay_out_changes(layout, rows)?;
+    layout.put(&[Node::Markup("</tbody></table>\n")])
+}
+
+fn lay_out_page(layout: &mut Layout, refresh: u32, rows: &[ChangeShape]) -> Result<(), AllocError>
+    ensures { OnOk result (layout.new ≡ layout.old ++ changes_nodes refresh rows.now) }
+{
+    lay_out_document(layout, refresh, 0)?;
+    lay_out_title(layout, &[])?;
+    lay_out_changes_table(layout, rows)?;
     layout.put(&[
-        Node::Markup(
-            "</tbody></table>\n</main><footer><a href=\"/changes.json\">changes.json</a> &middot; ",
-        ),
+        Node::Markup("</main><footer><a href=\"/changes.json\">changes.json</a> &middot; "),
         Node::Markup("<a href=\"/changes.atom\">changes.atom</a></footer>\n</body></html>\n"),
     ])
 }

@@ -6,11 +6,12 @@ ghost use Rattle.html_text.specs.Escaping.{html_text};
 ghost use Rattle.std.specs.Str.Lossy.{utf8_lossy};
 ghost use Rattle.status_reading.specs.Plain.{plain_bytes};
 ghost use Rattle.status_view.specs.Layout.{node_view};
+ghost use Rattle.status_view.specs.Links.{object_link};
 ghost use Rattle.status_view.specs.Filling.{old_cause, cause_text, object_text, entry_text, change_text, slot_text, with_text, filled, piece_bytes, html_bytes};
 
 use crate::layout::{ChangeText, EntryList, EntryText, Layout, Node, ObjectText, Slot};
+use crate::links::{object_link, push_value};
 use crate::view::View;
-use form_urlencoded::byte_serialize;
 use html_text::Html;
 use status_memory::GatewayChange;
 use status_merge::{Gateway, MergedObject, Old, Origin};
@@ -24,14 +25,19 @@ fn put_field(alloc: Global, html: &mut Html, field: &[u8]) -> Result<(), AllocEr
     html.text(plain_bytes(alloc, field)?.as_slice())
 }
 
+// The link to the page of an object.
+fn put_link(alloc: Global, html: &mut Html, host: &[u8], service: &[u8]) -> Result<(), AllocError>
+    ensures { OnOk result (html.new ≡ html.old ++ html_text (object_link host.now service.now)) }
+{
+    html.text(object_link(alloc, host, service)?.as_str().as_bytes())
+}
+
 // A text as a value in a URL's query.
 fn put_in_link(alloc: Global, html: &mut Html, text: &[u8]) -> Result<(), AllocError>
     ensures { OnOk result (html.new ≡ html.old ++ html_text (byte_serialize text.now)) }
 {
     let mut value = String::new(alloc);
-    for piece in byte_serialize(text) {
-        value.push_str(piece)?;
-    }
+    push_value(&mut value, text)?;
     html.text(value.as_str().as_bytes())
 }
 
@@ -65,6 +71,7 @@ fn put_object(
         ObjectText::Host => put_field(alloc, html, shown.row.host),
         ObjectText::HostInLink => put_in_link(alloc, html, shown.row.host),
         ObjectText::Service => put_field(alloc, html, shown.row.service),
+        ObjectText::Link => put_link(alloc, html, shown.row.host, shown.row.service),
         ObjectText::Output => put_field(alloc, html, shown.row.output),
         ObjectText::Gateway => html.text(shown.gateway.as_bytes()),
     }

@@ -11,6 +11,8 @@ pub enum ObjectText {
     /// The host's name as a value in a URL's query.
     HostInLink,
     Service,
+    /// The link to the page of the object.
+    Link,
     Output,
     /// The name of its gateway.
     Gateway,

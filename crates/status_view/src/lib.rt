@@ -10,8 +10,10 @@ mod filling;
 mod head_layout;
 mod html;
 mod layout;
+mod links;
 mod lists_layout;
 mod objects_layout;
+mod one_object;
 mod shape;
 mod style;
 mod summary_layout;
@@ -20,5 +22,7 @@ mod view;
 
 pub use changes::{changes_feed, changes_page};
 pub use html::html_page;
+pub use links::{ObjectName, object_link, read_object_name};
+pub use one_object::{ObjectAsked, object_page};
 pub use style::STYLE;
 pub use view::View;

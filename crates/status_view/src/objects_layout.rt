@@ -3,7 +3,7 @@
 ghost use Rattle.std.specs.Prelude.{◌≡◌, ◌++◌, OnOk};
 ghost use Rattle.status_view.specs.Layout.{each_indexed};
 ghost use Rattle.status_view.specs.Shapes.{shape_view};
-ghost use Rattle.status_view.specs.ObjectsLayout.{object_name_nodes, acknowledgement_nodes, marks_nodes, ago_nodes, since_nodes, age_nodes, object_nodes, objects_nodes};
+ghost use Rattle.status_view.specs.ObjectsLayout.{object_name_nodes, acknowledgement_nodes, marks_nodes, ago_nodes, since_nodes, age_nodes, object_nodes, objects_table, objects_nodes};
 
 use crate::layout::{Layout, Node, ObjectText, Slot};
 use crate::shape::{ObjectShape, PageShape};
@@ -16,21 +16,19 @@ fn lay_out_name(layout: &mut Layout, index: usize, is_host: bool) -> Result<(), 
     ensures { OnOk result (layout.new ≡ layout.old ++ object_name_nodes index is_host) }
 {
     layout.put(&[
-        Node::Markup("<td class=\"name\"><a href=\"/?host="),
-        Node::Slot(Slot::Object(index, ObjectText::HostInLink)),
+        Node::Markup("<td class=\"name\"><a href=\""),
+        Node::Slot(Slot::Object(index, ObjectText::Link)),
         Node::Markup("\"><bdi>"),
         Node::Slot(Slot::Object(index, ObjectText::Host)),
-        Node::Markup("</bdi></a>"),
     ])?;
     layout.put_if(
         !is_host,
         &[
-            Node::Markup(" <span class=\"soft\">/</span> <bdi>"),
+            Node::Markup("</bdi> <span class=\"soft\">/</span> <bdi>"),
             Node::Slot(Slot::Object(index, ObjectText::Service)),
-            Node::Markup("</bdi>"),
         ],
     )?;
-    layout.put(&[Node::Markup("</td>")])
+    layout.put(&[Node::Markup("</bdi></a></td>")])
 }
 
 #[tactic(auto, unfolding(crate::specs::ObjectsLayout::acknowledgement_nodes))]
@@ -150,6 +148,27 @@ fn lay_out_rows(layout: &mut Layout, rows: &[ObjectShape], several: bool) -> Res
     Ok(())
 }
 
+/// Appends the rest of a table of objects after its caption.
+pub fn lay_out_table(
+    layout: &mut Layout,
+    rows: &[ObjectShape],
+    several: bool,
+) -> Result<(), AllocError>
+    ensures { OnOk result (layout.new ≡ layout.old ++ objects_table several rows.now) }
+{
+    layout.put(&[
+        Node::Markup("<thead><tr><th scope=\"col\">State</th>"),
+        Node::Markup(
+            "<th scope=\"col\">Object</th><th scope=\"col\">Marks</th><th scope=\"col\">Since</th>",
+        ),
+        Node::Markup("<th scope=\"col\">Last result</th><th scope=\"col\">Output</th>"),
+    ])?;
+    layout.put_if(several, &[Node::Markup("<th scope=\"col\">Gateway</th>")])?;
+    layout.put(&[Node::Markup("</tr></thead><tbody>\n")])?;
+    lay_out_rows(layout, rows, several)?;
+    layout.put(&[Node::Markup("</tbody></table>\n")])
+}
+
 /// Appends the list of objects.
 pub fn lay_out_objects(layout: &mut Layout, shape: &PageShape) -> Result<(), AllocError>
     ensures { OnOk result (layout.new ≡ layout.old ++ objects_nodes (shape_view shape.now)) }
@@ -161,14 +180,7 @@ pub fn lay_out_objects(layout: &mut Layout, shape: &PageShape) -> Result<(), All
         Node::Number(rows.len() as u64),
         Node::Markup(" of "),
         Node::Number(shape.counts.objects as u64),
-        Node::Markup(" shown</caption>\n<thead><tr><th scope=\"col\">State</th>"),
-        Node::Markup(
-            "<th scope=\"col\">Object</th><th scope=\"col\">Marks</th><th scope=\"col\">Since</th>",
-        ),
-        Node::Markup("<th scope=\"col\">Last result</th><th scope=\"col\">Output</th>"),
+        Node::Markup(" shown</caption>\n"),
     ])?;
-    layout.put_if(several, &[Node::Markup("<th scope=\"col\">Gateway</th>")])?;
-    layout.put(&[Node::Markup("</tr></thead><tbody>\n")])?;
-    lay_out_rows(layout, rows, several)?;
-    layout.put(&[Node::Markup("</tbody></table>\n")])
+    lay_out_table(layout, rows, several)
 }

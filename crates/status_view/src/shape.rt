@@ -1,6 +1,6 @@
 ghost use Rattle.std.specs.Prelude.{◌≡◌, ◌++◌, OnOk, IfOk};
 ghost use Rattle.status_view.specs.Shapes.{shape_view};
-ghost use Rattle.status_view.specs.Page.{head_nodes, page_nodes};
+ghost use Rattle.status_view.specs.Page.{head_nodes, end_nodes, page_nodes};
 
 use crate::head_layout::{lay_out_alarms, lay_out_document, lay_out_title};
 use crate::layout::{EntryList, Layout, Node};
@@ -110,6 +110,17 @@ fn lay_out_head(layout: &mut Layout, shape: &PageShape) -> Result<(), AllocError
     lay_out_form(layout, shape)
 }
 
+/// Appends the end of a page of states.
+#[tactic(auto, unfolding(crate::specs::Page::end_nodes))]
+pub fn lay_out_end(layout: &mut Layout) -> Result<(), AllocError>
+    ensures { OnOk result (layout.new ≡ layout.old ++ end_nodes) }
+{
+    layout.put(&[
+        Node::Markup("</main><footer><a href=\"/status.json\">status.json</a> &middot; "),
+        Node::Markup("<a href=\"/metrics\">metrics</a></footer>\n</body></html>\n"),
+    ])
+}
+
 /// The page of a shape: its markup and its numbers, with a slot for each text. The only error is
 /// out of memory.
 pub fn lay_out(alloc: Global, shape: &PageShape) -> Result<Layout, AllocError>
@@ -124,9 +135,6 @@ pub fn lay_out(alloc: Global, shape: &PageShape) -> Result<Layout, AllocError>
         EntryList::Downtimes,
         shape.downtimes.as_slice(),
     )?;
-    layout.put(&[
-        Node::Markup("</main><footer><a href=\"/status.json\">status.json</a> &middot; "),
-        Node::Markup("<a href=\"/metrics\">metrics</a></footer>\n</body></html>\n"),
-    ])?;
+    lay_out_end(&mut layout)?;
     Ok(layout)
 }

@@ -6,7 +6,7 @@ pub returns : goal.returns
 unfolding page_nodes
 returns c =
     rw (
-      c.in_ok-put.ensures,
+      c.in_ok-lay_out_end.ensures,
       c.in_ok-lay_out_entries-2.ensures,
       c.in_ok-lay_out_entries.ensures,
       c.in_ok-lay_out_objects.ensures,

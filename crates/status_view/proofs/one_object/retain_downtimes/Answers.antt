@@ -1,0 +1,12 @@
+use Rattle.std.proofs.Common.{rules, map, ap, ◌∙◌}
+use Rattle.std.proofs.lemmas.Fn.{filter_same}
+use Rattle.status_merge.specs.Entries.{downtime_view}
+use Rattle.status_view.specs.OneObject.{is_downtime_of}
+use Rattle.status_view.proofs.FilterSteps.{map-filter}
+use Rattle.status_view.proofs.one_object.retain_downtimes.Goals as goal
+
+pub returns : goal.returns
+returns c =
+    ap (map downtime_view)
+    (filter_same _ (λ line. is_downtime_of c.args.asked.now (downtime_view line)) _ (λ x b g h. search rules) _ _ c.retain.ensures.filtered)
+    ∙ map-filter downtime_view (is_downtime_of c.args.asked.now) c.args.lines.now.items
