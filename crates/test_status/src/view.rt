@@ -1,13 +1,18 @@
 use status_memory::{GatewayChange, StateChange};
 use status_merge::{Gateway, Query, merge, read_query};
 use status_reading::{ReadFault, State, read_status_page};
-use status_view::{View, changes_feed, changes_page, html_page};
+use status_view::{
+    ObjectAsked, View, changes_feed, changes_page, html_page, object_link, object_page,
+    read_object_name,
+};
 use std::alloc::{AllocError, Global};
 use std::test::Fail;
 
 const PAGE: &[u8] = b"status 1795464900\n\
 object;web/1;;UP;1795464840;fresh;-;0;\n\
 object;web/1;HTTP;CRITICAL;1795464810;stale;sticky;1;a <b>\\x0a10s\n\
+comment;1;web/1;;user;0;1795464800;bob;of the host\n\
+comment;2;web/1;HTTP;ack;1;1795464850;ann;a&b\n\
 downtime;1;web/1;HTTP;fixed;0;1795464800;1795465000;0;1795464800;ann;x\n";
 
 const HTML: &[u8] = b"\
@@ -39,17 +44,18 @@ tion><option>unreachable</option><option>up</option><option>pending</option></se
 col\">State</th><th scope=\"col\">Object</th><th scope=\"col\">Marks</th><th scope=\"col\">S\
 ince</th><th scope=\"col\">Last result</th><th scope=\"col\">Output</th></tr></thead><tbody>\
 \n<tr class=\"up handled\"><td class=\"cell\"><span class=\"badge state\">UP</span></td><td \
-class=\"name\"><a href=\"/?host=web%2F1\"><bdi>web/1</bdi></a></td><td class=\"cell\"></td><\
-td class=\"num cell\" data-name=\"since\" title=\"2026-11-23 20:11:00Z\">4 min ago</td><td c\
-lass=\"num cell\" title=\"2026-11-23 20:14:00Z\">60 s ago</td><td class=\"out\"></td></tr>\n\
-<tr class=\"critical handled\"><td class=\"cell\"><span class=\"badge state\">CRITICAL</span\
-></td><td class=\"name\"><a href=\"/?host=web%2F1\"><bdi>web/1</bdi></a> <span class=\"soft\
-\">/</span> <bdi>HTTP</bdi></td><td class=\"cell\"><span class=\"badge stale\">stale</span> \
-<span class=\"badge\">acknowledged, sticky</span> <span class=\"badge\">downtime 1</span></t\
-d><td class=\"num cell\" data-name=\"since\" title=\"2026-11-23 20:15:00Z\">0 s ago</td><td \
-class=\"num cell\" title=\"2026-11-23 20:13:30Z\">90 s ago</td><td class=\"out\">a &lt;b&gt;\
-\n10s</td></tr>\n</tbody></table>\n</main><footer><a href=\"/status.json\">status.json</a> &\
-middot; <a href=\"/metrics\">metrics</a></footer>\n</body></html>\n";
+class=\"name\"><a href=\"/object?host=web%2F1&amp;service=\"><bdi>web/1</bdi></a></td><td cl\
+ass=\"cell\"></td><td class=\"num cell\" data-name=\"since\" title=\"2026-11-23 20:11:00Z\">\
+4 min ago</td><td class=\"num cell\" title=\"2026-11-23 20:14:00Z\">60 s ago</td><td class=\
+\"out\"></td></tr>\n<tr class=\"critical handled\"><td class=\"cell\"><span class=\"badge st\
+ate\">CRITICAL</span></td><td class=\"name\"><a href=\"/object?host=web%2F1&amp;service=HTTP\
+\"><bdi>web/1</bdi> <span class=\"soft\">/</span> <bdi>HTTP</bdi></a></td><td class=\"cell\"\
+><span class=\"badge stale\">stale</span> <span class=\"badge\">acknowledged, sticky</span> \
+<span class=\"badge\">downtime 1</span></td><td class=\"num cell\" data-name=\"since\" title\
+=\"2026-11-23 20:15:00Z\">0 s ago</td><td class=\"num cell\" title=\"2026-11-23 20:13:30Z\">\
+90 s ago</td><td class=\"out\">a &lt;b&gt;\n10s</td></tr>\n</tbody></table>\n</main><footer>\
+<a href=\"/status.json\">status.json</a> &middot; <a href=\"/metrics\">metrics</a></footer>\
+\n</body></html>\n";
 
 // The page for a browser of one gateway's page.
 fn shown(alloc: Global) -> Result<Vec<u8>, ReadFault> {
@@ -149,5 +155,93 @@ fn a_change_is_shown(rt: HostRuntime) -> Result<(), Fail> {
     assert_eq!(rt; page.as_slice(), CHANGES);
     let feed = changes_feed(rt.alloc(), &view)?.into_bytes();
     assert_eq!(rt; feed.as_slice(), FEED);
+    Ok(())
+}
+
+const OBJECT: &[u8] = b"\
+<!DOCTYPE html>\n<html lang=\"en\"><head><meta charset=\"utf-8\"><meta name=\"viewport\" con\
+tent=\"width=device-width,initial-scale=1\"><meta http-equiv=\"refresh\" content=\"30\"><lin\
+k rel=\"stylesheet\" href=\"/style.css\"><link rel=\"alternate\" type=\"application/atom+xml\
+\" href=\"/changes.atom\"><title>A&amp;B</title></head>\n<body><header><h1><a href=\"/\">A&a\
+mp;B</a></h1><nav aria-label=\"Pages\"><a href=\"/\">Status</a> <a href=\"/changes\">Changes\
+</a></nav><p><bdi>east</bdi> at <time datetime=\"2026-11-23 20:15:00Z\">2026-11-23 20:15:00Z\
+</time></p></header>\n<main>\n<table><caption><h2><bdi>web/1</bdi> <span class=\"soft\">/</s\
+pan> <bdi>HTTP</bdi></h2><a href=\"/?host=web%2F1\">objects of the host</a></caption>\n<thea\
+d><tr><th scope=\"col\">State</th><th scope=\"col\">Object</th><th scope=\"col\">Marks</th><\
+th scope=\"col\">Since</th><th scope=\"col\">Last result</th><th scope=\"col\">Output</th><t\
+h scope=\"col\">Gateway</th></tr></thead><tbody>\n<tr class=\"critical handled\"><td class=\
+\"cell\"><span class=\"badge state\">CRITICAL</span></td><td class=\"name\"><a href=\"/objec\
+t?host=web%2F1&amp;service=HTTP\"><bdi>web/1</bdi> <span class=\"soft\">/</span> <bdi>HTTP</\
+bdi></a></td><td class=\"cell\"><span class=\"badge stale\">stale</span> <span class=\"badge\
+\">acknowledged, sticky</span> <span class=\"badge\">downtime 1</span></td><td class=\"num c\
+ell\" data-name=\"since\" title=\"2026-11-23 20:15:00Z\">0 s ago</td><td class=\"num cell\" \
+title=\"2026-11-23 20:13:30Z\">90 s ago</td><td class=\"out\">a &lt;b&gt;\n10s</td><td class\
+=\"cell soft\" data-name=\"at\">east</td></tr>\n</tbody></table>\n<p>acknowledged by <bdi>an\
+n</bdi> at <time datetime=\"2026-11-23 20:14:10Z\">2026-11-23 20:14:10Z</time>: a&amp;b</p>\
+\n<table><caption><h2>Comments</h2></caption><thead><tr><th scope=\"col\">Object</th><th sco\
+pe=\"col\">Source</th><th scope=\"col\">Time</th><th scope=\"col\">Author</th><th scope=\"co\
+l\">Text</th><th scope=\"col\">Id</th></tr></thead><tbody>\n<tr><td class=\"name\"><bdi>web/\
+1</bdi> <span class=\"soft\">/</span> <bdi>HTTP</bdi></td><td class=\"cell\">ack, persistent\
+</td><td class=\"num cell\"><time datetime=\"2026-11-23 20:14:10Z\">2026-11-23 20:14:10Z</ti\
+me></td><td class=\"cell\" data-name=\"by\">ann</td><td class=\"out\">a&amp;b</td><td class=\
+\"cell soft\" data-name=\"id\">2 at <bdi>east</bdi></td></tr>\n</tbody></table>\n<table><cap\
+tion><h2>Downtime</h2></caption><thead><tr><th scope=\"col\">Object</th><th scope=\"col\">Ki\
+nd</th><th scope=\"col\">Window</th><th scope=\"col\">Began</th><th scope=\"col\">Author</th\
+><th scope=\"col\">Text</th><th scope=\"col\">Id</th></tr></thead><tbody>\n<tr><td class=\"n\
+ame\"><bdi>web/1</bdi> <span class=\"soft\">/</span> <bdi>HTTP</bdi></td><td class=\"cell\">\
+fixed</td><td class=\"cell\"><time datetime=\"2026-11-23 20:13:20Z\">2026-11-23 20:13:20Z</t\
+ime> to <time datetime=\"2026-11-23 20:16:40Z\">2026-11-23 20:16:40Z</time></td><td class=\"\
+num cell\" data-name=\"began\">100 s ago</td><td class=\"cell\" data-name=\"by\">ann</td><td \
+class=\"out\">x</td><td class=\"cell soft\" data-name=\"id\">1 at <bdi>east</bdi></td></tr>\
+\n</tbody></table>\n<table><caption><h2>Changes of states</h2>1 shown, the newest first: of \
+each gateway the last 1,000 since this program started</caption>\n<thead><tr><th scope=\"col\
+\">Time</th><th scope=\"col\">Object</th><th scope=\"col\">From</th><th scope=\"col\">To</th\
+><th scope=\"col\">Gateway</th></tr></thead><tbody>\n<tr class=\"critical\"><td class=\"num \
+cell\"><time datetime=\"2026-11-23 20:15:00Z\">2026-11-23 20:15:00Z</time></td><td class=\"n\
+ame\"><a href=\"/?host=web%2F1\"><bdi>web/1</bdi></a> <span class=\"soft\">/</span> <bdi>HTT\
+P</bdi></td><td class=\"cell\" data-name=\"from\">OK</td><td class=\"cell\"><span class=\"ba\
+dge state\">CRITICAL</span></td><td class=\"cell soft\" data-name=\"at\">east</td></tr>\n</t\
+body></table>\n</main><footer><a href=\"/status.json\">status.json</a> &middot; <a href=\"/m\
+etrics\">metrics</a></footer>\n</body></html>\n";
+
+// The page of a service that one gateway shows.
+fn object_shown(alloc: Global) -> Result<Vec<u8>, ReadFault> {
+    let gateways = [Gateway {
+        name: "east",
+        page: Ok(read_status_page(alloc, PAGE)?),
+        old: None,
+        most: 0,
+        since: &[1795464660],
+    }];
+    let change = change(alloc)?;
+    let asked = ObjectAsked {
+        title: "A&B",
+        clock: 1_795_464_900,
+        refresh: 30,
+        host: b"web/1",
+        service: b"HTTP",
+        gateways: &gateways,
+        changes: &[GatewayChange {
+            gateway: "east",
+            change: &change,
+        }],
+    };
+    Ok(object_page(alloc, &asked)?.into_bytes())
+}
+
+#[test]
+fn one_object_is_shown(rt: HostRuntime) -> Result<(), Fail> {
+    let page = object_shown(rt.alloc())?;
+    assert_eq!(rt; page.as_slice(), OBJECT);
+    Ok(())
+}
+
+#[test]
+fn a_link_names_an_object(rt: HostRuntime) -> Result<(), Fail> {
+    let link = object_link(rt.alloc(), b"web/1", b"a b&c")?;
+    assert_eq!(rt; link.as_str(), "/object?host=web%2F1&service=a+b%26c");
+    let name = read_object_name(rt.alloc(), "refresh=1&host=web%2F1&service=a+b%26c")?;
+    assert_eq!(rt; name.host.as_slice(), b"web/1".as_slice());
+    assert_eq!(rt; name.service.as_slice(), b"a b&c".as_slice());
     Ok(())
 }
