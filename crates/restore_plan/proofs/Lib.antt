@@ -4,3 +4,7 @@ pub mod TermSteps
 pub mod LogSteps
 pub mod PageSteps
 pub mod NumberSteps
+pub mod LiveSteps
+pub mod AcceptSteps
+pub mod PlainSteps
+pub mod PlainRows

@@ -58,12 +58,23 @@ end_since plan begin = if plan.fixed then plan.ends else record { 0 = min (begin
 
 -- from this beginning to the entry's end, as fixed downtime
 abbrev pub since : Plan → ℕ → Terms
-since plan begin = record { starts = record { 0 = begin }; ends = end_since plan begin; fixed = 1; trigger = 0 }
+since plan begin = record {
+  starts = record { 0 = begin };
+  ends = end_since plan begin;
+  fixed = 1;
+  trigger = 0;
+  lasts = plan.lasts;
+}
 
 -- as it was planned, with this trigger
 abbrev pub as_planned : Plan → ℕ → Terms
-as_planned plan trigger =
-    record { starts = plan.starts; ends = plan.ends; fixed = if plan.fixed then 1 else 0; trigger = trigger }
+as_planned plan trigger = record {
+  starts = plan.starts;
+  ends = plan.ends;
+  fixed = if plan.fixed then 1 else 0;
+  trigger = trigger;
+  lasts = plan.lasts;
+}
 
 -- as it was planned, with the new id of its trigger, where it has one
 abbrev pub unbegun_terms : Option ℕ → Plan → Option Terms
@@ -76,9 +87,13 @@ terms_of now trigger plan begin =
     if not (is_begun_by now.0 begin) || is_plain plan then unbegun_terms trigger plan
     else option_map (since plan) begin
 
--- the window is empty, or over by this moment
+-- a flexible entry of no duration that waits for a trigger: it is over as soon as it begins
+abbrev pub is_momentary : Terms → Bool
+is_momentary terms = not (terms.trigger == 0) && not (terms.fixed == 1) && (terms.lasts == 0)
+
+-- the window is empty, or over by this moment, or the entry is as soon as it begins
 abbrev pub is_over : Moment → Terms → Bool
-is_over until terms = nat_le terms.ends.0 (max terms.starts.0 until.0)
+is_over until terms = nat_le terms.ends.0 (max terms.starts.0 until.0) || is_momentary terms
 
 -- the terms, unless their window is over by then
 abbrev pub terms_until : Moment → Option Terms → Result Terms Cause
@@ -135,15 +150,15 @@ renewals_of fresh kept until =
 -- ---- fates
 
 -- downtime for the object of this line on these terms
-abbrev pub schedule : ObjectLine → Terms → ℕ → List ℕ → List ℕ → Body
-schedule line terms lasts author text =
-    Schedule line.host line.service terms.starts terms.ends terms.fixed terms.trigger lasts author text
+abbrev pub schedule : ObjectLine → Terms → List ℕ → List ℕ → Body
+schedule line terms author text =
+    Schedule line.host line.service terms.starts terms.ends terms.fixed terms.trigger terms.lasts author text
 
 -- the fate of an entry of the object of this line, by its terms: one that isn't scheduled again is named as it was planned
 abbrev pub fate_on : ObjectLine → Plan → Result Terms Cause → List ℕ → List ℕ → Fate
-fate_on line plan (Ok terms) author text = Sent (schedule line terms plan.lasts author text)
+fate_on line plan (Ok terms) author text = Sent (schedule line terms author text)
 fate_on line plan (Err cause) author text =
-    Left cause (schedule line (as_planned plan plan.trigger) plan.lasts author text)
+    Left cause (schedule line (as_planned plan plan.trigger) author text)
 
 -- the fate of an entry of the object of this line, by the command that scheduled it
 abbrev pub fate_by : ObjectLine → Plan → Result Terms Cause → Body → Option Fate

@@ -5,3 +5,4 @@ pub mod Rehearsal
 pub mod PagePlan
 pub mod Changed
 pub mod Scheduling
+pub mod Acceptance

@@ -1,7 +1,7 @@
 //! The fates of downtime entries.
 
 ghost use Rattle.std.specs.Prelude.{◌≡◌, ◌++◌, filter_map, IfOk, OnOk};
-ghost use Rattle.restore_plan.specs.Entries.{is_known, id_at, index_of, new_id, is_plain, since, as_planned, unbegun_terms, terms_of, is_over, terms_until, renewed_terms, with_id, is_schedule, can_be_sent, live_terms, renewals_of, fate_on, fate_by, entry_fate};
+ghost use Rattle.restore_plan.specs.Entries.{is_known, id_at, index_of, new_id, is_plain, since, as_planned, unbegun_terms, terms_of, is_momentary, is_over, terms_until, renewed_terms, with_id, is_schedule, can_be_sent, live_terms, renewals_of, fate_on, fate_by, entry_fate};
 
 use crate::fates::{Cause, Fate, copied, copied_service, object_of};
 use gate_applier::{Applier, LiveDowntime};
@@ -15,6 +15,8 @@ pub struct Terms {
     pub ends: Moment,
     pub fixed: u32,
     pub trigger: u32,
+    /// The seconds of a flexible entry.
+    pub lasts: u32,
 }
 
 /// A live entry of a kept gateway.
@@ -90,6 +92,7 @@ fn since(plan: Plan, begin: u32) -> Terms
         ends,
         fixed: 1,
         trigger: 0,
+        lasts: plan.lasts,
     }
 }
 
@@ -102,6 +105,7 @@ fn as_planned(plan: Plan, trigger: u32) -> Terms
         ends: plan.ends,
         fixed: if plan.fixed { 1 } else { 0 },
         trigger,
+        lasts: plan.lasts,
     }
 }
 
@@ -128,11 +132,18 @@ fn terms_of(now: Moment, trigger: Option<u32>, plan: Plan, begin: Option<u32>) -
     Some(since(plan, begin))
 }
 
-/// Whether the window is empty, or over by this moment.
+/// Whether a flexible entry of no duration waits for a trigger: it is over as soon as it begins.
+fn is_momentary(terms: Terms) -> bool
+    ensures { result ≡ is_momentary terms }
+{
+    terms.trigger != 0 && terms.fixed != 1 && terms.lasts == 0
+}
+
+/// Whether the window is empty, or over by this moment, or the entry as soon as it begins.
 fn is_over(until: Moment, terms: Terms) -> bool
     ensures { result ≡ is_over until terms }
 {
-    terms.ends.0 <= terms.starts.0.max(until.0)
+    terms.ends.0 <= terms.starts.0.max(until.0) || is_momentary(terms)
 }
 
 /// The terms, unless their window is over by then.
@@ -256,13 +267,12 @@ fn schedule(
     alloc: Global,
     line: &ObjectLine,
     terms: Terms,
-    lasts: u32,
     author: &Text,
     text: &Text,
 ) -> Result<Body, AllocError>
     ensures { IfOk result (λ body. body
         ≡ Body.Schedule line.now.host line.now.service terms.starts terms.ends terms.fixed
-        terms.trigger lasts author.now text.now) }
+        terms.trigger terms.lasts author.now text.now) }
 {
     Ok(Body::Schedule {
         host: copied(alloc, &line.host)?,
@@ -271,7 +281,7 @@ fn schedule(
         ends: terms.ends,
         fixed: terms.fixed,
         trigger: terms.trigger,
-        lasts,
+        lasts: terms.lasts,
         author: copied(alloc, author)?,
         text: copied(alloc, text)?,
     })
@@ -289,10 +299,10 @@ pub fn fate_on(
     ensures { IfOk result (λ fate. fate ≡ fate_on line.now plan terms author.now text.now) }
 {
     match terms {
-        Ok(terms) => Ok(Fate::Sent(schedule(alloc, line, terms, plan.lasts, author, text)?)),
+        Ok(terms) => Ok(Fate::Sent(schedule(alloc, line, terms, author, text)?)),
         Err(cause) => {
             let terms = as_planned(plan, plan.trigger);
-            let body = schedule(alloc, line, terms, plan.lasts, author, text)?;
+            let body = schedule(alloc, line, terms, author, text)?;
             Ok(Fate::Left(cause, body))
         }
     }

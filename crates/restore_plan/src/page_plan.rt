@@ -2,6 +2,9 @@
 
 ghost use Rattle.std.specs.Prelude.{◌≡◌, ◌++◌, ◌<◌, ◌≤◌, length, take, drop, map, filter_map, IfOk, IfSome, OnOk};
 ghost use Rattle.status_reading.specs.Plain.{plain_bytes};
+ghost use Rattle.gate_model.specs.Table.{IsFaultless};
+ghost use Rattle.restore_plan.specs.Acceptance.{AcceptsOthers};
+ghost use Rattle.restore_plan.specs.Plan.{commands_of};
 ghost use Rattle.restore_plan.specs.Scheduling.{sent_terms, AreSchedulable};
 ghost use Rattle.restore_plan.specs.PagePlan.{plain_service, object_of_fields, code_of, object_fate, object_fates, has_no_result, mark_in, mark_of, is_of_acknowledgement, has_acknowledgement, mark_by, number, comment_body, fate_at, comment_row_fate, plan_of_row, row_terms, row_renewals_of, line_of_row, row_fate, is_entry_of, entry_index, is_of_downtime, taken_by, own_fates, others_among, page_others};
 
@@ -518,9 +521,12 @@ pub fn plan_of_page(
     // entry that is sent before it.
     ensures schedulable { IfOk result (λ plan.
         AreSchedulable until 0 (filter_map sent_terms plan.others.items)) }
+
+    // At that moment, and one after another, none of it is refused but maybe an acknowledgement.
+    ensures accepted { IfOk result (λ plan. IsFaultless fresh.now
+        → AcceptsOthers fresh.now until (commands_of plan)) }
 {
-    Ok(Plan {
-        results: object_fates(alloc, fresh, now, page.objects.as_slice())?,
-        others: others_on(alloc, fresh, now, until, page)?,
-    })
+    let results = object_fates(alloc, fresh, now, page.objects.as_slice())?;
+    let others = others_on(alloc, fresh, now, until, page)?;
+    Ok(Plan { results, others })
 }

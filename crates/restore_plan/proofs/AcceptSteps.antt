@@ -1,0 +1,371 @@
+-- A gateway that applies such commands at one moment accepts each that is no acknowledgement.
+use Rattle.std.proofs.Common.{◌≡◌, ℕ, ℤ, ◌+◌, ◌<◌, ◌≤◌, Bool, true, false, List, [], ◌∷◌, ◌++◌, length, reverse, max, refl, sym, ap, ◌∙◌, subst, arith, append_assoc}
+use Rattle.std.specs.Prelude.{not, ◌&&◌, ◌||◌, ◌==◌, nat_lt, nat_le, Option, Some, None, is_some, option_map, if◌then◌else◌}
+use Rattle.std.specs.Option.{option_to_list}
+use Rattle.std.proofs.lemmas.Bool.{or_parts, leb-false}
+use Rattle.std.proofs.lemmas.List.{reverse-append, append-nil}
+use Rattle.gate_model.specs.declared.record.Moment.{Moment}
+use Rattle.gate_model.specs.declared.record.Record.{Record}
+use Rattle.gate_model.specs.declared.record.Outcome.{Outcome}
+use Rattle.gate_model.specs.declared.record.Outcome.TheVariants.{Accepted, NoSuchHost, PassiveDisabled, BadWindow, WindowPast, NoSuchTrigger}
+use Rattle.gate_model.specs.declared.object.ObjectLine.{ObjectLine}
+use Rattle.gate_model.specs.declared.object.ObjectId.{ObjectId}
+use Rattle.gate_model.specs.declared.downtime.DowntimeEvent.{DowntimeEvent}
+use Rattle.gate_model.specs.declared.downtime.DowntimeEvent.TheVariants as downtime
+use Rattle.gate_model.specs.declared.status.ObjectEvent.{ObjectEvent}
+use Rattle.gate_model.specs.declared.status.ObjectEvent.TheVariants as object
+use Rattle.gate_model.specs.declared.state.State.{State}
+use Rattle.gate_model.specs.declared.submission.Body.{Body}
+use Rattle.gate_model.specs.declared.submission.Body.TheVariants as bodies
+use Rattle.gate_model.specs.Record.{is_accepted}
+use Rattle.gate_model.specs.Status.{is_passive, is_transition}
+use Rattle.gate_model.specs.State.{state_of_code}
+use Rattle.gate_model.specs.Table.{IsFaultless, place_of, object_kind, object_at}
+use Rattle.gate_model.specs.Downtime.{scheduled_in}
+use Rattle.gate_model.specs.Meaning.{Judged, object_event, object_events, transition_by, plan_of, downtime_events_of_body, downtime_events, is_live_after, outcome_at_place, outcome_for, outcome_of_window, outcome_at, judgement_of, judged}
+use Rattle.gate_model.proofs.Hosts.{has_object-host}
+use Rattle.restore_plan.specs.declared.entries.Terms.{Terms}
+use Rattle.restore_plan.specs.Entries.{is_over, is_momentary}
+use Rattle.restore_plan.specs.Rehearsal.{records_from}
+use Rattle.restore_plan.specs.Acceptance.{is_acknowledgement, AcceptsOthers}
+use Rattle.restore_plan.proofs.LiveSteps.{AreTimely, all_live}
+
+-- ---- such commands
+
+abbrev pub IsKnown : List ObjectLine → List ℕ → Option (List ℕ) → Type 0
+IsKnown fresh host service = is_some (place_of fresh host service) ≡ true
+
+-- commands of which each can be accepted after those before it, which scheduled so many entries; results come first
+unfoldable pub IsApt : List ObjectLine → Moment → Bool → ℕ → List Body → Type 0
+IsApt fresh now others count [] = Unit {0}
+IsApt fresh now others count (bodies.Result host service code output ∷ rest) =
+    (others ≡ false) × IsKnown fresh host service × IsApt fresh now false count rest
+IsApt fresh now others count (bodies.AddComment host service persistent author text ∷ rest) =
+    IsKnown fresh host service × IsApt fresh now true count rest
+IsApt fresh now others count (bodies.DelComment kind id ∷ rest) = ⊥
+IsApt fresh now others count (bodies.DelAllComments host service ∷ rest) = ⊥
+IsApt fresh now others count (bodies.Acknowledge host service sticky notify persistent author text ∷ rest) =
+    IsApt fresh now true count rest
+IsApt fresh now others count (bodies.RemoveAck host service ∷ rest) = ⊥
+IsApt fresh now others count (bodies.Schedule host service starts ends fixed trigger lasts author text ∷ rest) =
+    IsKnown fresh host service
+    × (is_over now (record { starts = starts; ends = ends; fixed = fixed; trigger = trigger; lasts = lasts }) ≡ false)
+    × (trigger ≤ count)
+    × IsApt fresh now true (count + 1) rest
+IsApt fresh now others count (bodies.DelDowntime kind id ∷ rest) = ⊥
+IsApt fresh now others count (bodies.Passive host service on ∷ rest) =
+    IsKnown fresh host service × IsApt fresh now true count rest
+IsApt fresh now others count (bodies.ScheduleServices host starts ends fixed trigger lasts author text ∷ rest) = ⊥
+IsApt fresh now others count (bodies.Shutdown ∷ rest) = ⊥
+
+-- what is known after such commands: so many entries are scheduled, and no setting is made before the others begin
+record IsAfter (fresh : List ObjectLine) (now : Moment) (others : Bool) (count : ℕ) (before : List Judged) : Type 0 where
+  timely : AreTimely now (downtime_events fresh before)
+  counted : length (scheduled_in 1 (downtime_events fresh before)) ≡ count
+  none : others ≡ false → count ≡ 0
+  enabled : others ≡ false → (place : ℕ) → is_passive place (object_events fresh before) ≡ true
+
+-- ---- outcomes
+
+accepted_for : (fresh : List ObjectLine) (host : List ℕ) (service : Option (List ℕ)) (judge : ℕ → Outcome) → IsFaultless fresh
+    → IsKnown fresh host service → ((place : ℕ) → is_accepted (judge place) ≡ true)
+    → is_accepted (outcome_for fresh host service judge) ≡ true
+accepted_for fresh host service judge good known each = found (place_of fresh host service) refl known
+  where
+    found : (place : Option ℕ) → place_of fresh host service ≡ place → is_some place ≡ true
+        → is_accepted (outcome_for fresh host service judge) ≡ true
+    found None is some = absurd cc
+    found (Some place) is some =
+        ap (λ (has : Bool). is_accepted (if has then outcome_at_place judge (place_of fresh host service) else NoSuchHost))
+        (has_object-host fresh host service place good is)
+        ∙ ap (λ at. is_accepted (outcome_at_place judge at)) is
+        ∙ each place
+
+-- a window that isn't over, and whose trigger is live
+record IsOpen (now starts ends : Moment) (fixed trigger lasts : ℕ) : Type 0 where
+  starts_first : starts.0 < ends.0
+  later : now.0 < ends.0
+  duration : ((trigger == 0) || (fixed == 1) || nat_lt 0 lasts) ≡ true
+
+lasting : (untriggered fixed : Bool) (lasts : ℕ) → (not untriggered && not fixed && (lasts == 0)) ≡ false
+    → (untriggered || fixed || nat_lt 0 lasts) ≡ true
+lasting true fixed lasts is = refl
+lasting false true lasts is = refl
+lasting false false lasts is = grind arith
+
+opens : (now starts ends : Moment) (fixed trigger lasts : ℕ)
+    → is_over now (record { starts = starts; ends = ends; fixed = fixed; trigger = trigger; lasts = lasts }) ≡ false
+    → IsOpen now starts ends fixed trigger lasts
+opens now starts ends fixed trigger lasts is =
+    let terms : Terms = record { starts = starts; ends = ends; fixed = fixed; trigger = trigger; lasts = lasts } in
+    let parts = or_parts (nat_le ends.0 (max starts.0 now.0)) (is_momentary terms) is in
+    let high : max starts.0 now.0 < ends.0 = leb-false ends.0 (max starts.0 now.0) parts.0 in
+    record {
+      starts_first = omega arith;
+      later = omega arith;
+      duration = lasting (trigger == 0) (fixed == 1) lasts parts.1;
+    }
+
+in_window : (late past good : Bool) → late ≡ false → past ≡ false → good ≡ true
+    → is_accepted (if late then BadWindow else (if past then WindowPast else (if good then Accepted else NoSuchTrigger))) ≡ true
+in_window true past good late_is past_is good_is = absurd cc
+in_window false true good late_is past_is good_is = absurd cc
+in_window false false true late_is past_is good_is = refl
+in_window false false false late_is past_is good_is = absurd cc
+
+triggered : (live : ℕ → Bool) (trigger : ℕ) (zero : Bool) → (trigger == 0) ≡ zero → (1 ≤ trigger → live trigger ≡ true)
+    → ((trigger == 0) || live trigger) ≡ true
+triggered live trigger true is low = ap (λ (zero : Bool). zero || live trigger) is
+triggered live trigger false is low =
+    let some : 1 ≤ trigger = grind arith in
+    ap (λ (zero : Bool). zero || live trigger) is ∙ low some
+
+schedules : (live : ℕ → Bool) (now starts ends : Moment) (fixed trigger lasts : ℕ) → IsOpen now starts ends fixed trigger lasts
+    → (1 ≤ trigger → live trigger ≡ true) → is_accepted (outcome_of_window live now starts ends trigger) ≡ true
+schedules live now starts ends fixed trigger lasts window low =
+    let late : nat_le ends.0 starts.0 ≡ false = grind (arith, window.starts_first) in
+    let past : nat_le ends.0 now.0 ≡ false = grind (arith, window.later) in
+    in_window (nat_le ends.0 starts.0) (nat_le ends.0 now.0) ((trigger == 0) || live trigger) late past
+    (triggered live trigger (trigger == 0) refl low)
+
+-- the outcome of the next command
+one : (fresh : List ObjectLine) (now : Moment) (others : Bool) (count : ℕ) (before : List Judged) (body : Body) (rest : List Body)
+    → IsFaultless fresh → IsAfter fresh now others count before → IsApt fresh now others count (body ∷ rest)
+    → is_acknowledgement body ≡ false → is_accepted (outcome_at fresh before now body) ≡ true
+unfolding IsApt
+one fresh now others count before (bodies.Result host service code output) rest good after apt is =
+    accepted_for fresh host service (λ place. if is_passive place (object_events fresh before) then Accepted else PassiveDisabled)
+    good apt.1
+    (λ place. ap (λ (on : Bool). is_accepted (if on then Accepted else PassiveDisabled)) (after.enabled apt.0 place))
+one fresh now others count before (bodies.AddComment host service persistent author text) rest good after apt is =
+    accepted_for fresh host service (λ place. Accepted) good apt.0 (λ place. refl)
+one fresh now others count before (bodies.DelComment kind id) rest good after apt is = absurd apt
+one fresh now others count before (bodies.DelAllComments host service) rest good after apt is = absurd apt
+one fresh now others count before (bodies.Acknowledge host service sticky notify persistent author text) rest good after apt is =
+    absurd cc
+one fresh now others count before (bodies.RemoveAck host service) rest good after apt is = absurd apt
+one fresh now others count before (bodies.Schedule host service starts ends fixed trigger lasts author text) rest good after apt is =
+    let live = is_live_after fresh before now in
+    accepted_for fresh host service (λ place. outcome_of_window live now starts ends trigger) good apt.0
+    (λ place. schedules live now starts ends fixed trigger lasts (opens now starts ends fixed trigger lasts apt.1) (
+    λ low. all_live now (downtime_events fresh before) after.timely trigger low (omega (arith, after.counted, apt.2))
+    ))
+one fresh now others count before (bodies.DelDowntime kind id) rest good after apt is = absurd apt
+one fresh now others count before (bodies.Passive host service on) rest good after apt is =
+    accepted_for fresh host service (λ place. Accepted) good apt.0 (λ place. refl)
+one fresh now others count before (bodies.ScheduleServices host starts ends fixed trigger lasts author text) rest good after apt is =
+    absurd apt
+one fresh now others count before bodies.Shutdown rest good after apt is = absurd apt
+
+-- ---- what is known after one more
+
+-- a record of these, applied at this moment
+abbrev applied : Moment → ℕ → Body → Record
+applied now number body = record { moment = now; item = record { client = 1; number = number; body = body } }
+
+-- such a record changes no entry
+quiet : (accepted : Bool) (events : List DowntimeEvent) → events ≡ [] → (if accepted then events else []) ≡ []
+quiet true events is = is
+quiet false events is = refl
+
+unchanged : (fresh : List ObjectLine) (now : Moment) (others : Bool) (count : ℕ) (before : List Judged) (judgement : Judged)
+    → downtime_events fresh (judgement ∷ before) ≡ downtime_events fresh before → IsAfter fresh now others count before
+    → IsAfter fresh now true count (judgement ∷ before)
+unchanged fresh now others count before judgement is after = record {
+  timely = subst (AreTimely now) (sym is) after.timely;
+  counted = ap (λ events. length (scheduled_in 1 events)) is ∙ after.counted;
+  none = λ not_yet. absurd cc;
+  enabled = λ not_yet. absurd cc;
+}
+
+transition_in : (now : Moment) (old : List DowntimeEvent) (test : Bool) (moment : Moment) (place : ℕ)
+    → AreTimely now old → length (scheduled_in 1 old) ≡ 0
+    → AreTimely now (option_to_list (if test then Some (downtime.Transition moment place) else None) ++ old)
+unfolding AreTimely
+transition_in now old true moment place timely none = (none, timely)
+transition_in now old false moment place timely none = timely
+
+transition_count : (old : List DowntimeEvent) (test : Bool) (moment : Moment) (place : ℕ)
+    → length (scheduled_in 1 (option_to_list (if test then Some (downtime.Transition moment place) else None) ++ old))
+    ≡ length (scheduled_in 1 old)
+transition_count old true moment place = refl
+transition_count old false moment place = refl
+
+-- a result may be a transition
+record AreStill (now : Moment) (old events : List DowntimeEvent) : Type 0 where
+  timely : AreTimely now (events ++ old)
+  counted : length (scheduled_in 1 (events ++ old)) ≡ length (scheduled_in 1 old)
+
+still_none : (now : Moment) (old : List DowntimeEvent) → AreTimely now old → AreStill now old []
+still_none now old timely = record { timely = timely; counted = refl }
+
+result_events : (now : Moment) (old : List DowntimeEvent) (before : List ObjectEvent) (state : State) (moment : Moment) (index : ℕ) (place : Option ℕ)
+    → AreTimely now old → length (scheduled_in 1 old) ≡ 0
+    → AreStill now old (option_to_list (transition_by before (option_map (λ at. object.Result at state moment index) place)))
+result_events now old before state moment index None timely none = still_none now old timely
+result_events now old before state moment index (Some at) timely none =
+    let test = is_transition at (object.Result at state moment index) before in
+    record {
+      timely = transition_in now old test moment at timely none;
+      counted = transition_count old test moment at;
+    }
+
+if_still : (now : Moment) (old events : List DowntimeEvent) (accepted : Bool) → AreTimely now old → AreStill now old events
+    → AreStill now old (if accepted then events else [])
+if_still now old events true timely still = still
+if_still now old events false timely still = still_none now old timely
+
+still_passive : (place : ℕ) (history : List ObjectEvent) (accepted : Bool) (state : State) (moment : Moment) (index : ℕ) (at : Option ℕ)
+    → is_passive place history ≡ true
+    → is_passive place (option_to_list (if accepted then option_map (λ found. object.Result found state moment index) at else None) ++ history) ≡ true
+still_passive place history true state moment index None on = on
+still_passive place history true state moment index (Some found) on = on
+still_passive place history false state moment index at on = on
+
+more_events : (fresh : List ObjectLine) (judgement : Judged) (before : List Judged) (found : Option ObjectEvent)
+    → object_event fresh judgement ≡ found → object_events fresh (judgement ∷ before) ≡ option_to_list found ++ object_events fresh before
+more_events fresh judgement before None is = rw is
+more_events fresh judgement before (Some event) is = rw is
+
+after_result : (fresh : List ObjectLine) (now : Moment) (count number : ℕ) (before : List Judged) (host : List ℕ) (service : Option (List ℕ)) (code : ℤ) (output : List ℕ)
+    → IsAfter fresh now false count before
+    → IsAfter fresh now false count (judgement_of fresh before (applied now number (bodies.Result host service code output)) ∷ before)
+after_result fresh now count number before host service code output after =
+    let body : Body = bodies.Result host service code output in
+    let old = downtime_events fresh before in
+    let judgement = judgement_of fresh before (applied now number body) in
+    let accepted = is_accepted judgement.outcome in
+    let zero : length (scheduled_in 1 old) ≡ 0 = after.counted ∙ after.none refl in
+    let still = if_still now old (downtime_events_of_body fresh (object_events fresh before) now (length before) body) accepted after.timely (
+    result_events now old (object_events fresh before) (state_of_code (object_kind service) code) now (length before) (place_of fresh host service) after.timely zero
+    ) in
+    record {
+      timely = still.timely;
+      counted = still.counted ∙ after.counted;
+      none = after.none;
+      enabled = λ not_yet place.
+          ap (is_passive place) (more_events fresh judgement before (object_event fresh judgement) refl)
+          ∙ still_passive place (object_events fresh before) accepted (state_of_code (object_kind service) code) now (length before)
+          (place_of fresh host service) (after.enabled refl place);
+    }
+
+-- an accepted command schedules its entry
+one_more : (fresh : List ObjectLine) (now : Moment) (others : Bool) (count number : ℕ) (before : List Judged) (host : List ℕ) (service : Option (List ℕ)) (starts ends : Moment) (fixed trigger lasts : ℕ) (author text : List ℕ) (rest : List Body)
+    → IsFaultless fresh → IsAfter fresh now others count before
+    → IsApt fresh now others count (bodies.Schedule host service starts ends fixed trigger lasts author text ∷ rest)
+    → IsAfter fresh now true (count + 1) (
+    judgement_of fresh before (applied now number (bodies.Schedule host service starts ends fixed trigger lasts author text)) ∷ before
+    )
+unfolding IsApt AreTimely
+one_more fresh now others count number before host service starts ends fixed trigger lasts author text rest good after apt =
+    scheduled (place_of fresh host service) refl apt.0
+  where
+    body : Body
+    body = bodies.Schedule host service starts ends fixed trigger lasts author text
+
+    judgement : Judged
+    judgement = judgement_of fresh before (applied now number body)
+
+    old : List DowntimeEvent
+    old = downtime_events fresh before
+
+    window : IsOpen now starts ends fixed trigger lasts
+    window = opens now starts ends fixed trigger lasts apt.1
+
+    added : (found : ObjectId) → downtime_events fresh (judgement ∷ before)
+        ≡ downtime.Schedule now found (plan_of starts ends fixed trigger lasts (length before)) ∷ old
+        → IsAfter fresh now true (count + 1) (judgement ∷ before)
+    added found is =
+        let timely : AreTimely now (downtime.Schedule now found (plan_of starts ends fixed trigger lasts (length before)) ∷ old) =
+        (refl, window.later, omega (arith, apt.2, after.counted), window.duration, after.timely) in
+        record {
+          timely = subst (AreTimely now) (sym is) timely;
+          counted = ap (λ events. length (scheduled_in 1 events)) is ∙ omega (arith, after.counted);
+          none = λ not_yet. absurd cc;
+          enabled = λ not_yet. absurd cc;
+        }
+
+    scheduled : (place : Option ℕ) → place_of fresh host service ≡ place → is_some place ≡ true
+        → IsAfter fresh now true (count + 1) (judgement ∷ before)
+    scheduled None is some = absurd cc
+    scheduled (Some place) is some =
+        let found = object_at (object_kind service) place in
+        let plan = plan_of starts ends fixed trigger lasts (length before) in
+        added found (
+        ap (λ (accepted : Bool). (if accepted then downtime_events_of_body fresh (object_events fresh before) now (length before) body else []) ++ old)
+        (one fresh now others count before body rest good after apt refl)
+        ∙ ap (λ at. option_to_list (option_map (λ one. downtime.Schedule now one plan) (option_map (object_at (object_kind service)) at)) ++ old) is
+        )
+
+-- ---- all commands
+
+-- the records of these commands, newest first, after such records
+history : Moment → ℕ → List Record → List Body → List Record
+history now number newer [] = newer
+history now number newer (body ∷ rest) = history now (number + 1) (applied now number body ∷ newer) rest
+
+reversed : (now : Moment) (number : ℕ) (newer : List Record) (commands : List Body)
+    → reverse (records_from now number commands) ++ newer ≡ history now number newer commands
+unfolding history
+reversed now number newer [] = refl
+reversed now number newer (body ∷ rest) =
+    let record_now = applied now number body in
+    let records = records_from now (number + 1) rest in
+    ap (λ front. front ++ newer) (reverse-append (record_now ∷ []) records)
+    ∙ append_assoc (reverse records) (record_now ∷ []) newer
+    ∙ reversed now (number + 1) (record_now ∷ newer) rest
+
+all : (fresh : List ObjectLine) (now : Moment) (others : Bool) (count number : ℕ) (newer : List Record) (before : List Body) (body : Body) (rest : List Body)
+    → IsFaultless fresh → IsAfter fresh now others count (judged fresh newer) → IsApt fresh now others count (before ++ body ∷ rest)
+    → is_acknowledgement body ≡ false
+    → is_accepted (outcome_at fresh (judged fresh (history now number newer before)) now body) ≡ true
+unfolding IsApt history
+all fresh now others count number newer [] body rest good after apt is =
+    one fresh now others count (judged fresh newer) body rest good after apt is
+all fresh now others count number newer (bodies.Result host service code output ∷ before) body rest good after apt is =
+    let first : Body = bodies.Result host service code output in
+    let results : IsAfter fresh now false count (judged fresh newer) =
+    subst (λ begun. IsAfter fresh now begun count (judged fresh newer)) apt.0 after in
+    all fresh now false count (number + 1) (applied now number first ∷ newer) before body rest good
+    (after_result fresh now count number (judged fresh newer) host service code output results) apt.2 is
+all fresh now others count number newer (bodies.AddComment host service persistent author text ∷ before) body rest good after apt is =
+    let first : Body = bodies.AddComment host service persistent author text in
+    all fresh now true count (number + 1) (applied now number first ∷ newer) before body rest good
+    (unchanged fresh now others count (judged fresh newer) (judgement_of fresh (judged fresh newer) (applied now number first)) (
+    ap (λ none. none ++ downtime_events fresh (judged fresh newer)) (quiet (is_accepted (outcome_at fresh (judged fresh newer) now first)) [] refl)
+    ) after) apt.1 is
+all fresh now others count number newer (bodies.DelComment kind id ∷ before) body rest good after apt is = absurd apt
+all fresh now others count number newer (bodies.DelAllComments host service ∷ before) body rest good after apt is = absurd apt
+all fresh now others count number newer (bodies.Acknowledge host service sticky notify persistent author text ∷ before) body rest good after apt is =
+    let first : Body = bodies.Acknowledge host service sticky notify persistent author text in
+    all fresh now true count (number + 1) (applied now number first ∷ newer) before body rest good
+    (unchanged fresh now others count (judged fresh newer) (judgement_of fresh (judged fresh newer) (applied now number first)) (
+    ap (λ none. none ++ downtime_events fresh (judged fresh newer)) (quiet (is_accepted (outcome_at fresh (judged fresh newer) now first)) [] refl)
+    ) after) apt is
+all fresh now others count number newer (bodies.RemoveAck host service ∷ before) body rest good after apt is = absurd apt
+all fresh now others count number newer (bodies.Schedule host service starts ends fixed trigger lasts author text ∷ before) body rest good after apt is =
+    let first : Body = bodies.Schedule host service starts ends fixed trigger lasts author text in
+    all fresh now true (count + 1) (number + 1) (applied now number first ∷ newer) before body rest good
+    (one_more fresh now others count number (judged fresh newer) host service starts ends fixed trigger lasts author text (before ++ body ∷ rest) good after apt)
+    apt.3 is
+all fresh now others count number newer (bodies.DelDowntime kind id ∷ before) body rest good after apt is = absurd apt
+all fresh now others count number newer (bodies.Passive host service on ∷ before) body rest good after apt is =
+    let first : Body = bodies.Passive host service on in
+    all fresh now true count (number + 1) (applied now number first ∷ newer) before body rest good
+    (unchanged fresh now others count (judged fresh newer) (judgement_of fresh (judged fresh newer) (applied now number first)) (
+    ap (λ none. none ++ downtime_events fresh (judged fresh newer)) (quiet (is_accepted (outcome_at fresh (judged fresh newer) now first)) [] refl)
+    ) after) apt.1 is
+all fresh now others count number newer (bodies.ScheduleServices host starts ends fixed trigger lasts author text ∷ before) body rest good after apt is =
+    absurd apt
+all fresh now others count number newer (bodies.Shutdown ∷ before) body rest good after apt is = absurd apt
+
+pub accepts_others : (fresh : List ObjectLine) (now : Moment) (commands : List Body) → IsFaultless fresh
+    → IsApt fresh now false 0 commands → AcceptsOthers fresh now commands
+unfolding AreTimely
+accepts_others fresh now commands good apt before body after whole is =
+    let begun : IsAfter fresh now false 0 (judged fresh []) =
+    record { timely = tt; counted = refl; none = λ not_yet. refl; enabled = λ not_yet place. refl } in
+    let records : reverse (records_from now 1 before) ≡ history now 1 [] before =
+    sym (append-nil (reverse (records_from now 1 before))) ∙ reversed now 1 [] before in
+    ap (λ (newest : List Record). is_accepted (outcome_at fresh (judged fresh newest) now body)) records
+    ∙ all fresh now false 0 1 [] before body after good begun (subst (IsApt fresh now false 0) whole apt) is
