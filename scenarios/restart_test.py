@@ -51,23 +51,27 @@ program = ctl = folder = ""
 
 
 class Logged(Daemon):
-    """A daemon that prints to the file `log`, as the unit has it."""
+    """A daemon that prints to the file `log`, after what earlier runs printed, as the unit has it."""
 
     def __init__(self, configuration):
         path, log = os.path.join(folder, "gateway.toml"), os.path.join(folder, "log")
         write(path, configuration)
-        with open(log, "wb") as file:
+        with open(log, "ab") as file:
+            self.earlier = file.tell()
             self.process = subprocess.Popen([program, "serve", "--config", path], stdout=file, stderr=subprocess.PIPE)
         end = time.monotonic() + TIME_LIMIT
-        while read(log).count("\n") < 3 and time.monotonic() < end:
+        while self.printed().count("\n") < 3 and time.monotonic() < end:
             time.sleep(0.01)
-        found = re.findall(r"^(\w+) ([0-9.]+):(\d+)$", read(log), re.M)
+        found = re.findall(r"^(\w+) ([0-9.]+):(\d+)$", self.printed(), re.M)
         self.hosts = {name: host for name, host, _ in found}
         self.ports = {name: int(port) for name, _, port in found}
 
     def end(self, time_limit=TIME_LIMIT):
         errors = self.process.communicate(timeout=time_limit)[1]
-        return self.process.returncode, read(os.path.join(folder, "log")), errors.decode("latin-1")
+        return self.process.returncode, self.printed(), errors.decode("latin-1")
+
+    def printed(self):
+        return read(os.path.join(folder, "log"))[self.earlier:]
 
 
 def start(configuration=CONFIGURATION):

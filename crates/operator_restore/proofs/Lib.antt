@@ -1,1 +1,1 @@
-pub mod LineSteps
+pub mod PrintedSteps

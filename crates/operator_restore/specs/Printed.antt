@@ -1,16 +1,25 @@
--- Where a log page begins in what a daemon printed, `BeginsAtLine`; and that it is whole, `is_whole`.
-use Rattle.std.specs.Prelude.{◌≡◌, ℕ, ◌-◌, ◌==◌, ◌&&◌, nat_eq, Bool, List, [], ◌∷◌, ◌++◌, count_by, codes}
-use Rattle.std.specs.List.{ends_with, flat_map, starts_with}
+-- The log page in what daemons printed, one run after another: `IsLastPage`; and that it is whole, `is_whole`. Own rules.
+use Rattle.std.specs.Prelude.{◌≡◌, ◌⊎◌, ℕ, ◌-◌, ◌==◌, ◌&&◌, nat_eq, Bool, List, [], ◌∷◌, ◌++◌, count_by, codes}
+use Rattle.std.specs.List.{ends_with, starts_with}
 use Rattle.log_reading.specs.Faults.{first_line}
 
--- these lines, each with an LF after it
-abbrev pub lines_text : List (List ℕ) → List ℕ
-lines_text lines = flat_map (λ line. line ++ 10 ∷ []) lines
+-- the rest begins with a line of the text: it is the text, or stands after an LF of it
+abbrev pub BeginsAtLine : List ℕ → List ℕ → Type 0
+BeginsAtLine text rest = (rest ≡ text) ⊎ ((front : List ℕ) × (text ≡ front ++ 10 ∷ rest))
 
--- the text is some lines, and then this
-pub record BeginsAtLine (text rest : List ℕ) : Type 0 where
-  pub lines : List (List ℕ)
-  pub whole : text ≡ lines_text lines ++ rest
+-- its first line is that of a log page: it begins with `log` and a space
+abbrev pub BeginsPage : List ℕ → Type 0
+BeginsPage rest = (after : List ℕ) × (rest ≡ codes "log " ++ after)
+
+-- no line of the text begins a log page
+abbrev pub HasNoPage : List ℕ → Type 0
+HasNoPage printed = (rest : List ℕ) → BeginsAtLine printed rest → BeginsPage rest → ⊥
+
+-- this is the text from the last of its lines on that begins a log page
+pub record IsLastPage (printed page : List ℕ) : Type 0 where
+  pub line : BeginsAtLine printed page
+  pub begins : BeginsPage page
+  pub last : (later : List ℕ) → BeginsAtLine page later → BeginsPage later → later ≡ page
 
 -- how many lines end in a text
 abbrev pub lines_in : List ℕ → ℕ

@@ -1,37 +1,41 @@
 //! The log page in what a daemon printed.
 
-ghost use Rattle.std.specs.Prelude.{◌≡◌, ◌<◌, ◌++◌, ℕ, List, length, codes, IfOk, IfSome};
+ghost use Rattle.std.specs.Prelude.{◌≡◌, IfOk, MatchOption};
 ghost use Rattle.log_reading.specs.Faults.{first_line};
-ghost use Rattle.operator_restore.specs.Printed.{BeginsAtLine, lines_in, is_whole};
+ghost use Rattle.operator_restore.specs.Printed.{BeginsPage, HasNoPage, IsLastPage, lines_in, is_whole};
 
 use gate_model::push_number;
-use memchr::memchr;
+use memchr::memmem;
 use std::alloc::{AllocError, Global};
 
-/// Where a log page begins.
+/// How a log page begins.
 const FIRST_WORD: &[u8] = b"log ";
 
-/// What stands after the first line.
-fn after_line(text: &[u8]) -> Option<&[u8]>
-    ensures line { IfSome result (λ rest. BeginsAtLine text.now rest.now) }
-    ensures shorter { IfSome result (λ rest. length rest.now < length text.now) }
+/// The text, if its first line is that of a log page.
+fn first_page(text: &[u8]) -> Option<&[u8]>
+    ensures { MatchOption result
+        (BeginsPage text.now → ⊥)
+        (λ page. (page.now ≡ text.now) × BeginsPage text.now) }
 {
-    let index = memchr(b'\n', text)?;
-    Some(&text[index + 1..])
+    match text.strip_prefix(FIRST_WORD) {
+        Some(_) => Some(text),
+        None => None,
+    }
 }
 
-/// The log page in what a daemon printed, which stands after its addresses: from the first line on
-/// that begins with `log` and a space. None: no line does. Own rule.
+/// The last log page in what daemons printed one run after another: all from the last line on that
+/// begins with `log` and a space. None: no line does.
+///
+/// A run prints its addresses first, and its log page at its end. So the page of an earlier run isn't
+/// taken for that of a run that printed none: what stands after it makes it unwhole. Own rule.
 pub fn log_part(printed: &[u8]) -> Option<&[u8]>
-    ensures line { IfSome result (λ page. BeginsAtLine printed.now page.now) }
-    ensures begins { IfSome result (λ page.
-        (rest : List ℕ) × (page.now ≡ codes "log " ++ rest)) }
+    ensures { MatchOption result
+        (HasNoPage printed.now) (λ page. IsLastPage printed.now page.now) }
 {
-    let mut rest = printed;
-    while !rest.starts_with(FIRST_WORD) {
-        rest = after_line(rest)?;
+    match memmem::rfind(printed, b"\nlog ") {
+        Some(index) => Some(&printed[index + 1..]),
+        None => first_page(printed),
     }
-    Some(rest)
 }
 
 /// The line before the records of a log page, of which there are so many.
@@ -51,8 +55,8 @@ fn lines_in(text: &[u8]) -> usize
     text.iter().filter(|byte| **byte == b'\n').count()
 }
 
-/// Whether a log page is whole: it has as many records as its first line counts, and its last line
-/// ends. The only error is out of memory. Own rule.
+/// Whether a log page is whole: it has as many records as its first line counts, nothing stands after
+/// them, and its last line ends. The only error is out of memory. Own rule.
 pub fn is_whole(alloc: Global, page: &[u8]) -> Result<bool, AllocError>
     ensures { IfOk result (λ whole. whole ≡ is_whole page.now) }
 {

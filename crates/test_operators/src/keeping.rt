@@ -27,6 +27,10 @@ const PRINTED: &str = "agents 127.0.0.1:5667\nlog 3\n\
     [950] 2:1 ACKNOWLEDGE_SVC_PROBLEM;web1;HTTP;2;1;0;ann;on it -> Accepted\n\
     [960] 2:2 DEL_SVC_COMMENT;9 -> NoSuchComment\n";
 
+// An earlier run.
+const EARLIER: &str = "agents 127.0.0.1:5667\nlog 1\n\
+    [100] 2:1 DEL_SVC_COMMENT;9 -> NoSuchComment\n";
+
 fn table(alloc: Global) -> Option<ObjectTable> {
     let page = read_status_page(alloc, FRESH.as_bytes()).ok()?;
     kept_table(alloc, &page).ok()
@@ -34,6 +38,13 @@ fn table(alloc: Global) -> Option<ObjectTable> {
 
 fn log() -> Option<&'static [u8]> {
     log_part(PRINTED.as_bytes())
+}
+
+// The log page after that of an earlier run, and whether it is whole.
+fn last_log(alloc: Global, printed: &str) -> Option<(bool, bool)> {
+    let all = format!(in alloc; "{EARLIER}{printed}").ok()?;
+    let page = log_part(all.as_bytes())?;
+    Some((Some(page) == log(), is_whole(alloc, page).ok()?))
 }
 
 fn outcomes(applier: Applier) -> usize {
@@ -110,6 +121,16 @@ fn a_log_is_whole_or_cut_off(rt: HostRuntime) {
     assert_eq!(rt;
         is_whole(alloc, &log[..log.len().saturating_sub(1)]).ok(),
         Some(false)
+    );
+}
+
+#[test]
+fn the_last_run_counts(rt: HostRuntime) {
+    let alloc = rt.alloc();
+    assert_eq!(rt; last_log(alloc, PRINTED), Some((true, true)));
+    assert_eq!(rt;
+        last_log(alloc, "agents 127.0.0.1:5667\n"),
+        Some((false, false))
     );
 }
 
