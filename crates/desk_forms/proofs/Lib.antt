@@ -1,0 +1,3 @@
+pub mod FieldSteps
+pub mod OfferSteps
+pub mod RequestSteps

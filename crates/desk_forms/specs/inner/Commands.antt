@@ -1,0 +1,15 @@
+-- The commands of a form, as a list.
+use Rattle.std.specs.Prelude.{◌≡◌, List, map, Some}
+use Rattle.gate_model.specs.declared.record.Moment.{Moment}
+use Rattle.gate_model.specs.declared.submission.Body.{Body}
+use Rattle.status_reading.specs.Rows.{PageView}
+use Rattle.operator_commands.specs.declared.request.Request.{Request}
+use Rattle.operator_effects.specs.Commands.{commands_of}
+use Rattle.desk_forms.specs.Sender.{Sender}
+use Rattle.desk_forms.specs.Requests.{request_of}
+
+-- these are the commands of the form's request, that its user asks for now
+pub record AreCommandsOf (page : PageView) (now : Moment) (form : Sender) (bodies : List Body) : Type 0 where
+  pub asked : Request
+  pub is_asked : request_of page form.fields ≡ Some asked
+  pub commands : map Some bodies ≡ commands_of page now form.user asked

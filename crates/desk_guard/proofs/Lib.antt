@@ -1,0 +1,2 @@
+pub mod TokenSteps
+pub mod TestSteps
