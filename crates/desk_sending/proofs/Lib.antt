@@ -1,0 +1,2 @@
+pub mod AuditSteps
+pub mod OrderSteps
