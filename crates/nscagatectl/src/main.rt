@@ -3,26 +3,17 @@
 //! reads its answer, and watches the page until it shows the effect.
 #![tactic(auto)]
 
-mod checking;
-mod fault;
-mod following;
 mod holding;
-mod keeping;
 mod missing;
-mod pages;
-mod places;
 mod preparing;
 mod restore_fault;
 mod restore_word;
 mod restoring;
 mod running;
-mod sending;
-mod showing;
 mod stop_word;
-mod testing;
 
-use fault::{ControlFault, words_fault};
 use gate_reader::end_with;
+use operator_setup::{ControlFault, words_fault};
 use running::run_words;
 use std::env;
 use std::io::BufWriter;

@@ -3,10 +3,10 @@
 
 use crate::missing::{push_left, push_rows};
 use crate::restore_fault::RestoreFault;
-use crate::running::entered_at;
 use gate_applier::Applier;
 use gate_grammar::Command;
 use gate_model::{Body, Moment, ObjectTable};
+use operator_ports::entered_at;
 use operator_restore::{KeptFault, is_escaped_text, kept_gateway, kept_over, log_part};
 use page_return::{Missing, find_missing};
 use restore_plan::{Fate, Plan, commands_of, page_of, plan_of, plan_of_page, rehearse};

@@ -1,15 +1,15 @@
 //! The word `restore`: its files, its addresses, and what it prints.
 
-use crate::fault::ControlFault;
-use crate::keeping::{is_newer, read_file};
-use crate::places::{address_or, configuration, path_in, path_of, places_for};
 use crate::preparing::{Prospect, Tables, look_ahead, look_ahead_by_page};
 use crate::restore_fault::RestoreFault;
 use crate::restoring::{Target, lines_of, send_others, send_results};
-use crate::running::{now, print};
 use gate_model::{Moment, Text};
 use gate_reader::Sink;
+use kept_files::{is_newer, read_file};
 use operator_commands::{Options, Task};
+use operator_setup::{
+    ControlFault, address_or, configuration, now, path_in, path_of, places_for, print,
+};
 use std::alloc::Global;
 use std::fs;
 use std::fs::Files;

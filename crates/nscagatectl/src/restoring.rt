@@ -3,18 +3,17 @@
 ghost use Rattle.std.specs.Prelude.{◌≤◌};
 
 use crate::holding::{Held, hold};
-use crate::keeping::runs;
 use crate::missing::{push_command, push_left, push_rows};
-use crate::pages::LivePages;
-use crate::places::Places;
 use crate::preparing::{Prospect, sent_by};
 use crate::restore_fault::RestoreFault;
-use crate::running::entered_at;
 use gate_grammar::{Command, writable, write_body, write_line};
 use gate_model::{Body, Moment, ObjectTable, push_escaped};
+use kept_files::runs;
 use operator_effects::{Next, Pages};
 use operator_lines::{Reply, ask};
+use operator_ports::{LivePages, entered_at};
 use operator_restore::is_fresh;
+use operator_setup::Places;
 use page_fetching::Timed;
 use page_return::{Missing, Unforeseen, find_unforeseen};
 use restore_plan::fates_on;

@@ -1,18 +1,15 @@
 //! The word `stop`: keeps a gateway's status page and its log page, and shuts it down.
 
-use crate::fault::ControlFault;
-use crate::keeping::{keep, keep_page, read_file, runs};
-use crate::pages::LivePages;
-use crate::places::{Places, path_in, path_of, places_for};
-use crate::running::{now, print};
-use crate::sending::send;
 use gate_grammar::Command;
 use gate_model::Body;
 use gate_reader::Sink;
+use kept_files::{keep, keep_page, read_file, runs};
 use operator_commands::{Options, Task};
 use operator_effects::{Next, Pages};
 use operator_lines::Reply;
+use operator_ports::{LivePages, send};
 use operator_restore::{is_whole, log_part};
+use operator_setup::{ControlFault, Places, now, path_in, path_of, places_for, print};
 use page_fetching::fetch_within;
 use status_reading::read_status_page;
 use std::alloc::Global;

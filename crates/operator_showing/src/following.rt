@@ -1,16 +1,16 @@
 //! One page after another, and what is other on each.
 
-use crate::fault::ControlFault;
-use crate::places::Places;
-use crate::running::{page_of, print};
 use change_lines::push_change;
 use gate_grammar::read_number;
 use gate_model::Text;
 use gate_reader::Sink;
+use operator_commands::Options;
 use operator_json::change_json;
+use operator_setup::{ControlFault, Places, fetched, page_of, print};
 use page_changes::changes;
 use page_fetching::fetch;
 use std::alloc::Global;
+use std::fs::Files;
 use std::net::{Net, TcpListener, TcpStream};
 use std::thread;
 use std::time::{Clock, Duration};
@@ -18,8 +18,8 @@ use std::time::{Clock, Duration};
 // The seconds between two pages, where the words name none.
 const INTERVAL: u32 = 1;
 
-/// `--interval`, which is 1 to 3600, by default 1.
-pub fn interval_in(interval: &Option<Text>) -> Result<u32, ControlFault> {
+// `--interval`, which is 1 to 3600, by default 1.
+fn interval_in(interval: &Option<Text>) -> Result<u32, ControlFault> {
     let Some(text) = interval else {
         return Ok(INTERVAL);
     };
@@ -54,8 +54,8 @@ fn print_changes<W: Sink>(
     print(output, lines.as_slice())
 }
 
-/// Prints what is other on each page, from this first one on, until there is no page.
-pub fn follow<R: Net<Listener = TcpListener, Stream = TcpStream> + Clock, W: Sink>(
+// Prints what is other on each page, from this first one on, until there is no page.
+fn follow<R: Net<Listener = TcpListener, Stream = TcpStream> + Clock, W: Sink>(
     rt: &R,
     alloc: Global,
     places: Places,
@@ -76,4 +76,18 @@ pub fn follow<R: Net<Listener = TcpListener, Stream = TcpStream> + Clock, W: Sin
         before = after;
     }
     Ok(0)
+}
+
+/// Prints what is other on each page of the gateway of these options, until there is none. Between
+/// two pages lie `--interval` seconds.
+pub fn run_watch<R: Net<Listener = TcpListener, Stream = TcpStream> + Clock + Files, W: Sink>(
+    rt: &R,
+    alloc: Global,
+    options: &Options,
+    interval: &Option<Text>,
+    output: &mut W,
+) -> Result<u8, ControlFault> {
+    let interval = interval_in(interval)?;
+    let (places, text) = fetched(rt, alloc, options)?;
+    follow(rt, alloc, places, text, interval, options.json, output)
 }

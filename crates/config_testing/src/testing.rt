@@ -1,12 +1,8 @@
-//! A configuration, read as the daemon reads it, and where its fault stands.
-
-use crate::fault::ControlFault;
-use crate::places::read_file;
-use crate::running::print;
 use gate_config::{Config, ConfigFault, Key, read_config};
 use gate_model::{TableFault, Text, push_escaped, push_number};
 use gate_reader::Sink;
 use near_words::nearest;
+use operator_setup::{ControlFault, print, read_configuration};
 use std::alloc::{AllocError, Global};
 use std::fs::Files;
 use toml::{Table, Value};
@@ -274,7 +270,7 @@ pub fn test_config<F: Files, W: Sink>(
     let Ok(path) = str::from_utf8(file.bytes()) else {
         return Err(ControlFault::Unreadable);
     };
-    let text = read_file(files, alloc, path)?;
+    let text = read_configuration(files, alloc, path)?;
     match read_config(alloc, text.as_slice()) {
         Ok(config) => {
             let (hosts, services) = counted(&config);
@@ -289,7 +285,7 @@ pub fn test_config<F: Files, W: Sink>(
         }
         Err(fault) => {
             let cause = cause(alloc, file.bytes(), text.as_slice(), &fault)?;
-            Err(ControlFault::Config(Text::new(cause)))
+            Err(ControlFault::BadFile(Text::new(cause)))
         }
     }
 }

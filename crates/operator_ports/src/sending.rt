@@ -1,11 +1,25 @@
 //! A command over the operators port, and its answer.
 
 use gate_grammar::Command;
+use gate_model::{Body, Moment};
 use operator_lines::{AskFault, Reply, ask};
 use page_fetching::Timed;
-use std::alloc::Global;
+use std::alloc::{AllocError, Global};
 use std::net::{Net, SocketAddr, TcpListener, TcpStream};
 use std::time::{Clock, Duration, Instant};
+
+/// Commands that are entered at this moment.
+pub fn entered_at(
+    alloc: Global,
+    entered: Moment,
+    bodies: Vec<Body>,
+) -> Result<Vec<Command>, AllocError> {
+    let mut commands = Vec::with_capacity(alloc, bodies.len())?;
+    for body in bodies {
+        commands.push(Command { entered, body })?;
+    }
+    Ok(commands)
+}
 
 /// Sends a command over a connection of its own, and reads its answer. The connection and the
 /// answer may take this number of seconds.

@@ -1,5 +1,3 @@
-//! Files that outlive a gateway: they are read whole, and written whole or not at all.
-
 use std::alloc::Global;
 use std::fs::{File, Files, OpenFile, OpenOptions};
 use std::io::{Read, Write};

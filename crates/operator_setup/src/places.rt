@@ -7,10 +7,12 @@ use gate_config::{Config, read_config};
 use gate_grammar::read_number;
 use gate_model::{DOCUMENT_BYTES, Text};
 use operator_commands::Options;
+use page_fetching::fetch;
 use std::alloc::Global;
 use std::fs::{File, Files};
 use std::io::Read;
-use std::net::{IpAddr, Ipv4Addr, Ipv6Addr, SocketAddr};
+use std::net::{IpAddr, Ipv4Addr, Ipv6Addr, Net, SocketAddr, TcpListener, TcpStream};
+use std::time::Clock;
 
 /// The path of the configuration where the words name none.
 const CONFIG: &str = "/etc/nscagate/gateway.toml";
@@ -49,8 +51,12 @@ fn address_in(text: &Text) -> Result<SocketAddr, ControlFault> {
     read_address(text.bytes()).ok_or(ControlFault::BadAddress)
 }
 
-/// Reads a file, and no more of it than one byte beyond the greatest configuration.
-pub fn read_file<F: Files>(files: &F, alloc: Global, path: &str) -> Result<Vec<u8>, ControlFault> {
+/// Reads the file of a configuration, and no more of it than one byte beyond the greatest one.
+pub fn read_configuration<F: Files>(
+    files: &F,
+    alloc: Global,
+    path: &str,
+) -> Result<Vec<u8>, ControlFault> {
     let Ok(file) = File::open(files, path) else {
         return Err(ControlFault::Unreadable);
     };
@@ -68,7 +74,7 @@ fn configured(alloc: Global, text: &[u8]) -> Result<Config, ControlFault> {
         Err(fault) => {
             let mut text = Vec::from_slice(alloc, b"config: ")?;
             text.extend_from_slice(fault.text(alloc)?.as_slice())?;
-            Err(ControlFault::Config(Text::new(text)))
+            Err(ControlFault::BadFile(Text::new(text)))
         }
     }
 }
@@ -113,7 +119,7 @@ pub fn configuration<F: Files>(
     alloc: Global,
     options: &Options,
 ) -> Result<Config, ControlFault> {
-    let text = read_file(files, alloc, config_path(options)?)?;
+    let text = read_configuration(files, alloc, config_path(options)?)?;
     configured(alloc, text.as_slice())
 }
 
@@ -140,6 +146,19 @@ pub fn places_for<F: Files>(
         pages,
         seconds,
     })
+}
+
+/// The ports of these options, and the text of their page.
+pub fn fetched<R: Net<Listener = TcpListener, Stream = TcpStream> + Clock + Files>(
+    rt: &R,
+    alloc: Global,
+    options: &Options,
+) -> Result<(Places, Vec<u8>), ControlFault> {
+    let places = places_for(rt, alloc, options)?;
+    match fetch(rt, alloc, places.pages) {
+        Ok(text) => Ok((places, text)),
+        Err(fault) => Err(ControlFault::NoPage(fault)),
+    }
 }
 
 /// `--wait`, which is 1 to 3600, by default 10.

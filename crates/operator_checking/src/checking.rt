@@ -1,15 +1,14 @@
 //! Whether gateways serve: their ports are asked, each with a time of its own.
 
-use crate::fault::ControlFault;
-use crate::keeping::keep_page;
-use crate::places::{configuration, read_address, wait_in};
-use crate::running::{now, print};
+use gate_config::Config;
 use gate_grammar::read_number;
 use gate_model::{Moment, Text};
 use gate_reader::{Sink, put_last};
+use kept_files::keep_page;
 use operator_checks::{Finding, Port, figures_of, push_line, status_of};
-use operator_commands::{Options, Texts};
+use operator_commands::Options;
 use operator_lines::read_answer;
+use operator_setup::{ControlFault, cause, configuration, now, print, read_address, wait_in};
 use page_fetching::{FetchFault, Timed, fetch_within};
 use status_merge::{Gateway, merge};
 use status_reading::{ReadFault, StatusPage, read_status_page};
@@ -28,26 +27,26 @@ const QUESTION: &[u8] = b"check\n";
 const GREETING: usize = 132;
 
 /// The words of `check`.
-#[derive(Drop)]
-pub struct Wanted {
-    pub gateways: Texts,
-    pub agents: Option<Text>,
-    pub age: Option<Text>,
-    pub keep: Option<Text>,
+#[derive(Clone, Copy)]
+pub struct Wanted<'a> {
+    pub gateways: &'a [Text],
+    pub agents: &'a Option<Text>,
+    pub age: &'a Option<Text>,
+    pub keep: &'a Option<Text>,
 }
 
-/// What is asked: addresses as they are written, those of pages each with a name or without.
-#[derive(Drop)]
-pub struct Ports {
-    pub agents: Option<Text>,
-    pub operators: Option<Text>,
-    pub pages: Texts,
-    /// The seconds that each port may take.
-    pub seconds: u32,
-    /// The seconds that a page may be old.
-    pub age: u32,
-    /// The file that the page of the one gateway is kept in.
-    pub keep: Option<Text>,
+// What is asked: addresses as they are written, those of pages each with a name or without.
+#[derive(Clone, Copy)]
+struct Ports<'a> {
+    agents: Option<&'a [u8]>,
+    operators: Option<&'a [u8]>,
+    pages: &'a [&'a [u8]],
+    // The seconds that each port may take.
+    seconds: u32,
+    // The seconds that a page may be old.
+    age: u32,
+    // The file that the page of the one gateway is kept in.
+    keep: Option<&'a [u8]>,
 }
 
 fn age_in(age: &Option<Text>) -> Result<u32, ControlFault> {
@@ -57,60 +56,25 @@ fn age_in(age: &Option<Text>) -> Result<u32, ControlFault> {
     }
 }
 
-// The address of an option, or else that of the configuration.
-fn option_or(alloc: Global, option: Option<Text>, default: &Text) -> Result<Text, AllocError> {
-    match option {
-        Some(text) => Ok(text),
-        None => Text::copied(alloc, default.bytes()),
-    }
-}
-
-// A list of one.
-fn only(alloc: Global, text: Text) -> Result<Texts, AllocError> {
-    let mut list = Vec::new(alloc);
-    list.push(text)?;
-    Ok(Texts::new(list))
-}
-
-/// What the words ask: with addresses of pages these, and the ports that options name; otherwise all
-/// three ports of the configuration, but for those that options name.
-pub fn ports_of<F: Files>(
-    files: &F,
-    alloc: Global,
-    options: Options,
-    wanted: Wanted,
-) -> Result<Ports, ControlFault> {
-    let Wanted {
-        gateways,
-        agents,
-        age,
-        keep,
-    } = wanted;
-    let seconds = wait_in(&options)?;
-    let age = age_in(&age)?;
-    if keep.is_some() && gateways.as_slice().len() > 1 {
+// `--wait` and `--age`, where the words are good.
+fn seconds_in(options: &Options, wanted: Wanted<'_>) -> Result<(u32, u32), ControlFault> {
+    let seconds = (wait_in(options)?, age_in(wanted.age)?);
+    if wanted.keep.is_some() && wanted.gateways.len() > 1 {
         return Err(ControlFault::BadWords);
     }
-    if !gateways.as_slice().is_empty() {
-        return Ok(Ports {
-            agents,
-            operators: options.operators,
-            pages: gateways,
-            seconds,
-            age,
-            keep,
-        });
+    Ok(seconds)
+}
+
+fn bytes_in(option: &Option<Text>) -> Option<&[u8]> {
+    match option {
+        Some(text) => Some(text.bytes()),
+        None => None,
     }
-    let config = configuration(files, alloc, &options)?;
-    let pages = option_or(alloc, options.pages, &config.pages.text)?;
-    Ok(Ports {
-        agents: Some(option_or(alloc, agents, &config.agents.text)?),
-        operators: Some(option_or(alloc, options.operators, &config.operators.text)?),
-        pages: only(alloc, pages)?,
-        seconds,
-        age,
-        keep,
-    })
+}
+
+// The address of an option, or else that of the configuration.
+fn option_or<'a>(option: &'a Option<Text>, default: &'a Text) -> &'a [u8] {
+    bytes_in(option).unwrap_or(default.bytes())
 }
 
 // Reads a greeting.
@@ -202,15 +166,13 @@ fn shown<'a>(
 fn keep_shown<'a, F: Files>(
     files: &F,
     alloc: Global,
-    keep: &'a Option<Text>,
+    keep: Option<&'a [u8]>,
     text: &[u8],
 ) -> Option<Finding<'a>> {
-    let Some(file) = keep else {
-        return None;
-    };
-    match str::from_utf8(file.bytes()) {
+    let file = keep?;
+    match str::from_utf8(file) {
         Ok(path) if keep_page(files, alloc, path, text).is_ok() => None,
-        _ => Some(Finding::Unkept(file.bytes())),
+        _ => Some(Finding::Unkept(file)),
     }
 }
 
@@ -219,7 +181,7 @@ fn ask_pages<'a, R: Net<Listener = TcpListener, Stream = TcpStream> + Clock + Fi
     rt: &R,
     alloc: Global,
     word: &'a [u8],
-    ports: &'a Ports,
+    ports: Ports<'a>,
     findings: &mut Vec<Finding<'a>>,
 ) -> Result<Finding<'a>, ControlFault> {
     let (name, text) = divided(word);
@@ -240,7 +202,7 @@ fn ask_pages<'a, R: Net<Listener = TcpListener, Stream = TcpStream> + Clock + Fi
     }
     match read_status_page(alloc, page.as_slice()) {
         Ok(shows) => {
-            if let Some(unkept) = keep_shown(rt, alloc, &ports.keep, page.as_slice()) {
+            if let Some(unkept) = keep_shown(rt, alloc, ports.keep, page.as_slice()) {
                 findings.push(unkept)?;
             }
             Ok(shown(alloc, name, shows, now(rt)?, ports.age)?)
@@ -254,41 +216,30 @@ fn add_port<'a, R: Net<Listener = TcpListener, Stream = TcpStream> + Clock>(
     rt: &R,
     findings: &mut Vec<Finding<'a>>,
     port: Port,
-    text: &'a Option<Text>,
+    address: Option<&'a [u8]>,
     seconds: u32,
-) -> Result<(), ControlFault> {
-    if let Some(text) = text {
-        if let Some(finding) = ask_port(rt, port, text.bytes(), seconds) {
+) -> Result<(), AllocError> {
+    if let Some(text) = address {
+        if let Some(finding) = ask_port(rt, port, text, seconds) {
             findings.push(finding)?;
         }
     }
     Ok(())
 }
 
-/// Asks the ports, prints the line of what is found, and returns the exit status of a plugin.
-pub fn check<R: Net<Listener = TcpListener, Stream = TcpStream> + Clock + Files, W: Sink>(
+// Asks the ports, prints the line of what is found, and returns the exit status of a plugin.
+fn check<R: Net<Listener = TcpListener, Stream = TcpStream> + Clock + Files, W: Sink>(
     rt: &R,
     alloc: Global,
-    ports: &Ports,
+    ports: Ports<'_>,
     output: &mut W,
 ) -> Result<u8, ControlFault> {
     let mut findings = Vec::new(alloc);
-    add_port(
-        rt,
-        &mut findings,
-        Port::Agents,
-        &ports.agents,
-        ports.seconds,
-    )?;
-    add_port(
-        rt,
-        &mut findings,
-        Port::Operators,
-        &ports.operators,
-        ports.seconds,
-    )?;
-    for word in ports.pages.as_slice() {
-        let found = ask_pages(rt, alloc, word.bytes(), ports, &mut findings)?;
+    let seconds = ports.seconds;
+    add_port(rt, &mut findings, Port::Agents, ports.agents, seconds)?;
+    add_port(rt, &mut findings, Port::Operators, ports.operators, seconds)?;
+    for word in ports.pages {
+        let found = ask_pages(rt, alloc, word, ports, &mut findings)?;
         findings.push(found)?;
     }
     let mut line = Vec::new(alloc);
@@ -309,5 +260,73 @@ pub fn report_unknown<W: Sink>(output: &mut W, text: &[u8]) -> Result<u8, Contro
     match put_unknown(output, text) {
         Ok(()) => Ok(3),
         Err(_) => Err(ControlFault::WriteFault),
+    }
+}
+
+// Asks gateways at addresses of their own, and the ports that options name.
+fn check_gateways<R: Net<Listener = TcpListener, Stream = TcpStream> + Clock + Files, W: Sink>(
+    rt: &R,
+    alloc: Global,
+    options: &Options,
+    wanted: Wanted<'_>,
+    seconds: (u32, u32),
+    output: &mut W,
+) -> Result<u8, ControlFault> {
+    let mut pages = Vec::new(alloc);
+    for text in wanted.gateways {
+        pages.push(text.bytes())?;
+    }
+    let ports = Ports {
+        agents: bytes_in(wanted.agents),
+        operators: bytes_in(&options.operators),
+        pages: pages.as_slice(),
+        seconds: seconds.0,
+        age: seconds.1,
+        keep: bytes_in(wanted.keep),
+    };
+    check(rt, alloc, ports, output)
+}
+
+// Asks all three ports of a configuration, but for those that options name.
+fn check_configured<R: Net<Listener = TcpListener, Stream = TcpStream> + Clock + Files, W: Sink>(
+    rt: &R,
+    alloc: Global,
+    options: &Options,
+    wanted: Wanted<'_>,
+    config: &Config,
+    seconds: (u32, u32),
+    output: &mut W,
+) -> Result<u8, ControlFault> {
+    let ports = Ports {
+        agents: Some(option_or(wanted.agents, &config.agents.text)),
+        operators: Some(option_or(&options.operators, &config.operators.text)),
+        pages: &[option_or(&options.pages, &config.pages.text)],
+        seconds: seconds.0,
+        age: seconds.1,
+        keep: bytes_in(wanted.keep),
+    };
+    check(rt, alloc, ports, output)
+}
+
+/// Asks ports, prints the line of what is found, and returns the exit status of a plugin: with
+/// addresses of pages these, and the ports that options name; otherwise all three ports of the
+/// configuration, but for those that options name. Whatever is wrong with the words is UNKNOWN.
+pub fn run_check<R: Net<Listener = TcpListener, Stream = TcpStream> + Clock + Files, W: Sink>(
+    rt: &R,
+    alloc: Global,
+    options: &Options,
+    wanted: Wanted<'_>,
+    output: &mut W,
+) -> Result<u8, ControlFault> {
+    let seconds = match seconds_in(options, wanted) {
+        Ok(seconds) => seconds,
+        Err(fault) => return report_unknown(output, cause(&fault)),
+    };
+    if !wanted.gateways.is_empty() {
+        return check_gateways(rt, alloc, options, wanted, seconds, output);
+    }
+    match configuration(rt, alloc, options) {
+        Ok(config) => check_configured(rt, alloc, options, wanted, &config, seconds, output),
+        Err(fault) => report_unknown(output, cause(&fault)),
     }
 }

@@ -1,14 +1,12 @@
--- What is reported of a program that ends before it has sent all commands: a line on standard error, and an exit
--- status. Own rules: both.
+-- What is reported of a program that ends before it has done what its words ask for: a line on standard error, and an
+-- exit status. Own rules: both.
 use Rattle.std.specs.Prelude.{ℕ, List, ◌++◌, codes}
 use Rattle.operator_commands.specs.declared.bodies.RequestFault.{RequestFault}
 use Rattle.operator_commands.specs.declared.bodies.RequestFault.TheVariants as requests
-use Rattle.operator_effects.specs.declared.commands.PlanFault.{PlanFault}
-use Rattle.operator_effects.specs.declared.commands.PlanFault.TheVariants as plans
 use Rattle.page_fetching.specs.declared.fetching.FetchFault.{FetchFault}
 use Rattle.page_fetching.specs.declared.fetching.FetchFault.TheVariants as fetches
-use Rattle.nscagatectl.specs.declared.fault.ControlFault.{ControlFault}
-use Rattle.nscagatectl.specs.declared.fault.ControlFault.TheVariants.{BadWords, NotUtf8, BadAddress, BadWait, BadAge, BadInterval, BadState, Unreadable, Config, Plan, NoPage, BadPage, NoClock, OutOfMemory, WriteFault}
+use Rattle.operator_setup.specs.declared.fault.ControlFault.{ControlFault}
+use Rattle.operator_setup.specs.declared.fault.ControlFault.TheVariants.{BadWords, NotUtf8, BadAddress, BadWait, BadAge, BadInterval, BadState, Unreadable, BadFile, Request, NoObject, NoPage, BadPage, NoClock, OutOfMemory, WriteFault}
 
 -- why words are faulty
 abbrev pub request_text : RequestFault → List ℕ
@@ -20,12 +18,6 @@ request_text requests.BadSpan = codes "a span is a number with s, m, h or d, as 
 request_text requests.BadId = codes "an id is a number"
 request_text requests.NoEnd = codes "downtime ends by one of --for and --until"
 request_text requests.NoCommand = codes "bad words"
-
--- why words are no command
-abbrev pub plan_text : PlanFault → List ℕ
-plan_text (plans.Request fault) = request_text fault
-plan_text plans.NoObject = codes "--all is of a host, or of a host and a service"
-plan_text plans.OutOfMemory = codes "out of memory"
 
 -- why there is no page
 abbrev pub page_text : FetchFault → List ℕ
@@ -49,19 +41,14 @@ cause BadPage = codes "what the pages port gives is no status page"
 cause NoClock = codes "the clock can't be read"
 cause OutOfMemory = codes "out of memory"
 cause WriteFault = codes "the output can't be written"
-cause (Config text) = text
-cause (Plan fault) = plan_text fault
+cause (BadFile text) = text
+cause (Request fault) = request_text fault
+cause NoObject = codes "--all is of a host, or of a host and a service"
 cause (NoPage fault) = page_text fault
 
 -- the line that reports a fault
 abbrev pub message_of : ControlFault → List ℕ
 message_of fault = codes "nscagatectl: " ++ cause fault ++ codes "\n"
-
--- the exit status for words that are no command
-abbrev pub plan_status : PlanFault → ℕ
-plan_status (plans.Request fault) = 2
-plan_status plans.NoObject = 2
-plan_status plans.OutOfMemory = 3
 
 -- the exit status: 2 where the words or the configuration are faulty, 3 where there is no answer
 abbrev pub status_of : ControlFault → ℕ
@@ -73,8 +60,9 @@ status_of BadAge = 2
 status_of BadInterval = 2
 status_of BadState = 2
 status_of Unreadable = 2
-status_of (Config text) = 2
-status_of (Plan fault) = plan_status fault
+status_of (BadFile text) = 2
+status_of (Request fault) = 2
+status_of NoObject = 2
 status_of (NoPage fault) = 3
 status_of BadPage = 3
 status_of NoClock = 3

@@ -1,13 +1,16 @@
 //! The status page, whole or in part, as it came or as JSON.
 
-use crate::fault::ControlFault;
-use crate::running::{page_of, print};
 use gate_model::{State, Text};
 use gate_reader::Sink;
+use operator_commands::Options;
+use operator_setup::{ControlFault, fetched, page_of, print};
 use status_export::json_text;
 use status_merge::{Choice, Gateway, MergedObject, Query, choice_name, merge, select};
 use status_reading::StatusPage;
 use std::alloc::{AllocError, Global};
+use std::fs::Files;
+use std::net::{Net, TcpListener, TcpStream};
+use std::time::Clock;
 
 // What `--state` may be.
 const CHOICES: [Choice; 12] = [
@@ -35,8 +38,8 @@ fn choice_of(word: &[u8]) -> Option<Choice> {
     None
 }
 
-/// The objects that `--state` and `--host` choose.
-pub fn query_in(
+// The objects that `--state` and `--host` choose.
+fn query_in(
     alloc: Global,
     state: &Option<Text>,
     host: &Option<Text>,
@@ -106,15 +109,15 @@ fn json_line(
     Ok(text)
 }
 
-/// Prints a text, where it is a page.
-pub fn show<W: Sink>(alloc: Global, text: &[u8], output: &mut W) -> Result<u8, ControlFault> {
+// Prints a text, where it is a page.
+fn show<W: Sink>(alloc: Global, text: &[u8], output: &mut W) -> Result<u8, ControlFault> {
     let _page = page_of(alloc, text)?;
     print(output, text)?;
     Ok(0)
 }
 
-/// Prints the lines of the objects of a page that a query chooses.
-pub fn show_chosen<W: Sink>(
+// Prints the lines of the objects of a page that a query chooses.
+fn show_chosen<W: Sink>(
     alloc: Global,
     text: &[u8],
     query: &Query,
@@ -126,8 +129,8 @@ pub fn show_chosen<W: Sink>(
     Ok(0)
 }
 
-/// Prints the page that a text is as JSON, as statusweb has it of a gateway of this name.
-pub fn show_json<W: Sink>(
+// Prints the page that a text is as JSON, as statusweb has it of a gateway of this name.
+fn show_json<W: Sink>(
     alloc: Global,
     text: &[u8],
     name: &str,
@@ -138,4 +141,26 @@ pub fn show_json<W: Sink>(
     let line = json_line(alloc, name, page, query)?;
     print(output, line.as_slice())?;
     Ok(0)
+}
+
+/// Prints the page of the gateway of these options: as it came, the lines of the objects of `wanted`
+/// (`--state` and `--host`), or as JSON.
+pub fn run_status<R: Net<Listener = TcpListener, Stream = TcpStream> + Clock + Files, W: Sink>(
+    rt: &R,
+    alloc: Global,
+    options: &Options,
+    wanted: (&Option<Text>, &Option<Text>),
+    output: &mut W,
+) -> Result<u8, ControlFault> {
+    let query = query_in(alloc, wanted.0, wanted.1)?;
+    let (places, text) = fetched(rt, alloc, options)?;
+    let text = text.as_slice();
+    if options.json {
+        let name = places.pages.to_string(alloc)?;
+        show_json(alloc, text, name.as_str(), &query, output)
+    } else if wanted.0.is_some() || wanted.1.is_some() {
+        show_chosen(alloc, text, &query, output)
+    } else {
+        show(alloc, text, output)
+    }
 }

@@ -1,17 +1,16 @@
 ghost use Rattle.std.specs.Prelude.{◌≡◌, ◌≢◌};
 ghost use Rattle.std.specs.IoError.{error_kind};
-ghost use Rattle.nscagatectl.specs.Fault.{cause, page_text, plan_status, plan_text, request_text};
+ghost use Rattle.operator_setup.specs.Fault.{cause, page_text, request_text};
 
 use gate_model::Text;
 use gate_reader::{Fault, Sink, put_line};
 use operator_commands::RequestFault;
-use operator_effects::PlanFault;
 use page_fetching::FetchFault;
 use std::alloc::{AllocError, AllocFailed};
 use std::io;
 use std::io::ErrorKind;
 
-/// Why the program ends before it has sent all commands.
+/// Why the program ends before it has done what the words ask for.
 #[derive(Debug, Drop)]
 pub enum ControlFault {
     /// The words after the program's name ask for nothing.
@@ -30,10 +29,12 @@ pub enum ControlFault {
     BadState,
     /// The configuration can't be read.
     Unreadable,
-    /// The configuration is faulty: `config: ` and its fault.
-    Config(Text),
+    /// A file is faulty: which one, and its fault.
+    BadFile(Text),
     /// The words are no command.
-    Plan(PlanFault),
+    Request(RequestFault),
+    /// `--all` stands beside more than two words.
+    NoObject,
     /// There is no text of the status page.
     NoPage(FetchFault),
     /// The text at the address of the pages is no status page.
@@ -47,7 +48,7 @@ pub enum ControlFault {
 }
 
 impl From<AllocError> for ControlFault {
-    ghost use Rattle.nscagatectl.specs.declared.fault.ControlFault.TheVariants.{OutOfMemory};
+    ghost use Rattle.operator_setup.specs.declared.fault.ControlFault.TheVariants.{OutOfMemory};
 
     ghost from_gives = { λ _ fault. fault ≡ OutOfMemory };
 
@@ -57,7 +58,7 @@ impl From<AllocError> for ControlFault {
 }
 
 impl<T: Drop> From<AllocFailed<T>> for ControlFault {
-    ghost use Rattle.nscagatectl.specs.declared.fault.ControlFault.TheVariants.{OutOfMemory};
+    ghost use Rattle.operator_setup.specs.declared.fault.ControlFault.TheVariants.{OutOfMemory};
 
     ghost from_gives = { λ _ fault. fault ≡ OutOfMemory };
 
@@ -80,16 +81,6 @@ fn request_text(fault: RequestFault) -> &'static [u8]
         RequestFault::BadId => b"an id is a number",
         RequestFault::NoEnd => b"downtime ends by one of --for and --until",
         RequestFault::NoCommand => b"bad words",
-    }
-}
-
-fn plan_text(fault: PlanFault) -> &'static [u8]
-    ensures { result.now ≡ plan_text fault }
-{
-    match fault {
-        PlanFault::Request(fault) => request_text(fault),
-        PlanFault::NoObject => b"--all is of a host, or of a host and a service",
-        PlanFault::OutOfMemory => b"out of memory",
     }
 }
 
@@ -118,27 +109,19 @@ pub fn cause(fault: &ControlFault) -> &[u8]
         ControlFault::BadInterval => b"--interval is 1 to 3600",
         ControlFault::BadState => b"--state is a state, or all, problems, unhandled or stale",
         ControlFault::Unreadable => b"the configuration can't be read",
+        ControlFault::NoObject => b"--all is of a host, or of a host and a service",
         ControlFault::BadPage => b"what the pages port gives is no status page",
         ControlFault::NoClock => b"the clock can't be read",
         ControlFault::OutOfMemory => b"out of memory",
         ControlFault::WriteFault => b"the output can't be written",
-        ControlFault::Config(text) => text.bytes(),
-        ControlFault::Plan(fault) => plan_text(*fault),
+        ControlFault::BadFile(text) => text.bytes(),
+        ControlFault::Request(fault) => request_text(*fault),
         ControlFault::NoPage(fault) => page_text(*fault),
     }
 }
 
-fn plan_status(fault: PlanFault) -> u8
-    ensures { result ≡ plan_status fault }
-{
-    match fault {
-        PlanFault::Request(_) | PlanFault::NoObject => 2,
-        PlanFault::OutOfMemory => 3,
-    }
-}
-
 impl Fault for ControlFault {
-    ghost use Rattle.nscagatectl.specs.Fault.{status_of, message_of};
+    ghost use Rattle.operator_setup.specs.Fault.{status_of, message_of};
 
     ghost status_of = { status_of };
 
@@ -155,8 +138,9 @@ impl Fault for ControlFault {
             | ControlFault::BadInterval
             | ControlFault::BadState
             | ControlFault::Unreadable
-            | ControlFault::Config(_) => 2,
-            ControlFault::Plan(fault) => plan_status(*fault),
+            | ControlFault::BadFile(_)
+            | ControlFault::Request(_)
+            | ControlFault::NoObject => 2,
             ControlFault::NoPage(_)
             | ControlFault::BadPage
             | ControlFault::NoClock

@@ -1,0 +1,212 @@
+//! The commands of a request, one after another.
+
+ghost use Rattle.std.specs.Prelude.{◌≡◌};
+ghost use Rattle.operator_sending.specs.Faults.{fault_of};
+
+use crate::reporting::report;
+use gate_grammar::Command;
+use gate_model::{Body, Moment, Text};
+use gate_reader::Sink;
+use operator_commands::{Options, Request};
+use operator_effects::{
+    Ending, PlanFault, commands_for, ending_of, first_refusal, plain_request, watch,
+};
+use operator_lines::Reply;
+use operator_ports::{LivePages, entered_at, send};
+use operator_setup::{ControlFault, Places, fetched, now, page_of};
+use status_reading::StatusPage;
+use std::alloc::{AllocError, Global};
+use std::env;
+use std::fs::Files;
+use std::net::{Net, TcpListener, TcpStream};
+use std::rt::Env;
+use std::time::Clock;
+
+// The name of the user where the environment has none.
+const NOBODY: &[u8] = b"operator";
+
+// The user who runs the program: that of sudo, or else the one who logged in.
+fn user(rt: &(impl Env + AllocGlobal), alloc: Global) -> Result<Text, ControlFault> {
+    for name in ["SUDO_USER", "LOGNAME", "USER"] {
+        if let Ok(user) = env::var(rt, name) {
+            if !user.is_empty() {
+                return Ok(Text::copied(alloc, user.as_bytes())?);
+            }
+        }
+    }
+    Ok(Text::copied(alloc, NOBODY)?)
+}
+
+// Whether a page can show how the command ended that was answered so.
+fn is_watched(body: &Body, reply: Reply) -> bool {
+    match reply {
+        Reply::Queued(_) => !matches!(body, Body::Passive { .. }),
+        Reply::Closing => matches!(body, Body::Shutdown),
+        Reply::Full | Reply::Spent | Reply::Bad(_) => false,
+    }
+}
+
+// Sends a command, and watches for its effect where this page was read before it.
+fn carry_out<R: Net<Listener = TcpListener, Stream = TcpStream> + Clock>(
+    rt: &R,
+    alloc: Global,
+    places: Places,
+    before: &StatusPage<'_>,
+    command: &Command,
+) -> Result<Ending, ControlFault> {
+    let reply = match send(rt, alloc, places.operators, places.seconds, command) {
+        Ok(reply) => reply,
+        Err(fault) => return Ok(Ending::NoAnswer(fault)),
+    };
+    if !is_watched(&command.body, reply) {
+        return Ok(ending_of(&command.body, reply, None));
+    }
+    let Ok(mut pages) = LivePages::new(rt, places.pages, places.seconds) else {
+        return Err(ControlFault::NoClock);
+    };
+    let seen = watch(alloc, before, &command.body, &mut pages)?;
+    Ok(ending_of(&command.body, reply, seen))
+}
+
+// Reports the first command that the gateway would refuse, by its page; returns the exit status.
+fn objection<W: Sink, E: Sink>(
+    alloc: Global,
+    page: &StatusPage<'_>,
+    commands: &[Command],
+    json: bool,
+    output: &mut W,
+    errors: &mut E,
+) -> Result<Option<u8>, ControlFault> {
+    let Some((command, outcome)) = first_refusal(alloc, page, commands)? else {
+        return Ok(None);
+    };
+    let status = report(
+        alloc,
+        &command.body,
+        Ending::Refused(outcome),
+        json,
+        output,
+        errors,
+    )?;
+    Ok(Some(status))
+}
+
+// Sends commands one after another, where the gateway would refuse none of them, by its page; prints
+// how each ended, and returns the exit status: that of the first that did not end well, after which
+// none is sent.
+fn send_all<R: Net<Listener = TcpListener, Stream = TcpStream> + Clock, W: Sink, E: Sink>(
+    rt: &R,
+    alloc: Global,
+    places: Places,
+    before: &StatusPage<'_>,
+    commands: &[Command],
+    json: bool,
+    output: &mut W,
+    errors: &mut E,
+) -> Result<u8, ControlFault> {
+    if let Some(status) = objection(alloc, before, commands, json, output, errors)? {
+        return Ok(status);
+    }
+    for command in commands {
+        let ending = carry_out(rt, alloc, places, before, command)?;
+        let status = report(alloc, &command.body, ending, json, output, errors)?;
+        if status != 0 {
+            return Ok(status);
+        }
+    }
+    Ok(0)
+}
+
+// The fault of a request that is no list of commands.
+fn fault_of(fault: PlanFault) -> ControlFault
+    ensures { result ≡ fault_of fault }
+{
+    match fault {
+        PlanFault::Request(fault) => ControlFault::Request(fault),
+        PlanFault::NoObject => ControlFault::NoObject,
+        PlanFault::OutOfMemory => ControlFault::OutOfMemory,
+    }
+}
+
+// The commands of a request.
+fn commands_of(
+    alloc: Global,
+    page: &StatusPage<'_>,
+    entered: Moment,
+    user: Text,
+    request: Request,
+) -> Result<Vec<Command>, ControlFault> {
+    match commands_for(alloc, page, entered, user, request) {
+        Ok(bodies) => Ok(entered_at(alloc, entered, bodies)?),
+        Err(fault) => Err(fault_of(fault)),
+    }
+}
+
+// Carries out a request where this is the text of the page.
+fn on_page<
+    R: Net<Listener = TcpListener, Stream = TcpStream> + Clock + Env + AllocGlobal,
+    W: Sink,
+    E: Sink,
+>(
+    rt: &R,
+    alloc: Global,
+    places: Places,
+    text: &[u8],
+    request: Request,
+    json: bool,
+    output: &mut W,
+    errors: &mut E,
+) -> Result<u8, ControlFault> {
+    let entered = now(rt)?;
+    let user = user(rt, alloc)?;
+    let before = page_of(alloc, text)?;
+    let commands = commands_of(alloc, &before, entered, user, request)?;
+    send_all(
+        rt,
+        alloc,
+        places,
+        &before,
+        commands.as_slice(),
+        json,
+        output,
+        errors,
+    )
+}
+
+// The request, by `--escaped` with its escapes undone.
+fn unescaped(alloc: Global, options: &Options, request: Request) -> Result<Request, AllocError> {
+    if options.escaped {
+        plain_request(alloc, request)
+    } else {
+        Ok(request)
+    }
+}
+
+/// Carries out a request over the gateway of these options: reports the first of its commands that
+/// the gateway would refuse by its page, or else sends them and reports how each ended. Returns the
+/// exit status.
+pub fn carry_out_request<
+    R: Net<Listener = TcpListener, Stream = TcpStream> + Clock + Files + Env + AllocGlobal,
+    W: Sink,
+    E: Sink,
+>(
+    rt: &R,
+    alloc: Global,
+    options: &Options,
+    request: Request,
+    output: &mut W,
+    errors: &mut E,
+) -> Result<u8, ControlFault> {
+    let (places, text) = fetched(rt, alloc, options)?;
+    let request = unescaped(alloc, options, request)?;
+    on_page(
+        rt,
+        alloc,
+        places,
+        text.as_slice(),
+        request,
+        options.json,
+        output,
+        errors,
+    )
+}

@@ -1,0 +1,38 @@
+//! The clock, the output, and a page that was fetched, each with the fault that it can end in.
+
+use crate::fault::ControlFault;
+use gate_model::Moment;
+use gate_reader::{Sink, put_last};
+use status_reading::{ReadFault, StatusPage, read_status_page};
+use std::alloc::Global;
+use std::time::{Clock, SystemTime};
+
+/// The seconds since 1970, at most 4294967295.
+pub fn now(rt: &impl Clock) -> Result<Moment, ControlFault> {
+    let Ok(now) = SystemTime::now(rt) else {
+        return Err(ControlFault::NoClock);
+    };
+    match now.duration_since(SystemTime::UNIX_EPOCH) {
+        Ok(since) => Ok(Moment(u32::try_from(since.as_secs()).unwrap_or(u32::MAX))),
+        Err(_) => Err(ControlFault::NoClock),
+    }
+}
+
+/// Writes a text and flushes.
+pub fn print<W: Sink>(output: &mut W, text: &[u8]) -> Result<(), ControlFault> {
+    match put_last(output, text) {
+        Ok(()) => Ok(()),
+        Err(_) => Err(ControlFault::WriteFault),
+    }
+}
+
+/// The page that a text is.
+pub fn page_of<'t>(alloc: Global, text: &'t [u8]) -> Result<StatusPage<'t>, ControlFault> {
+    match read_status_page(alloc, text) {
+        Ok(page) => Ok(page),
+        Err(ReadFault::OutOfMemory) => Err(ControlFault::OutOfMemory),
+        Err(ReadFault::NoStatus | ReadFault::BadLine(_) | ReadFault::BadRow(..)) => {
+            Err(ControlFault::BadPage)
+        }
+    }
+}
