@@ -134,6 +134,7 @@ def options_of_programs():
         text = "".join(read(path) for path in glob.glob(f"crates/{crate}/src/*.rt"))
         found[name] = {f"--{option}" for option in re.findall(r'\b(?:option|flag|long)\(\s*(?:alloc,\s*)?"([a-z-]+)"', text)}
     found["nscagatectl"].update(("--help", "--version"))
+    found["statusweb"].add("--help")
     return found
 
 

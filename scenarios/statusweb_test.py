@@ -657,15 +657,37 @@ def test_requests(now):
 
 def test_words():
     here = f'127.0.0.1:{free_port()}'
-    for words in [[], ['--gateway'], ['--gateway', 'x'], ['--gateway', 'a=1.2.3.4'], ['--listen', here],
-                  ['--gateway', here, '--listen', 'nowhere'], ['--gateway', here, '--refresh', '1'],
-                  ['--gateway', here, '--refresh', '3601'], ['--gateway', here, '--refresh', 'x'],
-                  ['--gateway', here, '--every', '0'], ['--gateway', here, '--every', '31'],
-                  ['--gateway', 'a=' + here, '--gateway', 'a=' + here], ['--gateway', '=' + here], ['--gateway', here, 'more'],
-                  ['--gateway', here, '--help']]:
+    for words, line in [
+            (['--gateway', 'x'], '--gateway: not [NAME=]ADDRESS:PORT'),
+            (['--gateway', 'a=1.2.3.4'], '--gateway: not [NAME=]ADDRESS:PORT'),
+            (['--gateway', '=' + here], '--gateway: not [NAME=]ADDRESS:PORT'),
+            (['--gateway', here, '--gateway', 'nowhere:1'], '--gateway: not [NAME=]ADDRESS:PORT'),
+            (['--gateway', 'a=' + here, '--gateway', 'a=127.0.0.1:1'], '--gateway: two of one name'),
+            (['--gateway', here, '--listen', 'nowhere'], '--listen: not an IP address and a port'),
+            (['--gateway', here, '--refresh', '1'], '--refresh: not 0 or 2 to 3600'),
+            (['--gateway', here, '--refresh', '3601'], '--refresh: not 0 or 2 to 3600'),
+            (['--gateway', here, '--refresh', 'x'], '--refresh: not 0 or 2 to 3600'),
+            (['--gateway', here, '--every', '0'], '--every: not 1 to 30'),
+            (['--gateway', here, '--every', '31'], '--every: not 1 to 30')]:
+        run = subprocess.run([PROGRAM, *words], capture_output=True, timeout=10)
+        test(f'a bad value: {" ".join(words)}', run.returncode == 2 and run.stdout == b''
+             and run.stderr == f'statusweb: {line}\n'.encode(), run)
+    # What clap 4 reports of other words.
+    missing = 'the following required arguments were not provided:\n  --gateway <gateway>\n\nUsage: statusweb '
+    for words, lines in [
+            ([], missing + '--gateway <gateway>'),
+            (['--listen', here], missing + '--gateway <gateway> --listen <listen>'),
+            (['--gateway'], "a value is required for '--gateway <gateway>' but none was supplied"),
+            (['--gateway', here, 'more'], "unexpected argument 'more' found\n\nUsage: statusweb [OPTIONS] --gateway <gateway>"),
+            (['--gateway', here, '--refresh', '1', '--refresh', '2'],
+             "the argument '--refresh <refresh>' cannot be used multiple times\n\nUsage: statusweb [OPTIONS] --gateway <gateway>")]:
         run = subprocess.run([PROGRAM, *words], capture_output=True, timeout=10)
         test(f'bad words: {" ".join(words)}', run.returncode == 2 and run.stdout == b''
-             and run.stderr == b'statusweb: bad arguments\n', run)
+             and run.stderr == f"error: {lines}\n\nFor more information, try '--help'.\n".encode(), run)
+    run = subprocess.run([PROGRAM, '--help'], capture_output=True, timeout=10)
+    options = [line.split()[0] for line in run.stdout.decode().splitlines() if line.startswith('      --')]
+    test('help', run.returncode == 0 and run.stderr == b''
+         and options == ['--listen', '--gateway', '--title', '--refresh', '--every', '--host'], run)
     with socket.socket() as taken:
         taken.bind(('127.0.0.1', 0))
         taken.listen(1)
