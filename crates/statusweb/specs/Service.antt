@@ -1,6 +1,6 @@
 -- What is answered to a request: `IsAnswer`. Own rules, but for 404, 405 and 421 (RFC 9110, sections 15.5.5, 15.5.6 and
 -- 15.5.20).
-use Rattle.std.specs.Prelude.{◌≡◌, ℕ, Bool, true, false, List, [], ◌∷◌, Option, Some, None, unwrap_or, codes, if◌then◌else◌}
+use Rattle.std.specs.Prelude.{ℕ, Bool, true, false, List, [], ◌∷◌, Option, Some, None, unwrap_or, codes, if◌then◌else◌}
 use Rattle.std.specs.Borrow.{Bor}
 use Rattle.std.specs.Str.{bytes_eq}
 use Rattle.http.specs.declared.request.Request.{Request}

@@ -1,4 +1,4 @@
-use Rattle.std.proofs.Common.{◌≡◌, ◌⊎◌, List, [], true, map, string_bytes, ap, sym, subst, ◌∙◌}
+use Rattle.std.proofs.Common.{◌≡◌, ◌⊎◌, List, [], true, map, string_bytes, ap, subst, ◌∙◌}
 use Rattle.clap.specs.Words.{App, IsAmong, Row, Text, app_of, fault_of, is_simple_and_free}
 use Rattle.clap.specs.Values.{kind_of}
 use Rattle.clap.specs.declared.error.kind.ErrorKind.TheVariants.{OutOfMemory}
