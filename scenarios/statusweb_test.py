@@ -487,6 +487,8 @@ def test_slow_browsers(now):
     large = b'status %d\n' % now + b''.join(
         b'object;host%d;;UP;%d;fresh;-;0;%s\n' % (number, now, b"x" * 6000) for number in range(1000))
     with Web(('east', shows(large).port)) as web:
+        web.text('/?host=host999')
+        time.sleep(1)  # Until all threads have what they wait with.
         at_first = sockets_of(web.process.pid)
         deaf = []
         for _ in range(8):
@@ -522,7 +524,7 @@ def test_slow_browsers(now):
         while web.process.poll() is None and sockets_of(web.process.pid) > at_first and time.time() < began + 30:
             time.sleep(0.1)
         took = time.time() - began
-        test('a browser that reads nothing loses its connection', sockets_of(web.process.pid) == at_first and took < 25, took)
+        test('a browser that reads nothing loses its connection', sockets_of(web.process.pid) <= at_first and took < 25, took)
         for connection in deaf + silent + slow:
             connection.close()
 

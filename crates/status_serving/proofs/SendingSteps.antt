@@ -1,5 +1,5 @@
 -- What is sent, of the gateways whose texts were read.
-use Rattle.std.proofs.Common.{◌≡◌, ℕ, Bool, true, false, List, [], map, sym, subst}
+use Rattle.std.proofs.Common.{◌≡◌, ℕ, Bool, true, false, List, [], map, codes, sym, subst}
 use Rattle.std.specs.List.{AllZip}
 use Rattle.std.proofs.lemmas.Bool.{true≢false}
 use Rattle.http_server.specs.declared.response.Response.{Response}
@@ -14,7 +14,8 @@ use Rattle.status_serving.specs.declared.bodies.Form.{Form}
 use Rattle.status_serving.specs.declared.changing.ChangesForm.{ChangesForm}
 use Rattle.status_serving.specs.Changing.{AreChanges, IsChangesText, IsChangesBody, kind_of}
 use Rattle.status_serving.specs.Pages.{IsShown, IsStatusText, IsStatusBody, status_kind}
-use Rattle.status_serving.specs.Sending.{status_code, IsStatusOf, AreChangesOf}
+use Rattle.status_serving.specs.Naming.{IsObjectText, IsObjectBody}
+use Rattle.status_serving.specs.Sending.{reached_code, status_code, IsStatusOf, AreChangesOf, IsObjectOf}
 
 -- ---- bodies
 
@@ -41,6 +42,23 @@ pub no_changes : (whole : Bool) (heading : Heading) (clock : ℕ) (seen : List S
     → whole ≡ false → body ≡ [] → IsChangesBody whole heading seen clock form body
 no_changes true heading clock seen form body is none = absurd (true≢false is)
 no_changes false heading clock seen form body is none = none
+
+pub object_made : (whole : Bool) (heading : Heading) (clock : ℕ) (seen : List Seen) (found shown : List Gateway)
+    (kept changes : List GatewayChange) (query : List ℕ) (body : List ℕ) → whole ≡ true
+    → AllZip (IsShown clock) seen found → shown ≡ found → AreChanges seen kept → changes ≡ kept
+    → IsObjectText heading shown changes query clock body → IsObjectBody whole heading seen query clock body
+object_made true heading clock seen found shown kept changes query body is are same all alike text = (
+  shown,
+  subst (AllZip (IsShown clock) seen) (sym same) are,
+  (changes, subst (AreChanges seen) (sym alike) all, text),
+)
+object_made false heading clock seen found shown kept changes query body is are same all alike text =
+    absurd (true≢false (sym is))
+
+pub no_object : (whole : Bool) (heading : Heading) (clock : ℕ) (seen : List Seen) (query : List ℕ) (body : List ℕ)
+    → whole ≡ false → body ≡ [] → IsObjectBody whole heading seen query clock body
+no_object true heading clock seen query body is none = absurd (true≢false is)
+no_object false heading clock seen query body is none = none
 
 -- ---- answers
 
@@ -69,4 +87,18 @@ listed_as heading places clock seen known form whole body response at same made 
   at = at;
   made = subst (λ (seen : List Seen). IsChangesBody whole heading seen clock form body) same made;
   sent = sent;
+}
+
+pub named_as : (heading : Heading) (places : List Place) (clock : ℕ) (seen known : List Seen) (query : List ℕ) (whole : Bool)
+    (body : List ℕ) (code : ℕ) (response : Response)
+    → map seen_place seen ≡ places → known ≡ seen → IsObjectBody whole heading known query clock body
+    → code ≡ reached_code known → IsSent code (codes "text/html; charset=utf-8") body response
+    → IsObjectOf heading places clock query whole response
+named_as heading places clock seen known query whole body code response at same made coded sent = record {
+  seen = seen;
+  body = body;
+  at = at;
+  made = subst (λ (seen : List Seen). IsObjectBody whole heading seen query clock body) same made;
+  sent = subst (λ (seen : List Seen). IsSent (reached_code seen) (codes "text/html; charset=utf-8") body response) same
+      (subst (λ (code : ℕ). IsSent code (codes "text/html; charset=utf-8") body response) coded sent);
 }

@@ -1,5 +1,6 @@
--- The responses with the status (`IsStatusOf`) and with the changes (`AreChangesOf`) of gateways. Own rules.
-use Rattle.std.specs.Prelude.{◌≡◌, ℕ, Bool, List, map, is_some, if◌then◌else◌}
+-- The responses with the status (`IsStatusOf`) and with the changes (`AreChangesOf`) of gateways, and with
+-- the page of an object (`IsObjectOf`). Own rules.
+use Rattle.std.specs.Prelude.{◌≡◌, ℕ, Bool, List, map, is_some, codes, if◌then◌else◌}
 use Rattle.std.specs.List.{list_any}
 use Rattle.http_server.specs.declared.response.Response.{Response}
 use Rattle.page_watching.specs.declared.places.Place.{Place}
@@ -12,6 +13,7 @@ use Rattle.status_serving.specs.declared.bodies.Form.TheVariants.{Html, Json, Me
 use Rattle.status_serving.specs.declared.changing.ChangesForm.{ChangesForm}
 use Rattle.status_serving.specs.Pages.{IsStatusBody, status_kind}
 use Rattle.status_serving.specs.Changing.{IsChangesBody, kind_of}
+use Rattle.status_serving.specs.Naming.{IsObjectBody}
 
 -- whether a page is kept of a gateway
 abbrev pub is_reached : Seen → Bool
@@ -44,3 +46,12 @@ pub record AreChangesOf (heading : Heading) (places : List Place) (clock : ℕ) 
   pub at : map seen_place seen ≡ places
   pub made : IsChangesBody whole heading seen clock form body
   pub sent : IsSent 200 (kind_of form) body response
+
+-- the same of the page of the object that a query names
+pub record IsObjectOf (heading : Heading) (places : List Place) (clock : ℕ) (query : List ℕ) (whole : Bool)
+    (response : Response) : Type 0 where
+  pub seen : List Seen
+  pub body : List ℕ
+  pub at : map seen_place seen ≡ places
+  pub made : IsObjectBody whole heading seen query clock body
+  pub sent : IsSent (reached_code seen) (codes "text/html; charset=utf-8") body response

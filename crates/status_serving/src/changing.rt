@@ -64,8 +64,12 @@ fn all_changes<'t>(
     Ok(changes)
 }
 
-// The changes of the gateways of which this is kept, the newest first.
-fn changes_of<'t>(alloc: Global, seen: &'t [Seen<'t>]) -> Result<Vec<GatewayChange<'t>>, AllocError>
+/// The changes of the gateways of which this is kept, the newest first. The only error is out of
+/// memory.
+pub fn changes_of<'t>(
+    alloc: Global,
+    seen: &'t [Seen<'t>],
+) -> Result<Vec<GatewayChange<'t>>, AllocError>
     ensures { IfOk result (λ changes. AreChanges seen.now changes.items) }
 {
     let mut changes = all_changes(alloc, seen)?;

@@ -3,11 +3,12 @@ ghost use Rattle.std.specs.Prelude.{◌≡◌, OnOk, codes};
 ghost use Rattle.std.specs.List.{list_any};
 ghost use Rattle.http_server.specs.Response.{IsBlank};
 ghost use Rattle.web_answers.specs.Answers.{IsKept};
-ghost use Rattle.status_serving.specs.Sending.{is_reached, reached_code, status_code, IsStatusOf, AreChangesOf};
+ghost use Rattle.status_serving.specs.Sending.{is_reached, reached_code, status_code, IsStatusOf, AreChangesOf, IsObjectOf};
 
 use crate::bodies::{Form, status_body, status_kind};
 use crate::changing::{ChangesForm, changes_body, kind_of};
 use crate::headings::Heading;
+use crate::naming::object_body;
 use http::{HeaderValue, StatusCode};
 use http_server::Response;
 use page_watching::{Seen, Watch};
@@ -106,4 +107,24 @@ pub fn send_changes<R: Wait>(
     let seen = site.watch.seen(site.rt, site.alloc)?;
     let body = changes_body(site.alloc, &site.heading, seen.as_slice(), now, form, whole)?;
     send(response, StatusCode::OK, kind_of(form), body)
+}
+
+/// Answers with the page of the object that a query names, at a clock in seconds since 1970; `whole`:
+/// with its body. The only error is out of memory.
+pub fn send_object<R: Wait>(
+    site: &Site<'_, R>,
+    now: u32,
+    query: &str,
+    whole: bool,
+    response: &mut Response,
+) -> Result<(), AllocError>
+    requires { IsBlank response.old }
+    ensures { OnOk result (IsObjectOf site.now.heading site.now.watch.now.places.now now
+        query.now whole response.new) }
+{
+    let seen = site.watch.seen(site.rt, site.alloc)?;
+    let known = seen.as_slice();
+    let body = object_body(site.alloc, &site.heading, known, query, now, whole)?;
+    let kind = HeaderValue::from_static("text/html; charset=utf-8");
+    send(response, reached_code(known), kind, body)
 }

@@ -16,9 +16,9 @@ use Rattle.web_answers.specs.Hosts.{answers_host}
 use Rattle.status_serving.specs.declared.headings.Heading.{Heading}
 use Rattle.status_serving.specs.declared.bodies.Form.TheVariants.{Html, Json, Metrics}
 use Rattle.status_serving.specs.declared.changing.ChangesForm.TheVariants as changes
-use Rattle.status_serving.specs.Sending.{IsStatusOf, AreChangesOf}
+use Rattle.status_serving.specs.Sending.{IsStatusOf, AreChangesOf, IsObjectOf}
 use Rattle.statusweb.specs.declared.service.Route.{Route}
-use Rattle.statusweb.specs.declared.service.Route.TheVariants.{Status, Changes, Style}
+use Rattle.statusweb.specs.declared.service.Route.TheVariants.{Status, Object, Changes, Style}
 
 -- whether a method asks for an answer with its body (GET) or without it (HEAD); another asks for none of these
 abbrev pub body_asked : List ℕ → Option Bool
@@ -31,6 +31,7 @@ body_asked method =
 abbrev pub route_of : List ℕ → Option Route
 route_of path =
     if bytes_eq path (codes "/") then Some (Status Html)
+    else if bytes_eq path (codes "/object") then Some Object
     else if bytes_eq path (codes "/status.json") then Some (Status Json)
     else if bytes_eq path (codes "/metrics") then Some (Status Metrics)
     else if bytes_eq path (codes "/changes") then Some (Changes changes.Html)
@@ -43,6 +44,7 @@ route_of path =
 abbrev pub IsShownAt : Heading → List Place → ℕ → List ℕ → Bool → Option Route → Response → Type 0
 IsShownAt heading places clock query whole None response = IsRefusal 404 [] response
 IsShownAt heading places clock query whole (Some (Status form)) response = IsStatusOf heading places clock query form whole response
+IsShownAt heading places clock query whole (Some Object) response = IsObjectOf heading places clock query whole response
 IsShownAt heading places clock query whole (Some (Changes form)) response = AreChangesOf heading places clock form whole response
 IsShownAt heading places clock query whole (Some Style) response = IsKept (codes "text/css; charset=utf-8") STYLE.now response
 

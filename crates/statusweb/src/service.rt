@@ -8,7 +8,7 @@ use bytes::Bytes;
 use http::{Request, StatusCode};
 use http_server::{Response, Service};
 use page_watching::clock;
-use status_serving::{ChangesForm, Form, Site, send_changes, send_status, send_style};
+use status_serving::{ChangesForm, Form, Site, send_changes, send_object, send_status, send_style};
 use std::alloc::AllocError;
 use std::sync::Wait;
 use std::time::Clock;
@@ -18,6 +18,7 @@ use web_answers::{add_date, answers_host, refuse, refuse_method};
 #[derive(Clone, Copy)]
 pub enum Route {
     Status(Form),
+    Object,
     Changes(ChangesForm),
     Style,
 }
@@ -27,6 +28,8 @@ fn route_of(path: &str) -> Option<Route>
 {
     if path == "/" {
         Some(Route::Status(Form::Html))
+    } else if path == "/object" {
+        Some(Route::Object)
     } else if path == "/status.json" {
         Some(Route::Status(Form::Json))
     } else if path == "/metrics" {
@@ -74,6 +77,7 @@ fn send_path<R: Wait>(
         None => refuse(response, StatusCode::NOT_FOUND, site.alloc),
         Some(Route::Style) => send_style(site.alloc, response),
         Some(Route::Status(form)) => send_status(site, now, form, query, whole, response),
+        Some(Route::Object) => send_object(site, now, query, whole, response),
         Some(Route::Changes(form)) => send_changes(site, now, form, whole, response),
     }
 }
