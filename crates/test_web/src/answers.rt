@@ -1,5 +1,3 @@
-ghost use Rattle.std.specs.Prelude.{Unit};
-
 use bytes::Bytes;
 use http::{HeaderValue, Request, StatusCode};
 use http_server::{Config, Connection, Response, Service, serve};

@@ -53,13 +53,11 @@ fn a_gateway_without_a_page_is_down(rt: HostRuntime) -> Result<(), Fail> {
 }
 
 // The statuses of what is answered before the first page.
-fn statuses<R: Wait>(rt: &R, alloc: Global) -> Result<[StatusCode; 3], Fail> {
-    let places = places_in(alloc, &["east=127.0.0.1:5669"])?;
-    let watch = Watch::new(alloc, places.as_slice())?;
+fn statuses_of<R: Wait>(rt: &R, alloc: Global, watch: &Watch<'_>) -> Result<[StatusCode; 3], Fail> {
     let site = Site {
         rt,
         alloc,
-        watch: &watch,
+        watch,
         heading: HEADING,
     };
     let mut status = Response::new(alloc);
@@ -69,6 +67,12 @@ fn statuses<R: Wait>(rt: &R, alloc: Global) -> Result<[StatusCode; 3], Fail> {
     let mut style = Response::new(alloc);
     send_style(alloc, &mut style)?;
     Ok([status.status, changes.status, style.status])
+}
+
+fn statuses<R: Wait>(rt: &R, alloc: Global) -> Result<[StatusCode; 3], Fail> {
+    let places = places_in(alloc, &["east=127.0.0.1:5669"])?;
+    let watch = Watch::new(alloc, places.as_slice())?;
+    statuses_of(rt, alloc, &watch)
 }
 
 #[test]
