@@ -53,26 +53,35 @@ fn a_gateway_without_a_page_is_down(rt: HostRuntime) -> Result<(), Fail> {
 }
 
 // The statuses of what is answered before the first page.
-fn statuses_of<R: Wait>(rt: &R, alloc: Global, watch: &Watch<'_>) -> Result<[StatusCode; 3], Fail> {
+fn statuses_of<R: Wait>(site: &Site<'_, R>) -> Result<[StatusCode; 3], Fail> {
+    let mut status = Response::new(site.alloc);
+    send_status(site, 1_795_464_900, Form::Html, "", true, &mut status)?;
+    let mut changes = Response::new(site.alloc);
+    send_changes(site, 1_795_464_900, ChangesForm::Feed, true, &mut changes)?;
+    let mut style = Response::new(site.alloc);
+    send_style(site.alloc, &mut style)?;
+    Ok([status.status, changes.status, style.status])
+}
+
+fn statuses_over<'x, R: Wait>(
+    rt: &'x R,
+    alloc: Global,
+    watch: &'x Watch<'_>,
+) -> Result<[StatusCode; 3], Fail> {
+    let heading = HEADING;
     let site = Site {
         rt,
         alloc,
         watch,
-        heading: HEADING,
+        heading,
     };
-    let mut status = Response::new(alloc);
-    send_status(&site, 1_795_464_900, Form::Html, "", true, &mut status)?;
-    let mut changes = Response::new(alloc);
-    send_changes(&site, 1_795_464_900, ChangesForm::Feed, true, &mut changes)?;
-    let mut style = Response::new(alloc);
-    send_style(alloc, &mut style)?;
-    Ok([status.status, changes.status, style.status])
+    statuses_of(&site)
 }
 
 fn statuses<R: Wait>(rt: &R, alloc: Global) -> Result<[StatusCode; 3], Fail> {
     let places = places_in(alloc, &["east=127.0.0.1:5669"])?;
     let watch = Watch::new(alloc, places.as_slice())?;
-    statuses_of(rt, alloc, &watch)
+    statuses_over(rt, alloc, &watch)
 }
 
 #[test]
