@@ -1,0 +1,91 @@
+use crate::guard::{ANN, GOOD, NOW, guard, request};
+use desk_forms::{AdmittedForm, FieldsFault, admit_form, command_on, read_fields};
+use desk_guard::SentForms;
+use gate_grammar::write_body;
+use gate_model::Moment;
+use status_reading::read_status_page;
+use std::alloc::Global;
+use std::test::*;
+
+const PAGE: &str = "status 1000\nobject;web1;;UP;900;fresh;-;1;\n\
+    object;web1;a b\\\\c;CRITICAL;900;fresh;-;0;timeout\n\
+    comment;3;web1;a b\\\\c;user;0;900;ann;seen\n\
+    downtime;5;web1;;fixed;0;900;1200;300;900;ann;work\n";
+
+// The form of an admitted request, with the token before these fields, or its fault's text.
+pub fn form_of(alloc: Global, fields: &str) -> Option<Result<AdmittedForm, String>> {
+    let mut body = format!(in alloc; "token={ANN}&").ok()?;
+    body.push_str(fields).ok()?;
+    let request = request(alloc, &GOOD, body.as_bytes())?;
+    let mut sent = SentForms::new(alloc);
+    match admit_form(alloc, &guard(alloc)?, &mut sent, &request, NOW) {
+        Ok(form) => Some(Ok(form)),
+        Err(fault) => Some(Err(fault.to_string(alloc).ok()?)),
+    }
+}
+
+// The line of the command of a form, or its fault's text.
+fn line(alloc: Global, fields: &str) -> Option<Vec<u8>> {
+    let form = match form_of(alloc, fields)? {
+        Ok(form) => form,
+        Err(text) => return Some(text.into_bytes()),
+    };
+    let page = read_status_page(alloc, PAGE.as_bytes()).ok()?;
+    match command_on(alloc, &page, Moment(1000), &form) {
+        Ok(body) => write_body(alloc, &body).ok(),
+        Err(fault) => Some(fault.to_string(alloc).ok()?.into_bytes()),
+    }
+}
+
+#[rattlefmt::skip]
+const CASES: [(&str, &str); 19] = [
+    // ---- commands
+    ("action=acknowledge&host=web1&service=a+b%5C%5Cc&text=on+it%3B+100%25&sticky=on",
+        "ACKNOWLEDGE_SVC_PROBLEM;web1;a b\\c;2;1;0;ann;on it; 100%"),
+    ("action=acknowledge&host=web1&service=&text=on+it&author=carol",
+        "ACKNOWLEDGE_HOST_PROBLEM;web1;1;1;0;ann;on it"),
+    ("action=unacknowledge&host=web1", "REMOVE_HOST_ACKNOWLEDGEMENT;web1"),
+    ("action=comment&host=web1&text=gr%C3%BCn&persistent=1", "ADD_HOST_COMMENT;web1;1;ann;gr\u{fc}n"),
+    ("action=uncomment&id=3", "DEL_SVC_COMMENT;3"),
+    ("action=downtime&host=web1&text=work&for=2h&until=&from=&flexible=",
+        "SCHEDULE_HOST_DOWNTIME;web1;1000;8200;1;0;0;ann;work"),
+    ("action=downtime&host=web1&text=work&for=1d&flexible=30m&services=on",
+        "SCHEDULE_HOST_SVC_DOWNTIME;web1;1000;87400;0;0;1800;ann;work"),
+    ("action=cancel&id=5", "DEL_HOST_DOWNTIME;5"),
+    ("action=passive&host=web1&setting=off", "DISABLE_PASSIVE_HOST_CHECKS;web1"),
+    // ---- faults
+    ("action=comment&host=web1&text=", "the comment is missing"),
+    ("action=comment&host=web2&text=hi", "the page doesn't show this object"),
+    ("action=comment&host=web1&service=HTTP&text=hi", "the page doesn't show this object"),
+    ("action=shutdown&host=web1", "the form names no action"),
+    ("action=uncomment&id=4", "the page doesn't show this entry"),
+    ("action=cancel&id=3", "the page doesn't show this entry"),
+    ("action=passive&host=web1&setting=maybe", "passive is on or off"),
+    ("action=comment&host=web1&text=a&text=b", "the form has a field twice"),
+    ("action=comment&host=web1&text=gr%FCn", "the form is not UTF-8"),
+    ("token=&action=unacknowledge&host=web1", "the form has a field twice"),
+];
+
+#[test]
+fn a_form_asks_for_its_command(rt: HostRuntime) {
+    let alloc = rt.alloc();
+    for (form, expected) in CASES {
+        let line = line(alloc, form);
+        assert!(rt;
+            line.is_some_and(|line| line.as_slice() == expected.as_bytes()),
+            "{form}"
+        );
+    }
+}
+
+#[test]
+fn a_form_has_at_most_16384_bytes(rt: HostRuntime) -> Result<(), Fail> {
+    let alloc = rt.alloc();
+    let body = vec![in alloc; b'a'; 16385]?;
+    assert_eq!(rt; read_fields(alloc, &body.as_slice()[..16384]).err(), None);
+    assert_eq!(rt;
+        read_fields(alloc, body.as_slice()).err(),
+        Some(FieldsFault::TooLong)
+    );
+    Ok(())
+}

@@ -1,0 +1,12 @@
+//! Tests of commands from a browser through the public items of its crates: which requests are
+//! admitted, the command that a form asks for, its line, and the page with forms.
+#![tactic(auto)]
+
+#[cfg(test)]
+mod forms;
+#[cfg(test)]
+mod guard;
+#[cfg(test)]
+mod sending;
+#[cfg(test)]
+mod view;
