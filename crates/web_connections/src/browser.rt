@@ -45,6 +45,8 @@ pub(crate) struct Browser {
     // Whether a read or a write may find something to do.
     pub(crate) may_read: bool,
     pub(crate) may_write: bool,
+    // The length of the longest piece of its answer, which is kept until all of it is taken.
+    kept: usize,
     is_parting: bool,
     // When it was accepted, or when it was sent all, in milliseconds.
     pub(crate) since: u64,
@@ -67,6 +69,7 @@ impl Browser {
             connection,
             may_read: true,
             may_write: true,
+            kept: 0,
             is_parting: false,
             since: now,
         }
@@ -88,9 +91,10 @@ impl Browser {
         now.saturating_sub(self.since) >= limit_of(self.owed())
     }
 
-    /// How many bytes for it the system hasn't taken yet, as far as they stand in one piece.
-    pub(crate) fn unsent(&self) -> usize {
-        self.connection.output().len()
+    /// How many bytes are kept for it, as far as they are one piece: a piece is kept until the system has
+    /// taken all of it.
+    pub(crate) fn kept(&self) -> usize {
+        self.kept
     }
 
     /// Whether something can be done for it without waiting.
@@ -110,7 +114,11 @@ impl Browser {
         match unless_blocked(self.connection.write_to(&mut self.stream))? {
             None => self.may_write = false,
             Some(0) => return Err(io::Error::from(ErrorKind::WriteZero)),
-            Some(_) => return Ok(true),
+            Some(_) => {
+                let left = self.connection.output().len();
+                self.kept = if left == 0 { 0 } else { self.kept.max(left) };
+                return Ok(true);
+            }
         }
         Ok(false)
     }

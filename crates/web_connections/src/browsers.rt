@@ -18,7 +18,7 @@ const MOST_BROWSERS: usize = 256;
 
 /// How many bytes are kept for the browsers of a thread that don't take them, in all. Where one that
 /// doesn't take its bytes has more, it is the only one.
-const MOST_UNSENT: usize = 33_554_432;
+const MOST_KEPT: usize = 33_554_432;
 
 /// The milliseconds of a pause where no connection can be accepted, as without descriptors.
 const ACCEPT_MILLIS: u64 = 50;
@@ -83,12 +83,12 @@ impl Browsers {
     }
 
     // The place of the browser that has had bytes to take, or none, for the longest time.
-    fn longest(&self, has_unsent: bool) -> Option<usize> {
+    fn longest(&self, has_kept: bool) -> Option<usize> {
         let mut longest = None;
         let mut least = u64::MAX;
         for place in 0..self.browsers.len() {
             if let Some(browser) = &self.browsers[place] {
-                if (browser.unsent() > 0) == has_unsent && browser.since < least {
+                if (browser.kept() > 0) == has_kept && browser.since < least {
                     longest = Some(place);
                     least = browser.since;
                 }
@@ -106,8 +106,8 @@ impl Browsers {
 
     // Closes the connection of the browser that has had bytes to take, or none, for the longest time: its
     // place.
-    fn let_go(&mut self, has_unsent: bool) -> Option<usize> {
-        let place = self.longest(has_unsent)?;
+    fn let_go(&mut self, has_kept: bool) -> Option<usize> {
+        let place = self.longest(has_kept)?;
         self.close(place);
         Some(place)
     }
@@ -208,21 +208,21 @@ impl Browsers {
     }
 
     // How many bytes are kept for all browsers.
-    fn unsent(&self) -> usize {
+    fn kept(&self) -> usize {
         let mut sum = 0usize;
         for browser in &self.browsers {
             if let Some(browser) = browser {
-                sum = sum.saturating_add(browser.unsent());
+                sum = sum.saturating_add(browser.kept());
             }
         }
         sum
     }
 
     // Lets go of browsers that don't take their bytes, until few enough are kept.
-    fn limit_unsent(&mut self) {
+    fn limit_kept(&mut self) {
         for _ in 0..MOST_BROWSERS {
             let open = self.browsers.iter().filter(|one| one.is_some()).count();
-            if open < 2 || self.unsent() <= MOST_UNSENT || self.let_go(true).is_none() {
+            if open < 2 || self.kept() <= MOST_KEPT || self.let_go(true).is_none() {
                 return;
             }
         }
@@ -239,7 +239,7 @@ impl Browsers {
         for place in 0..self.browsers.len() {
             self.go_on(service, place, now);
         }
-        self.limit_unsent();
+        self.limit_kept();
     }
 
     /// Answers browsers by this service, for ever. A request has to be whole within 4 seconds of the
