@@ -127,7 +127,7 @@ object_json shown =
     ∷ (codes "stale", boolean shown.row.stale)
     ∷ (codes "acknowledgement", string (acknowledgement_word shown.row.acknowledgement))
     ∷ (codes "depth", number_json shown.row.depth)
-    ∷ (codes "unhandled", boolean (is_unhandled shown.row))
+    ∷ (codes "unhandled", boolean (is_unhandled shown))
     ∷ (codes "output", field_json shown.row.output.now)
     ∷ []
     ))

@@ -131,7 +131,7 @@ object_gauges counts =
     ∷ number_gauge (codes "nscagate_objects_stale")
     (codes "Objects without a result for longer than their threshold.") counts.stale
     ∷ number_gauge (codes "nscagate_problems_unhandled")
-    (codes "Problems neither acknowledged nor in downtime.") counts.unhandled
+    (codes "Problems neither acknowledged nor in downtime, without services whose host is out.") counts.unhandled
     ∷ number_gauge (codes "nscagate_objects_acknowledged") (codes "Objects with an acknowledgement.")
     counts.acknowledged
     ∷ number_gauge (codes "nscagate_objects_in_downtime") (codes "Objects in active downtime.") counts.in_downtime
@@ -143,14 +143,15 @@ abbrev pub flag_word : Bool → List ℕ
 flag_word flag = if flag then codes "true" else codes "false"
 
 -- the sample of these labels
-abbrev pub labelled : List ℕ → List ℕ → List ℕ → List ℕ → List ℕ → List ℕ → Sample
-labelled gateway host service state acknowledged downtime = record {
+abbrev pub labelled : List ℕ → List ℕ → List ℕ → List ℕ → List ℕ → List ℕ → List ℕ → Sample
+labelled gateway host service state acknowledged downtime host_out = record {
   labels = (codes "gateway", gateway)
       ∷ (codes "host", host)
       ∷ (codes "service", service)
       ∷ (codes "state", state)
       ∷ (codes "acknowledged", acknowledged)
       ∷ (codes "downtime", downtime)
+      ∷ (codes "host_out", host_out)
       ∷ [];
   number = 1;
 }
@@ -164,6 +165,7 @@ object_sample object =
     (state_name object.row.state)
     (flag_word (is_made object.row.acknowledgement))
     (flag_word (nat_lt 0 object.row.depth))
+    (flag_word object.host_is_out)
 
 -- none where the object has no problem
 abbrev pub problem_samples : MergedObject → List Sample

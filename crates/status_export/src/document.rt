@@ -115,7 +115,7 @@ fn push_object(
         acknowledgement_word(row.acknowledgement),
     )?;
     members::number(writer, "depth", row.depth)?;
-    members::flag(writer, "unhandled", is_unhandled(row))?;
+    members::flag(writer, "unhandled", is_unhandled(shown))?;
     members::field(alloc, writer, "output", row.output)?;
     writer.end_object()
 }

@@ -236,7 +236,7 @@ fn push_object_gauges(out: &mut Vec<u8>, counts: &Counts) -> Result<(), AllocErr
     push_number_gauge(
         out,
         "nscagate_problems_unhandled",
-        "Problems neither acknowledged nor in downtime.",
+        "Problems neither acknowledged nor in downtime, without services whose host is out.",
         counts.unhandled,
     )?;
     push_number_gauge(
@@ -269,10 +269,11 @@ fn push_labelled<'a>(
     state: &'a str,
     acknowledged: &'a str,
     downtime: &'a str,
+    host_out: &'a str,
 ) -> Result<(), AllocError>
     ensures { OnOk result (Appends out.old.items out.new.items
-        (sample_text name.now
-        (labelled gateway.now host.now service.now state.now acknowledged.now downtime.now))) }
+        (sample_text name.now (labelled gateway.now host.now service.now state.now
+        acknowledged.now downtime.now host_out.now))) }
 {
     let labels = [
         ("gateway", gateway),
@@ -281,6 +282,7 @@ fn push_labelled<'a>(
         ("state", state),
         ("acknowledged", acknowledged),
         ("downtime", downtime),
+        ("host_out", host_out),
     ];
     push_sample(out, name, &labels, 1)
 }
@@ -307,6 +309,7 @@ fn push_object(
         state_name(row.state),
         flag_word(is_made(row.acknowledgement)),
         flag_word(row.depth > 0),
+        flag_word(object.host_is_out),
     )
 }
 

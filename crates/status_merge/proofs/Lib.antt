@@ -2,5 +2,9 @@ pub mod GroupSteps
 pub mod LatestSteps
 pub mod FirstLaws
 pub mod MergeLaws
+pub mod HostSteps
+pub mod StateLaws
+pub mod MarkLaws
+pub mod SelectingSteps
 pub mod EntrySteps
 pub mod AskingSteps

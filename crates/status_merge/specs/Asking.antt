@@ -1,6 +1,6 @@
--- What the query of a URL asks for: `choice_asked`, `host_asked` and `refresh_asked`, of its pairs of names and values.
--- Own rules.
-use Rattle.std.specs.Prelude.{ℕ, ◌^◌, Bool, ◌==◌, ◌&&◌, nat_lt, min, max, if◌then◌else◌, List, [], length, map, filter, Option, Some, None, unwrap_or, codes}
+-- What the query of a URL asks for, of its pairs of names and values: which objects (`asked_in`), which page of them
+-- (`page_asked`), and when a browser asks again (`refresh_asked`). Own rules.
+use Rattle.std.specs.Prelude.{ℕ, ◌^◌, Bool, true, false, ◌==◌, ◌&&◌, nat_lt, min, max, if◌then◌else◌, List, [], length, map, filter, Option, Some, None, unwrap_or, codes, string_bytes}
 use Rattle.std.specs.List.{last_or}
 use Rattle.std.specs.Option.{option_map_or}
 use Rattle.std.specs.Str.{bytes_eq, str_eq_ignore_ascii_case, all_ascii_digits}
@@ -9,6 +9,7 @@ use Rattle.std.specs.Str.Parse.{digits_value, without_leading_plus}
 use Rattle.form_urlencoded.specs.Form.{decode}
 use Rattle.gate_model.specs.declared.state.State.{State}
 use Rattle.gate_model.specs.declared.state.State.TheVariants.{Pending, Ok, Warning, Critical, Unknown, Up, Down, Unreachable}
+use Rattle.status_merge.specs.declared.query.Query.{Query}
 use Rattle.status_merge.specs.declared.query.Choice.{Choice}
 use Rattle.status_merge.specs.declared.query.Choice.TheVariants.{All, Problems, Unhandled, Stale, In}
 
@@ -58,20 +59,41 @@ choice_without word =
 abbrev pub choice_of : List ℕ → Choice
 choice_of word = elim (state_of word) [ Some state ↦ In state | None ↦ choice_without word ]
 
--- ---- seconds
+-- what a word asks of a mark: `yes` or `no`, in any case; another word restricts nothing
+abbrev pub mark_of : List ℕ → Option Bool
+mark_of word =
+    if str_eq_ignore_ascii_case word (codes "yes") then Some true
+    else if str_eq_ignore_ascii_case word (codes "no") then Some false
+    else None
+
+-- the word of what is asked of a mark
+abbrev pub mark_word : Option Bool → List ℕ
+mark_word None = codes "any"
+mark_word (Some true) = codes "yes"
+mark_word (Some false) = codes "no"
+
+-- ---- numbers
 
 -- whether these are digits that write a number of 32 bits
 abbrev pub are_digits : List ℕ → Bool
 are_digits digits = nat_lt 0 (length digits) && (all_ascii_digits digits && nat_lt (digits_value 10 digits) (2 ^ 32))
 
+-- the number of 32 bits that a text writes, which may begin with a plus
+abbrev pub number_of : List ℕ → Option ℕ
+number_of text =
+    if are_digits (without_leading_plus text) then Some (digits_value 10 (without_leading_plus text)) else None
+
 -- 0, or 2 to 3600
 abbrev pub in_range : ℕ → ℕ
 in_range seconds = if seconds == 0 then 0 else max 2 (min seconds 3600)
 
--- the seconds of a text, which may begin with a plus; another text is the default
+-- the seconds of a text; one that writes no number is the default
 abbrev pub refresh_of : ℕ → List ℕ → ℕ
-refresh_of default text =
-    if are_digits (without_leading_plus text) then in_range (digits_value 10 (without_leading_plus text)) else default
+refresh_of default text = option_map_or in_range (number_of text) default
+
+-- the number of a page, from 1; a text that writes no number is the first page
+abbrev pub page_of : List ℕ → ℕ
+page_of text = option_map_or (max 1) (number_of text) 1
 
 -- ---- a query
 
@@ -85,12 +107,60 @@ value_of name pairs =
     last_or None
     (map (λ (pair : List ℕ × List ℕ). text_of pair.1) (filter (λ pair. bytes_eq (text_of pair.0) name) pairs))
 
--- the choice that a query asks for, the text of the host, and the seconds, each with its default
-abbrev pub choice_asked : List (List ℕ × List ℕ) → Choice
-choice_asked pairs = option_map_or choice_of (value_of (codes "state") pairs) All
+-- the text of this name; empty where it is missing
+abbrev pub text_asked : List ℕ → List (List ℕ × List ℕ) → List ℕ
+text_asked name pairs = unwrap_or (value_of name pairs) []
 
-abbrev pub host_asked : List (List ℕ × List ℕ) → List ℕ
-host_asked pairs = unwrap_or (value_of (codes "host") pairs) []
+-- which objects are asked for: by their state; by texts that the names of the host and of the service, and the output,
+-- contain; by the name of the gateway; and by their marks
+pub record Asked : Type 0 where
+  pub choice : Choice
+  pub host : List ℕ
+  pub service : List ℕ
+  pub output : List ℕ
+  pub gateway : List ℕ
+  pub acknowledged : Option Bool
+  pub downtime : Option Bool
+
+-- those that a query asks for
+abbrev pub asked_in : List (List ℕ × List ℕ) → Asked
+asked_in pairs = record {
+  choice = option_map_or choice_of (value_of (codes "state") pairs) All;
+  host = text_asked (codes "host") pairs;
+  service = text_asked (codes "service") pairs;
+  output = text_asked (codes "output") pairs;
+  gateway = text_asked (codes "gateway") pairs;
+  acknowledged = option_map_or mark_of (value_of (codes "acknowledged") pairs) None;
+  downtime = option_map_or mark_of (value_of (codes "downtime") pairs) None;
+}
+
+-- the number of the page, and the seconds, each with its default
+abbrev pub page_asked : List (List ℕ × List ℕ) → ℕ
+page_asked pairs = option_map_or page_of (value_of (codes "page") pairs) 1
 
 abbrev pub refresh_asked : ℕ → List (List ℕ × List ℕ) → ℕ
 refresh_asked default pairs = option_map_or (refresh_of default) (value_of (codes "refresh") pairs) default
+
+-- those that a query that was read asks for
+abbrev pub asked_by : Query → Asked
+asked_by query = record {
+  choice = query.choice;
+  host = string_bytes query.host;
+  service = string_bytes query.service;
+  output = string_bytes query.output;
+  gateway = string_bytes query.gateway;
+  acknowledged = query.acknowledged;
+  downtime = query.downtime;
+}
+
+-- those of a choice alone
+abbrev pub only : Choice → Asked
+only choice = record {
+  choice = choice;
+  host = [];
+  service = [];
+  output = [];
+  gateway = [];
+  acknowledged = None;
+  downtime = None;
+}

@@ -1,8 +1,12 @@
 -- The objects of several gateways' pages as one list: `merged`.
-use Rattle.std.specs.Prelude.{◌≡◌, ℕ, ◌+◌, Bool, false, true, ◌&&◌, ◌||◌, not, nat_lt, min, is_some, List, [], map, filter, find, slice_get, Option, Some, None, Ok, Err, unwrap_or}
+use Rattle.std.specs.Prelude.{◌≡◌, ℕ, ◌+◌, Bool, false, true, ◌&&◌, ◌||◌, ◌==◌, not, nat_lt, length, min, is_some, List, [], map, filter, find, slice_get, Option, Some, None, Ok, Err, unwrap_or}
 use Rattle.std.specs.List.{All, AllPass, Contains, IsDistinct, list_all, list_any, enumerate_from}
 use Rattle.std.specs.Str.{bytes_eq}
+use Rattle.gate_model.specs.State.{is_problem}
+use Rattle.gate_model.specs.Table.{object_kind}
 use Rattle.status_reading.specs.declared.rows.ShownObject.{ShownObject}
+use Rattle.status_reading.specs.Rows.{page_view}
+use Rattle.status_reading.specs.RowFaults.{service_name, is_state_of, IsSound}
 use Rattle.status_merge.specs.declared.gateway.Gateway.{Gateway}
 use Rattle.status_merge.specs.declared.gateway.MergedObject.{MergedObject}
 use Rattle.status_merge.specs.Groups.{groups}
@@ -29,6 +33,24 @@ latest group = unwrap_or (find (is_latest group.1) group.1) group.0
 abbrev pub merged : List MergedObject → List MergedObject
 merged rows = map latest (groups same_name rows)
 
+-- whether an object is a host that is DOWN, UNREACHABLE or in downtime
+abbrev pub is_host_out : MergedObject → Bool
+is_host_out object = (length object.row.service.now == 0) && (is_problem object.row.state || nat_lt 0 object.row.depth)
+
+-- whether an object is a service of such a host
+abbrev pub has_host_out : List MergedObject → MergedObject → Bool
+has_host_out objects object =
+    not (length object.row.service.now == 0)
+    && list_any (λ host. is_host_out host && bytes_eq host.row.host.now object.row.host.now) objects
+
+-- the objects, each with that
+abbrev pub with_hosts : List MergedObject → List MergedObject
+with_hosts objects = map (λ (object : MergedObject). record object { host_is_out = has_host_out objects object }) objects
+
+-- an object without that mark, as the rows of pages are
+abbrev pub unmarked : MergedObject → MergedObject
+unmarked object = record object { host_is_out = false }
+
 -- each name of the rows stands once, by a row of that name than which none is later
 pub record IsListOf (rows shown : List MergedObject) : Type 0 where
   pub once : IsDistinct same_name shown
@@ -48,6 +70,7 @@ shown_by gateway moment index row = record {
   gateway = gateway.name;
   moment = min (moment + age_of gateway) 4294967295;
   since = unwrap_or (slice_get gateway.since.now index) moment;
+  host_is_out = false;
   row = record row { stale = row.stale || is_some gateway.old };
 }
 
@@ -59,3 +82,12 @@ objects_on gateway = elim gateway.page [
       (enumerate_from 0 page.objects.items)
   | Err fault ↦ []
 ]
+
+-- an object has a state of its kind (Nagios Core 4 manual, Passive Checks)
+abbrev pub HasOwnState : MergedObject → Type 0
+HasOwnState object =
+    is_state_of object.row.last (object_kind (service_name object.row.service.now)) object.row.state ≡ true
+
+-- the page of a gateway, where there is one, has no row that no gateway writes, as each page that is read
+abbrev pub HasSoundPage : Gateway → Type 0
+HasSoundPage gateway = elim gateway.page [ Ok page ↦ IsSound (page_view page) | Err fault ↦ Unit {0} ]

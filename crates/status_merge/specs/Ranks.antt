@@ -5,7 +5,6 @@ use Rattle.gate_model.specs.declared.state.State.TheVariants.{Pending, Ok, Warni
 use Rattle.gate_model.specs.State.{is_problem, is_same_state}
 use Rattle.status_reading.specs.declared.rows.ShownAcknowledgement.{ShownAcknowledgement}
 use Rattle.status_reading.specs.declared.rows.ShownAcknowledgement.TheVariants.{Missing, Normal, Sticky}
-use Rattle.status_reading.specs.declared.rows.ShownObject.{ShownObject}
 use Rattle.status_merge.specs.declared.gateway.MergedObject.{MergedObject}
 use Rattle.status_merge.specs.declared.counts.Counts.{Counts}
 
@@ -15,9 +14,12 @@ is_made Missing = false
 is_made Normal = true
 is_made Sticky = true
 
--- a problem without an acknowledgement and in no downtime
-abbrev pub is_unhandled : ShownObject → Bool
-is_unhandled row = is_problem row.state && not (is_made row.acknowledgement) && (row.depth == 0)
+-- a problem without an acknowledgement and in no downtime, of a host, or of a service whose host is neither DOWN nor
+-- UNREACHABLE nor in downtime
+abbrev pub is_unhandled : MergedObject → Bool
+is_unhandled object =
+    is_problem object.row.state && not (is_made object.row.acknowledgement) && (object.row.depth == 0)
+    && not object.host_is_out
 
 -- the rank of a problem among problems: DOWN and CRITICAL, UNREACHABLE, UNKNOWN, WARNING
 abbrev pub severity : State → ℕ
@@ -31,12 +33,12 @@ severity Ok = 3
 severity Up = 3
 
 -- unhandled problems 0 to 3, stale objects that are no problem 4, handled problems 5 to 8, PENDING 9, OK and UP 10
-abbrev pub rank : ShownObject → ℕ
-rank row =
-    if is_unhandled row then severity row.state
-    else if is_problem row.state then severity row.state + 5
-    else if row.stale then 4
-    else if is_same_state row.state Pending then 9
+abbrev pub rank : MergedObject → ℕ
+rank object =
+    if is_unhandled object then severity object.row.state
+    else if is_problem object.row.state then severity object.row.state + 5
+    else if object.row.stale then 4
+    else if is_same_state object.row.state Pending then 9
     else 10
 
 -- whether an object is a host, or a service, in a state
@@ -66,7 +68,7 @@ counts_of objects = record {
   unknown = services_in Unknown objects;
   service_pending = services_in Pending objects;
   stale = count_by (λ object. object.row.stale) objects;
-  unhandled = count_by (λ object. is_unhandled object.row) objects;
+  unhandled = count_by is_unhandled objects;
   acknowledged = count_by (λ object. is_made object.row.acknowledgement) objects;
   in_downtime = count_by (λ object. nat_lt 0 object.row.depth) objects;
   objects = length objects;

@@ -55,12 +55,9 @@ fn stale_in(objects: &[MergedObject<'_>]) -> usize
 }
 
 fn unhandled_in(objects: &[MergedObject<'_>]) -> usize
-    ensures { result ≡ count_by (λ object. is_unhandled object.row) objects.now }
+    ensures { result ≡ count_by is_unhandled objects.now }
 {
-    objects
-        .iter()
-        .filter(|object| is_unhandled(&object.row))
-        .count()
+    objects.iter().filter(|object| is_unhandled(object)).count()
 }
 
 fn acknowledged_in(objects: &[MergedObject<'_>]) -> usize

@@ -32,5 +32,7 @@ pub struct MergedObject<'a> {
     pub moment: u32,
     /// Since when that gateway's pages show the state, in seconds since 1970.
     pub since: u32,
+    /// Whether it is a service whose host is DOWN, UNREACHABLE or in downtime.
+    pub host_is_out: bool,
     pub row: ShownObject<'a>,
 }

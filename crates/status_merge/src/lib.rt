@@ -18,6 +18,6 @@ pub use entries::{
 };
 pub use gateway::{Gateway, MergedObject, Old};
 pub use merging::{age_of, merge};
-pub use query::{Choice, Query, choice_name, read_query};
+pub use query::{Choice, Query, choice_name, mark_name, read_query};
 pub use ranks::{is_made, is_unhandled, rank};
-pub use selecting::select;
+pub use selecting::{page_rows, select};

@@ -1,7 +1,8 @@
 ghost use Rattle.std.specs.Prelude.{◌≡◌, IfOk, OnOk, codes, if◌then◌else◌, string_bytes};
 ghost use Rattle.std.specs.Str.{bytes_eq};
 ghost use Rattle.form_urlencoded.specs.Form.{raw_pairs};
-ghost use Rattle.status_merge.specs.Asking.{choice_word, choice_of, state_of, in_range, refresh_of, choice_asked, host_asked, refresh_asked};
+ghost use Rattle.status_merge.specs.declared.query.Choice.TheVariants.{All};
+ghost use Rattle.status_merge.specs.Asking.{choice_word, choice_of, state_of, mark_word, mark_of, number_of, in_range, refresh_of, page_of, asked_in, asked_by, only, page_asked, refresh_asked};
 
 use form_urlencoded::parse;
 use status_reading::State;
@@ -18,14 +19,45 @@ pub enum Choice {
     In(State),
 }
 
-/// What a request asks to see.
+/// What a request asks to see: the objects of which all of this holds.
 #[derive(Debug, Drop)]
 pub struct Query {
     pub choice: Choice,
-    /// Hosts are shown whose names contain this text.
+    /// The name of the object's host contains this text, that of its service this one, and its output
+    /// this one, in any case of ASCII letters.
     pub host: String,
+    pub service: String,
+    pub output: String,
+    /// The name of its gateway, exactly; empty: any.
+    pub gateway: String,
+    /// Whether it is acknowledged, and whether it is in downtime.
+    pub acknowledged: Option<bool>,
+    pub downtime: Option<bool>,
+    /// The number of the page of 500 objects, from 1.
+    pub page: u32,
     /// The seconds after which the browser asks again; 0: it doesn't.
     pub refresh: u32,
+}
+
+impl Query {
+    /// The first page of all objects.
+    pub fn new(alloc: Global, refresh: u32) -> Query
+        ensures asked { asked_by result ≡ only All }
+        ensures page { result.page ≡ 1 }
+        ensures refresh { result.refresh ≡ refresh }
+    {
+        Query {
+            choice: Choice::All,
+            host: String::new(alloc),
+            service: String::new(alloc),
+            output: String::new(alloc),
+            gateway: String::new(alloc),
+            acknowledged: None,
+            downtime: None,
+            page: 1,
+            refresh,
+        }
+    }
 }
 
 /// The word of a choice in a query, which is read as this choice.
@@ -46,6 +78,18 @@ pub fn choice_name(choice: Choice) -> &'static str
         Choice::In(State::Up) => "up",
         Choice::In(State::Down) => "down",
         Choice::In(State::Unreachable) => "unreachable",
+    }
+}
+
+/// The word of what a query asks of a mark, which is read as this.
+pub fn mark_name(mark: Option<bool>) -> &'static str
+    ensures word { result.now ≡ mark_word mark }
+    ensures read { mark_of result.now ≡ mark }
+{
+    match mark {
+        None => "any",
+        Some(true) => "yes",
+        Some(false) => "no",
     }
 }
 
@@ -104,14 +148,60 @@ fn in_range(seconds: u32) -> u32
     }
 }
 
-// The seconds that a text gives.
+fn mark_of(word: &str) -> Option<bool>
+    ensures { result ≡ mark_of word.now }
+{
+    if word.eq_ignore_ascii_case("yes") {
+        Some(true)
+    } else if word.eq_ignore_ascii_case("no") {
+        Some(false)
+    } else {
+        None
+    }
+}
+
+fn number_of(text: &str) -> Option<u32>
+    ensures { result ≡ number_of text.now }
+{
+    match text.parse::<u32>() {
+        Ok(number) => Some(number),
+        Err(_) => None,
+    }
+}
+
 fn refresh_of(text: &str, default: u32) -> u32
     ensures { result ≡ refresh_of default text.now }
 {
-    match text.parse::<u32>() {
-        Ok(seconds) => in_range(seconds),
-        Err(_) => default,
+    match number_of(text) {
+        Some(seconds) => in_range(seconds),
+        None => default,
     }
+}
+
+fn page_of(text: &str) -> u32
+    ensures { result ≡ page_of text.now }
+{
+    match number_of(text) {
+        Some(page) => page.max(1),
+        None => 1,
+    }
+}
+
+// Takes a text of a query into account, if it is of this name.
+fn add_text(
+    alloc: Global,
+    text: &mut String,
+    wanted: &str,
+    name: &str,
+    value: &str,
+) -> Result<(), AllocError>
+    ensures { OnOk result (string_bytes text.new
+        ≡ (if bytes_eq name.now wanted.now then value.now else string_bytes text.old)) }
+{
+    if name == wanted {
+        *text = String::from_str(alloc, value)?;
+    }
+    Ok(())
 }
 
 // Takes one pair of a query into account.
@@ -126,36 +216,56 @@ fn add_pair(
         ≡ (if bytes_eq name.now (codes "state") then choice_of value.now else query.old.choice)) }
     ensures host { OnOk result (string_bytes query.new.host
         ≡ (if bytes_eq name.now (codes "host") then value.now else string_bytes query.old.host)) }
+    ensures service { OnOk result (string_bytes query.new.service ≡ (if bytes_eq name.now
+        (codes "service") then value.now else string_bytes query.old.service)) }
+    ensures output { OnOk result (string_bytes query.new.output ≡ (if bytes_eq name.now
+        (codes "output") then value.now else string_bytes query.old.output)) }
+    ensures gateway { OnOk result (string_bytes query.new.gateway ≡ (if bytes_eq name.now
+        (codes "gateway") then value.now else string_bytes query.old.gateway)) }
+    ensures acknowledged { OnOk result (query.new.acknowledged ≡ (if bytes_eq name.now
+        (codes "acknowledged") then mark_of value.now else query.old.acknowledged)) }
+    ensures downtime { OnOk result (query.new.downtime ≡ (if bytes_eq name.now
+        (codes "downtime") then mark_of value.now else query.old.downtime)) }
+    ensures page { OnOk result (query.new.page
+        ≡ (if bytes_eq name.now (codes "page") then page_of value.now else query.old.page)) }
     ensures refresh { OnOk result (query.new.refresh
         ≡ (if bytes_eq name.now (codes "refresh") then refresh_of refresh value.now
         else query.old.refresh)) }
 {
     if name == "state" {
         query.choice = choice_of(value);
-    } else if name == "host" {
-        query.host = String::from_str(alloc, value)?;
-    } else if name == "refresh" {
+    }
+    add_text(alloc, &mut query.host, "host", name, value)?;
+    add_text(alloc, &mut query.service, "service", name, value)?;
+    add_text(alloc, &mut query.output, "output", name, value)?;
+    add_text(alloc, &mut query.gateway, "gateway", name, value)?;
+    if name == "acknowledged" {
+        query.acknowledged = mark_of(value);
+    }
+    if name == "downtime" {
+        query.downtime = mark_of(value);
+    }
+    if name == "page" {
+        query.page = page_of(value);
+    }
+    if name == "refresh" {
         query.refresh = refresh_of(value, refresh);
     }
     Ok(())
 }
 
-/// Reads the query of a URL: `state`, `host` and `refresh`, each with its default.
+/// Reads the query of a URL: `state`, `host`, `service`, `output`, `gateway`, `acknowledged`,
+/// `downtime`, `page` and `refresh`, each with its default.
 ///
 /// Other names are skipped. Of a name that comes twice the last counts. An unknown word is the
 /// default. The only error is out of memory.
 pub fn read_query(alloc: Global, text: &str, refresh: u32) -> Result<Query, AllocError>
-    ensures choice { IfOk result (λ query. query.choice ≡ choice_asked (raw_pairs text.now)) }
-    ensures host { IfOk result (λ query.
-        string_bytes query.host ≡ host_asked (raw_pairs text.now)) }
+    ensures asked { IfOk result (λ query. asked_by query ≡ asked_in (raw_pairs text.now)) }
+    ensures page { IfOk result (λ query. query.page ≡ page_asked (raw_pairs text.now)) }
     ensures refresh { IfOk result (λ query.
         query.refresh ≡ refresh_asked refresh (raw_pairs text.now)) }
 {
-    let mut query = Query {
-        choice: Choice::All,
-        host: String::new(alloc),
-        refresh,
-    };
+    let mut query = Query::new(alloc, refresh);
     let mut pairs = parse(alloc, text.as_bytes());
     while let Some(pair) = pairs.next() {
         let (name, value) = pair?;

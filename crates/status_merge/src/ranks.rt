@@ -1,7 +1,8 @@
 ghost use Rattle.std.specs.Prelude.{◌≡◌, ◌+◌};
 ghost use Rattle.status_merge.specs.Ranks.{is_made, is_unhandled, severity, rank};
 
-use status_reading::{ShownAcknowledgement, ShownObject, State};
+use crate::gateway::MergedObject;
+use status_reading::{ShownAcknowledgement, State};
 
 /// Whether there is an acknowledgement.
 pub fn is_made(acknowledgement: ShownAcknowledgement) -> bool
@@ -13,11 +14,13 @@ pub fn is_made(acknowledgement: ShownAcknowledgement) -> bool
     }
 }
 
-/// Whether an object is a problem without an acknowledgement and in no downtime.
-pub fn is_unhandled(row: &ShownObject<'_>) -> bool
-    ensures { result ≡ is_unhandled row.now }
+/// Whether an object is a problem without an acknowledgement and in no downtime, of a host, or of a
+/// service whose host is neither DOWN nor UNREACHABLE nor in downtime.
+pub fn is_unhandled(object: &MergedObject<'_>) -> bool
+    ensures { result ≡ is_unhandled object.now }
 {
-    row.state.is_problem() && !is_made(row.acknowledgement) && row.depth == 0
+    let row = &object.row;
+    row.state.is_problem() && !is_made(row.acknowledgement) && row.depth == 0 && !object.host_is_out
 }
 
 // The rank of a problem among problems, and that of a handled one.
@@ -37,10 +40,11 @@ fn severity(state: State) -> (u32, u32)
 /// Unhandled problems: DOWN and CRITICAL 0, UNREACHABLE 1, UNKNOWN 2, WARNING 3. A stale object
 /// that is no problem: 4. Handled problems, in the same order: 5 to 8. PENDING 9, OK and UP 10. Own
 /// rule.
-pub fn rank(row: &ShownObject<'_>) -> u32
-    ensures { result ≡ rank row.now }
+pub fn rank(object: &MergedObject<'_>) -> u32
+    ensures { result ≡ rank object.now }
 {
-    if is_unhandled(row) {
+    let row = &object.row;
+    if is_unhandled(object) {
         severity(row.state).0
     } else if row.state.is_problem() {
         severity(row.state).1

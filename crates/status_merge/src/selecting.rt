@@ -1,21 +1,65 @@
 ghost use Rattle.std.specs.Prelude.{◌≡◌, ◌++◌, IfOk, OnOk, string_bytes};
 ghost use Rattle.std.specs.List.{flat_map};
-ghost use Rattle.status_merge.specs.Selecting.{has_part, has_choice, is_selected, of_rank, selected};
+ghost use Rattle.std.specs.Str.{str_eq_ignore_ascii_case};
+ghost use Rattle.status_merge.specs.Asking.{asked_by};
+ghost use Rattle.status_merge.specs.Selecting.{begins, has_part, is_at, is_as, has_choice, is_selected, of_rank, selected, page_rows};
 
 use crate::gateway::MergedObject;
 use crate::query::{Choice, Query};
-use crate::ranks::{is_unhandled, rank};
-use memchr::memmem::find_iter;
-use status_reading::ShownObject;
+use crate::ranks::{is_made, is_unhandled, rank};
 use std::alloc::{AllocError, Global};
 
-fn has_choice(choice: Choice, row: &ShownObject<'_>) -> bool
-    ensures { result ≡ has_choice choice row.now }
+// How many objects a page shows at most.
+const PAGE: usize = 500;
+
+fn same_text(one: &[u8], other: &[u8]) -> bool
+    ensures { result ≡ str_eq_ignore_ascii_case one.now other.now }
 {
+    one.eq_ignore_ascii_case(other)
+}
+
+fn begins(text: &[u8], part: &[u8]) -> bool
+    ensures { result ≡ begins text.now part.now }
+{
+    let len = part.len().min(text.len());
+    same_text(&text[..len], part)
+}
+
+fn has_part(text: &[u8], part: &[u8]) -> bool
+    ensures { result ≡ has_part text.now part.now }
+{
+    for place in 0..text.len() {
+        if begins(&text[place..], part) {
+            return true;
+        }
+    }
+    begins(&[], part)
+}
+
+fn is_at(gateway: &str, name: &str) -> bool
+    ensures { result ≡ is_at gateway.now name.now }
+{
+    gateway.is_empty() || name == gateway
+}
+
+fn is_as(asked: Option<bool>, is: bool) -> bool
+    ensures { result ≡ is_as asked is }
+{
+    match asked {
+        None => true,
+        Some(true) => is,
+        Some(false) => !is,
+    }
+}
+
+fn has_choice(choice: Choice, object: &MergedObject<'_>) -> bool
+    ensures { result ≡ has_choice choice object.now }
+{
+    let row = &object.row;
     match choice {
         Choice::All => true,
         Choice::Problems => row.state.is_problem() || row.stale,
-        Choice::Unhandled => is_unhandled(row),
+        Choice::Unhandled => is_unhandled(object),
         Choice::Stale => row.stale,
         Choice::In(state) => row.state == state,
     }
@@ -25,15 +69,20 @@ fn has_choice(choice: Choice, row: &ShownObject<'_>) -> bool
 pub(crate) fn takes_host(query: &Query, host: &[u8]) -> bool
     ensures { result ≡ has_part host.now (string_bytes query.now.host) }
 {
-    find_iter(host, query.host.as_str().as_bytes())
-        .next()
-        .is_some()
+    has_part(host, query.host.as_str().as_bytes())
 }
 
 fn is_selected(query: &Query, object: &MergedObject<'_>) -> bool
-    ensures { result ≡ is_selected query.now.choice (string_bytes query.now.host) object.now }
+    ensures { result ≡ is_selected (asked_by query.now) object.now }
 {
-    has_choice(query.choice, &object.row) && takes_host(query, object.row.host)
+    let row = &object.row;
+    has_choice(query.choice, object)
+        && takes_host(query, row.host)
+        && has_part(row.service, query.service.as_str().as_bytes())
+        && has_part(row.output, query.output.as_str().as_bytes())
+        && is_at(query.gateway.as_str(), object.gateway)
+        && is_as(query.acknowledged, is_made(row.acknowledgement))
+        && is_as(query.downtime, row.depth > 0)
 }
 
 // Appends the selected objects of a rank.
@@ -44,10 +93,10 @@ fn add_rank<'a>(
     urgency: u32,
 ) -> Result<(), AllocError>
     ensures { OnOk result (selected.new.items ≡ selected.old.items
-        ++ of_rank query.now.choice (string_bytes query.now.host) objects.now urgency) }
+        ++ of_rank (asked_by query.now) objects.now urgency) }
 {
     for object in objects {
-        if rank(&object.row) == urgency && is_selected(query, object) {
+        if rank(object) == urgency && is_selected(query, object) {
             selected.push(*object)?;
         }
     }
@@ -62,7 +111,7 @@ fn add_ranks<'a>(
     ranks: &[u32],
 ) -> Result<(), AllocError>
     ensures { OnOk result (selected.new.items ≡ selected.old.items
-        ++ flat_map (of_rank query.now.choice (string_bytes query.now.host) objects.now)
+        ++ flat_map (of_rank (asked_by query.now) objects.now)
         ranks.now) }
 {
     for urgency in ranks {
@@ -79,7 +128,7 @@ pub fn select<'a>(
     query: &Query,
 ) -> Result<Vec<MergedObject<'a>>, AllocError>
     ensures { IfOk result (λ found. found.items
-        ≡ selected query.now.choice (string_bytes query.now.host) objects.now) }
+        ≡ selected (asked_by query.now) objects.now) }
 {
     let mut selected = Vec::new(alloc);
     add_ranks(
@@ -89,4 +138,14 @@ pub fn select<'a>(
         &[0, 1, 2, 3, 4, 5, 6, 7, 8, 9, 10],
     )?;
     Ok(selected)
+}
+
+/// The objects of a page, from 1, of those that are selected: 500 after those of the pages before it.
+pub fn page_rows<'t, 'a>(selected: &'t [MergedObject<'a>], page: u32) -> &'t [MergedObject<'a>]
+    ensures { result.now ≡ page_rows page selected.now }
+{
+    let before = PAGE * page.saturating_sub(1) as usize;
+    let first = before.min(selected.len());
+    let rest = &selected[first..];
+    &rest[..PAGE.min(rest.len())]
 }

@@ -5,7 +5,7 @@ use Rattle.std.proofs.lemmas.List.{take_all, take_more}
 use Rattle.std.proofs.lemmas.Slice.Zip.{all_zipped_more}
 use Rattle.status_merge.specs.declared.gateway.Gateway.{Gateway}
 use Rattle.status_merge.specs.declared.gateway.MergedObject.{MergedObject}
-use Rattle.status_merge.specs.declared.query.Choice.{Choice}
+use Rattle.status_merge.specs.Asking.{Asked}
 use Rattle.status_merge.specs.Selecting.{selected}
 use Rattle.status_view.specs.declared.view.View.{View}
 use Rattle.status_view.specs.Shapes.{page_shape}
@@ -37,12 +37,10 @@ pub if_ok : {T E : Type 0} {P Q : T → Type 0} (result : Result T E) → ((valu
 if_ok (Ok value) step known = step value known
 if_ok (Err error) step known = tt
 
-pub selected_as : (choice chosen : Choice) (host part : List ℕ) (objects all : List MergedObject)
-    → choice ≡ chosen → host ≡ part → objects ≡ all → selected choice host objects ≡ selected chosen part all
-selected_as choice chosen host part objects all same_choice same_host same =
-    ap (λ choice. selected choice host objects) same_choice
-    ∙ ap (λ host. selected chosen host objects) same_host
-    ∙ ap (selected chosen part) same
+pub selected_as : (asked wanted : Asked) (objects all : List MergedObject) → asked ≡ wanted → objects ≡ all
+    → selected asked objects ≡ selected wanted all
+selected_as asked wanted objects all same_asked same =
+    ap (λ asked. selected asked objects) same_asked ∙ ap (selected wanted) same
 
 pub page_of : (heading : Heading) (gateways : List Gateway) (query : List ℕ) (clock : ℕ) (body : List ℕ) (view : View)
     → Views heading gateways query clock view → body ≡ html_bytes (filled view (page_nodes (page_shape view)))

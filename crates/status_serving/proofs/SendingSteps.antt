@@ -2,6 +2,7 @@
 use Rattle.std.proofs.Common.{◌≡◌, ℕ, Bool, true, false, List, [], map, codes, sym, subst}
 use Rattle.std.specs.List.{AllZip}
 use Rattle.std.proofs.lemmas.Bool.{true≢false}
+use Rattle.form_urlencoded.specs.Form.{raw_pairs}
 use Rattle.http_server.specs.declared.response.Response.{Response}
 use Rattle.status_memory.specs.declared.history.GatewayChange.{GatewayChange}
 use Rattle.status_merge.specs.declared.gateway.Gateway.{Gateway}
@@ -15,7 +16,7 @@ use Rattle.status_serving.specs.declared.changing.ChangesForm.{ChangesForm}
 use Rattle.status_serving.specs.Changing.{AreChanges, IsChangesText, IsChangesBody, kind_of}
 use Rattle.status_serving.specs.Pages.{IsShown, IsStatusText, IsStatusBody, status_kind}
 use Rattle.status_serving.specs.Naming.{IsObjectText, IsObjectBody}
-use Rattle.status_serving.specs.Sending.{reached_code, status_code, IsStatusOf, AreChangesOf, IsObjectOf}
+use Rattle.status_serving.specs.Sending.{status_code, object_code, IsStatusOf, AreChangesOf, IsObjectOf}
 
 -- ---- bodies
 
@@ -43,22 +44,19 @@ pub no_changes : (whole : Bool) (heading : Heading) (clock : ℕ) (seen : List S
 no_changes true heading clock seen form body is none = absurd (true≢false is)
 no_changes false heading clock seen form body is none = none
 
-pub object_made : (whole : Bool) (heading : Heading) (clock : ℕ) (seen : List Seen) (found shown : List Gateway)
+pub object_made : (whole : Bool) (heading : Heading) (clock : ℕ) (seen : List Seen) (gateways : List Gateway)
     (kept changes : List GatewayChange) (query : List ℕ) (body : List ℕ) → whole ≡ true
-    → AllZip (IsShown clock) seen found → shown ≡ found → AreChanges seen kept → changes ≡ kept
-    → IsObjectText heading shown changes query clock body → IsObjectBody whole heading seen query clock body
-object_made true heading clock seen found shown kept changes query body is are same all alike text = (
-  shown,
-  subst (AllZip (IsShown clock) seen) (sym same) are,
-  (changes, subst (AreChanges seen) (sym alike) all, text),
-)
-object_made false heading clock seen found shown kept changes query body is are same all alike text =
-    absurd (true≢false (sym is))
+    → AreChanges seen kept → changes ≡ kept
+    → IsObjectText heading gateways changes query clock body → IsObjectBody whole heading seen gateways query clock body
+object_made true heading clock seen gateways kept changes query body is all alike text =
+    (changes, subst (AreChanges seen) (sym alike) all, text)
+object_made false heading clock seen gateways kept changes query body is all alike text = absurd (true≢false (sym is))
 
-pub no_object : (whole : Bool) (heading : Heading) (clock : ℕ) (seen : List Seen) (query : List ℕ) (body : List ℕ)
-    → whole ≡ false → body ≡ [] → IsObjectBody whole heading seen query clock body
-no_object true heading clock seen query body is none = absurd (true≢false is)
-no_object false heading clock seen query body is none = none
+pub no_object : (whole : Bool) (heading : Heading) (clock : ℕ) (seen : List Seen) (gateways : List Gateway)
+    (query : List ℕ) (body : List ℕ) → whole ≡ false → body ≡ []
+    → IsObjectBody whole heading seen gateways query clock body
+no_object true heading clock seen gateways query body is none = absurd (true≢false is)
+no_object false heading clock seen gateways query body is none = none
 
 -- ---- answers
 
@@ -89,16 +87,18 @@ listed_as heading places clock seen known form whole body response at same made 
   sent = sent;
 }
 
-pub named_as : (heading : Heading) (places : List Place) (clock : ℕ) (seen known : List Seen) (query : List ℕ) (whole : Bool)
-    (body : List ℕ) (code : ℕ) (response : Response)
-    → map seen_place seen ≡ places → known ≡ seen → IsObjectBody whole heading known query clock body
-    → code ≡ reached_code known → IsSent code (codes "text/html; charset=utf-8") body response
+pub named_as : (heading : Heading) (places : List Place) (clock : ℕ) (seen known : List Seen)
+    (found shown : List Gateway) (query : List ℕ) (whole : Bool) (body : List ℕ) (code : ℕ) (response : Response)
+    → map seen_place seen ≡ places → known ≡ seen → AllZip (IsShown clock) known found → shown ≡ found
+    → IsObjectBody whole heading known shown query clock body
+    → code ≡ object_code known shown (raw_pairs query) → IsSent code (codes "text/html; charset=utf-8") body response
     → IsObjectOf heading places clock query whole response
-named_as heading places clock seen known query whole body code response at same made coded sent = record {
-  seen = seen;
+named_as heading places clock seen known found shown query whole body code response at same are alike made coded sent = record {
+  seen = known;
+  gateways = shown;
   body = body;
-  at = at;
-  made = subst (λ (seen : List Seen). IsObjectBody whole heading seen query clock body) same made;
-  sent = subst (λ (seen : List Seen). IsSent (reached_code seen) (codes "text/html; charset=utf-8") body response) same
-      (subst (λ (code : ℕ). IsSent code (codes "text/html; charset=utf-8") body response) coded sent);
+  at = subst (λ (seen : List Seen). map seen_place seen ≡ places) (sym same) at;
+  shown = subst (AllZip (IsShown clock) known) (sym alike) are;
+  made = made;
+  sent = subst (λ (code : ℕ). IsSent code (codes "text/html; charset=utf-8") body response) coded sent;
 }

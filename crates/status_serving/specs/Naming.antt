@@ -1,6 +1,5 @@
 -- The page of the object that the query of a URL names, of what is kept of gateways: `IsObjectBody`. Own rules.
 use Rattle.std.specs.Prelude.{◌≡◌, ℕ, Bool, true, false, List, [], codes}
-use Rattle.std.specs.List.{AllZip}
 use Rattle.form_urlencoded.specs.Form.{raw_pairs}
 use Rattle.status_memory.specs.declared.history.GatewayChange.{GatewayChange}
 use Rattle.status_merge.specs.declared.gateway.Gateway.{Gateway}
@@ -9,7 +8,6 @@ use Rattle.status_view.specs.Links.{value_in}
 use Rattle.status_view.specs.OneObject.{IsObjectPage}
 use Rattle.page_watching.specs.declared.watching.Seen.{Seen}
 use Rattle.status_serving.specs.declared.headings.Heading.{Heading}
-use Rattle.status_serving.specs.Pages.{IsShown}
 use Rattle.status_serving.specs.Changing.{AreChanges}
 
 -- a query asks for this object, of these gateways and changes at this clock
@@ -28,10 +26,8 @@ abbrev pub IsObjectText : Heading → List Gateway → List GatewayChange → Li
 IsObjectText heading gateways changes query clock body =
     (asked : ObjectAsked) × AsksFor heading gateways changes query clock asked × IsObjectPage asked body
 
--- the same of what is kept of gateways, for an answer that has a body; nothing for another
-abbrev pub IsObjectBody : Bool → Heading → List Seen → List ℕ → ℕ → List ℕ → Type 0
-IsObjectBody true heading seen query clock body =
-    (gateways : List Gateway) × AllZip (IsShown clock) seen gateways
-    × ((changes : List GatewayChange) × AreChanges seen changes
-    × IsObjectText heading gateways changes query clock body)
-IsObjectBody false heading seen query clock body = body ≡ []
+-- the same with the changes that are kept, for an answer that has a body; nothing for another
+abbrev pub IsObjectBody : Bool → Heading → List Seen → List Gateway → List ℕ → ℕ → List ℕ → Type 0
+IsObjectBody true heading seen gateways query clock body =
+    (changes : List GatewayChange) × AreChanges seen changes × IsObjectText heading gateways changes query clock body
+IsObjectBody false heading seen gateways query clock body = body ≡ []

@@ -1,6 +1,6 @@
 -- What is shown of gateways: the page that is kept of each (`IsShown`); and the pages are merged, selected by the query
 -- of a URL, and laid out as HTML (`IsPage`), as JSON (`json_body`) or as metrics (`metrics_body`): `IsStatusBody`.
-use Rattle.std.specs.Prelude.{◌≡◌, ℕ, ◌-◌, min, Bool, true, false, List, [], map, Option, Some, None, Result, Ok, Err, String, codes, string_bytes}
+use Rattle.std.specs.Prelude.{◌≡◌, ℕ, ◌-◌, min, Bool, true, false, List, [], length, map, Option, Some, None, Result, Ok, Err, String, codes, string_bytes}
 use Rattle.std.specs.declared.alloc.Global.{Global}
 use Rattle.std.specs.Arc.{arc_value}
 use Rattle.std.specs.List.{AllZip, flat_map}
@@ -14,9 +14,9 @@ use Rattle.status_memory.specs.Memory.{is_old}
 use Rattle.status_merge.specs.declared.gateway.Gateway.{Gateway}
 use Rattle.status_merge.specs.declared.gateway.Old.{Old}
 use Rattle.status_merge.specs.declared.gateway.MergedObject.{MergedObject}
-use Rattle.status_merge.specs.Asking.{choice_asked, host_asked, refresh_asked}
-use Rattle.status_merge.specs.Objects.{objects_on, merged}
-use Rattle.status_merge.specs.Selecting.{selected}
+use Rattle.status_merge.specs.Asking.{asked_in, asked_by, page_asked, refresh_asked}
+use Rattle.status_merge.specs.Objects.{objects_on, merged, with_hosts}
+use Rattle.status_merge.specs.Selecting.{selected, page_rows}
 use Rattle.status_merge.specs.Entries.{comment_view, comment_lines, downtime_view, downtime_lines}
 use Rattle.status_view.specs.declared.view.View.{View}
 use Rattle.status_view.specs.Shapes.{page_shape}
@@ -70,25 +70,31 @@ pub record IsShown (now : ℕ) (seen : Seen) (gateway : Gateway) : Type 0 where
 
 -- the objects of all pages, each once
 abbrev pub objects_of : List Gateway → List MergedObject
-objects_of gateways = merged (flat_map objects_on gateways)
+objects_of gateways = with_hosts (merged (flat_map objects_on gateways))
 
 -- those that a query selects, in their order
 abbrev pub asked_of : List Gateway → List ℕ → List MergedObject
-asked_of gateways query = selected (choice_asked (raw_pairs query)) (host_asked (raw_pairs query)) (objects_of gateways)
+asked_of gateways query = selected (asked_in (raw_pairs query)) (objects_of gateways)
+
+-- the text that the hosts of comments and of downtime entries contain
+abbrev pub host_asked : List ℕ → List ℕ
+host_asked query = (asked_in (raw_pairs query)).host
 
 -- a page of these gateways for a query at this clock shows this
 pub record Views (heading : Heading) (gateways : List Gateway) (query : List ℕ) (now : ℕ) (view : View) : Type 0 where
   pub title : view.title.now ≡ heading.title.now
   pub clock : view.clock ≡ now
   pub refresh : view.refresh ≡ heading.refresh
-  pub choice : view.query.now.choice ≡ choice_asked (raw_pairs query)
-  pub host : string_bytes view.query.now.host ≡ host_asked (raw_pairs query)
+  pub marks : view.marks ≡ heading.marks
+  pub asked : asked_by view.query.now ≡ asked_in (raw_pairs query)
+  pub page : view.query.now.page ≡ page_asked (raw_pairs query)
   pub seconds : view.query.now.refresh ≡ refresh_asked heading.refresh (raw_pairs query)
   pub pages : view.gateways.now ≡ gateways
   pub all : view.all.now ≡ objects_of gateways
-  pub objects : view.objects.now ≡ asked_of gateways query
-  pub comments : map comment_view view.comments.now ≡ comment_lines (host_asked (raw_pairs query)) gateways
-  pub downtimes : map downtime_view view.downtimes.now ≡ downtime_lines (host_asked (raw_pairs query)) gateways
+  pub selected : view.selected ≡ length (asked_of gateways query)
+  pub objects : view.objects.now ≡ page_rows (page_asked (raw_pairs query)) (asked_of gateways query)
+  pub comments : map comment_view view.comments.now ≡ comment_lines (host_asked query) gateways
+  pub downtimes : map downtime_view view.downtimes.now ≡ downtime_lines (host_asked query) gateways
 
 -- the page for a browser at this clock
 abbrev pub IsPage : Heading → List Gateway → List ℕ → ℕ → List ℕ → Type 0
@@ -99,7 +105,7 @@ IsPage heading gateways query clock body =
 -- the same as JSON
 abbrev pub json_body : List Gateway → List ℕ → List ℕ
 json_body gateways query =
-    compact_text (status_document gateways (asked_of gateways query) (host_asked (raw_pairs query)))
+    compact_text (status_document gateways (asked_of gateways query) (host_asked query))
 
 -- the metrics of all objects
 abbrev pub metrics_body : List Gateway → List ℕ

@@ -1,8 +1,13 @@
 -- The responses with the status (`IsStatusOf`) and with the changes (`AreChangesOf`) of gateways, and with
 -- the page of an object (`IsObjectOf`). Own rules.
-use Rattle.std.specs.Prelude.{◌≡◌, ℕ, Bool, List, map, is_some, codes, if◌then◌else◌}
-use Rattle.std.specs.List.{list_any}
+use Rattle.std.specs.Prelude.{◌≡◌, ℕ, Bool, false, ◌&&◌, List, map, is_some, Ok, Err, codes, if◌then◌else◌}
+use Rattle.std.specs.List.{list_any, AllZip}
+use Rattle.std.specs.Str.{bytes_eq}
+use Rattle.form_urlencoded.specs.Form.{raw_pairs}
 use Rattle.http_server.specs.declared.response.Response.{Response}
+use Rattle.status_reading.specs.declared.rows.ShownObject.{ShownObject}
+use Rattle.status_merge.specs.declared.gateway.Gateway.{Gateway}
+use Rattle.status_view.specs.Links.{value_in}
 use Rattle.page_watching.specs.declared.places.Place.{Place}
 use Rattle.page_watching.specs.declared.watching.Seen.{Seen}
 use Rattle.page_watching.specs.Watching.{seen_place}
@@ -11,7 +16,7 @@ use Rattle.status_serving.specs.declared.headings.Heading.{Heading}
 use Rattle.status_serving.specs.declared.bodies.Form.{Form}
 use Rattle.status_serving.specs.declared.bodies.Form.TheVariants.{Html, Json, Metrics}
 use Rattle.status_serving.specs.declared.changing.ChangesForm.{ChangesForm}
-use Rattle.status_serving.specs.Pages.{IsStatusBody, status_kind}
+use Rattle.status_serving.specs.Pages.{IsShown, IsStatusBody, status_kind}
 use Rattle.status_serving.specs.Changing.{IsChangesBody, kind_of}
 use Rattle.status_serving.specs.Naming.{IsObjectBody}
 
@@ -28,6 +33,26 @@ abbrev pub status_code : List Seen → Form → ℕ
 status_code seen Html = reached_code seen
 status_code seen Json = reached_code seen
 status_code seen Metrics = 200
+
+-- whether a row is that of the object of these names, byte for byte
+abbrev pub is_named : List ℕ → List ℕ → ShownObject → Bool
+is_named host service row = bytes_eq row.host.now host && bytes_eq row.service.now service
+
+-- whether the page of a gateway shows this object
+abbrev pub has_object : List ℕ → List ℕ → Gateway → Bool
+has_object host service gateway = elim gateway.page [
+  | Ok page ↦ list_any (is_named host service) page.objects.items
+  | Err cause ↦ false
+]
+
+-- the status code of the page of the object that a query names: no page of a gateway shows it, so it isn't found (RFC
+-- 9110, section 15.5.5)
+abbrev pub object_code : List Seen → List Gateway → List (List ℕ × List ℕ) → ℕ
+object_code seen gateways pairs =
+    if list_any is_reached seen
+    then (if list_any (has_object (value_in (codes "host") pairs) (value_in (codes "service") pairs)) gateways
+    then 200 else 404)
+    else 503
 
 -- the status of the gateways at these places, of which this is kept, at this clock in this form, with its body or without
 pub record IsStatusOf (heading : Heading) (places : List Place) (clock : ℕ) (query : List ℕ) (form : Form) (whole : Bool)
@@ -51,7 +76,9 @@ pub record AreChangesOf (heading : Heading) (places : List Place) (clock : ℕ) 
 pub record IsObjectOf (heading : Heading) (places : List Place) (clock : ℕ) (query : List ℕ) (whole : Bool)
     (response : Response) : Type 0 where
   pub seen : List Seen
+  pub gateways : List Gateway
   pub body : List ℕ
   pub at : map seen_place seen ≡ places
-  pub made : IsObjectBody whole heading seen query clock body
-  pub sent : IsSent (reached_code seen) (codes "text/html; charset=utf-8") body response
+  pub shown : AllZip (IsShown clock) seen gateways
+  pub made : IsObjectBody whole heading seen gateways query clock body
+  pub sent : IsSent (object_code seen gateways (raw_pairs query)) (codes "text/html; charset=utf-8") body response

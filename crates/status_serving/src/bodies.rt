@@ -9,7 +9,9 @@ use http::HeaderValue;
 use page_watching::{NoPage, Seen, Shared, cause_of, read_cause};
 use status_export::{json_text, metrics_text};
 use status_memory::{Kept, Memory};
-use status_merge::{Gateway, Old, merge, merge_comments, merge_downtimes, read_query, select};
+use status_merge::{
+    Gateway, Old, merge, merge_comments, merge_downtimes, page_rows, read_query, select,
+};
 use status_reading::{StatusPage, read_status_page};
 use status_view::{View, html_page};
 use std::alloc::{AllocError, Global};
@@ -100,17 +102,19 @@ fn html_body(
 {
     let query = read_query(alloc, query, heading.refresh)?;
     let all = merge(alloc, gateways)?;
-    let objects = select(alloc, all.as_slice(), &query)?;
+    let selected = select(alloc, all.as_slice(), &query)?;
     let comments = merge_comments(alloc, gateways, &query)?;
     let downtimes = merge_downtimes(alloc, gateways, &query)?;
     let view = View {
         title: heading.title,
         clock,
         refresh: heading.refresh,
+        marks: heading.marks,
         query: &query,
         gateways,
         all: all.as_slice(),
-        objects: objects.as_slice(),
+        selected: selected.len(),
+        objects: page_rows(selected.as_slice(), query.page),
         comments: comments.as_slice(),
         downtimes: downtimes.as_slice(),
         changes: &[],

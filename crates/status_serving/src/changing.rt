@@ -12,7 +12,7 @@ use http::HeaderValue;
 use page_watching::{NoPage, Seen, Shared};
 use status_export::{Value, json_line};
 use status_memory::{GatewayChange, Memory, StateChange};
-use status_merge::{Choice, Query};
+use status_merge::Query;
 use status_reading::state_name;
 use status_view::{View, changes_feed, changes_page};
 use std::alloc::{AllocError, Global};
@@ -133,18 +133,16 @@ fn changes_text(
     ensures { IfOk result (λ body.
         IsChangesText heading.now changes.now clock form body.items) }
 {
-    let query = Query {
-        choice: Choice::All,
-        host: String::new(alloc),
-        refresh: heading.refresh,
-    };
+    let query = Query::new(alloc, heading.refresh);
     let view = View {
         title: heading.title,
         clock,
         refresh: heading.refresh,
+        marks: false,
         query: &query,
         gateways: &[],
         all: &[],
+        selected: 0,
         objects: &[],
         comments: &[],
         downtimes: &[],

@@ -8,6 +8,8 @@ pub struct Heading<'a> {
     pub title: &'a str,
     /// The seconds after which a browser asks again; 0: it doesn't.
     pub refresh: u32,
+    /// Whether `/marks` is a page where the rows of the list can be marked.
+    pub marks: bool,
 }
 
 /// The seconds after which a browser asks again that a text writes: 0 (never), or 2 to 3600. `None`

@@ -12,6 +12,5 @@ mod serving;
 pub use bodies::{Form, gateways_of, status_body, status_kind};
 pub use changing::{ChangesForm, changes_body, kind_of};
 pub use headings::{Heading, refresh_in};
-pub use naming::object_body;
 pub use sending::{Site, send_changes, send_object, send_status, send_style};
 pub use serving::{ServeFault, serve};

@@ -3,7 +3,6 @@
 ghost use Rattle.std.specs.Prelude.{IfOk};
 ghost use Rattle.status_serving.specs.Naming.{IsObjectText, IsObjectBody};
 
-use crate::bodies::gateways_of;
 use crate::changing::changes_of;
 use crate::headings::Heading;
 use page_watching::Seen;
@@ -36,30 +35,23 @@ fn object_text(
     Ok(object_page(alloc, &asked)?.into_bytes())
 }
 
-/// The page of the object that a query names, of the gateways of which this is kept, for an answer
-/// that has a body; nothing for another. The only error is out of memory.
-pub fn object_body<'t>(
+/// The page of the object that a query names, of these gateways and of the changes that are kept, for an
+/// answer that has a body; nothing for another. The only error is out of memory.
+pub(crate) fn object_body<'t>(
     alloc: Global,
     heading: &Heading<'_>,
     seen: &'t [Seen<'t>],
+    gateways: &[Gateway<'_>],
     query: &str,
     clock: u32,
     whole: bool,
 ) -> Result<Vec<u8>, AllocError>
-    ensures { IfOk result (λ body.
-        IsObjectBody whole heading.now seen.now query.now clock body.items) }
+    ensures { IfOk result (λ body. IsObjectBody whole heading.now seen.now gateways.now query.now clock
+        body.items) }
 {
     if whole {
-        let gateways = gateways_of(alloc, seen, u64::from(clock))?;
         let changes = changes_of(alloc, seen)?;
-        object_text(
-            alloc,
-            heading,
-            gateways.as_slice(),
-            changes.as_slice(),
-            query,
-            clock,
-        )
+        object_text(alloc, heading, gateways, changes.as_slice(), query, clock)
     } else {
         Ok(Vec::new(alloc))
     }

@@ -4,3 +4,5 @@ pub mod TileLaws
 pub mod FillingSteps
 pub mod LinkLaws
 pub mod FilterSteps
+pub mod PageSteps
+pub mod QueryLaws

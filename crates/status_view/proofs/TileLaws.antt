@@ -8,22 +8,22 @@ use Rattle.std.proofs.lemmas.List.Elements.{All-from_recursion, All-head, All-ta
 use Rattle.std.proofs.lemmas.List.Sums.{sum_by-cons}
 use Rattle.std.proofs.lemmas.List.Recursion.{is_count_by}
 use Rattle.std.proofs.Math.Bool.{and-true}
-use Rattle.memchr.specs.Find.{matches_from, occurs_at}
 use Rattle.gate_model.specs.declared.state.State.{State}
 use Rattle.gate_model.specs.declared.state.State.TheVariants.{Pending, Ok, Warning, Critical, Unknown, Up, Down, Unreachable}
 use Rattle.gate_model.specs.declared.object.Kind.TheVariants.{Host, Service}
 use Rattle.gate_model.specs.State.{number_of_state, is_problem, is_same_state}
 use Rattle.gate_model.specs.Table.{object_kind}
-use Rattle.status_reading.specs.declared.rows.ShownObject.{ShownObject}
 use Rattle.status_reading.specs.RowFaults.{service_name, is_state_of}
 use Rattle.status_merge.specs.declared.gateway.MergedObject.{MergedObject}
 use Rattle.status_merge.specs.declared.query.Choice.{Choice}
 use Rattle.status_merge.specs.declared.query.Choice.TheVariants as choice
+use Rattle.status_merge.specs.Objects.{HasOwnState}
+use Rattle.status_merge.specs.Asking.{Asked, only}
 use Rattle.status_merge.specs.Ranks.{is_unhandled, severity, rank, is_host_in, is_service_in}
 use Rattle.status_merge.specs.Selecting.{has_part, has_choice, is_selected, selected}
 use Rattle.status_view.specs.declared.view.View.{View}
 use Rattle.status_view.specs.Shapes.{page_shape}
-use Rattle.status_view.specs.SummaryLayout.{all_tiles, host_tiles, service_tiles, tiles_of, HasOwnState, CountsSelected}
+use Rattle.status_view.specs.SummaryLayout.{all_tiles, host_tiles, service_tiles, tiles_of, CountsSelected}
 
 -- ---- each object has one rank
 
@@ -44,10 +44,10 @@ severity_low Pending = omega arith
 severity_low Ok = omega arith
 severity_low Up = omega arith
 
-rank_low : (row : ShownObject) → rank row ≤ 10
-rank_low row =
-    low (is_unhandled row) (is_problem row.state) row.stale (is_same_state row.state Pending) (severity row.state)
-    (severity_low row.state)
+rank_low : (object : MergedObject) → rank object ≤ 10
+rank_low object =
+    low (is_unhandled object) (is_problem object.row.state) object.row.stale (is_same_state object.row.state Pending)
+    (severity object.row.state) (severity_low object.row.state)
 
 abbrev ranks : List ℕ
 ranks = 0 ∷ 1 ∷ 2 ∷ 3 ∷ 4 ∷ 5 ∷ 6 ∷ 7 ∷ 8 ∷ 9 ∷ 10 ∷ []
@@ -94,32 +94,31 @@ step : (taken : Bool) (n : ℕ) → cond taken 1 0 + n ≡ cond taken (1 + n) n
 step true n = refl
 step false n = omega arith
 
-selected_count : (choice : Choice) (part : List ℕ) (objects : List MergedObject)
-    → length (selected choice part objects) ≡ count_by (is_selected choice part) objects
-selected_count choice part objects =
-    is_count_by (λ (objects : List MergedObject). length (selected choice part objects)) (is_selected choice part) refl
+selected_count : (asked : Asked) (objects : List MergedObject)
+    → length (selected asked objects) ≡ count_by (is_selected asked) objects
+selected_count asked objects =
+    is_count_by (λ (objects : List MergedObject). length (selected asked objects)) (is_selected asked) refl
     (λ one rest.
-    let test : MergedObject → ℕ → Bool = λ object urgency. (rank object.row == urgency) && is_selected choice part object in
+    let test : MergedObject → ℕ → Bool = λ object urgency. (rank object == urgency) && is_selected asked object in
     more test one rest ranks
-    ∙ ap (λ n. n + length (selected choice part rest)) (once (rank one.row) (is_selected choice part one) (rank_low one.row))
-    ∙ step (is_selected choice part one) (length (selected choice part rest)))
+    ∙ ap (λ n. n + length (selected asked rest)) (once (rank one) (is_selected asked one) (rank_low one))
+    ∙ step (is_selected asked one) (length (selected asked rest)))
     objects
 
--- ---- no text restricts the hosts
+-- ---- no text restricts the objects
 
-at_first : (host : List ℕ) → occurs_at host [] 0 ≡ true
-at_first host = search rules
+every_text : (text : List ℕ) → has_part text [] ≡ true
+every_text [] = refl
+every_text (byte ∷ rest) = refl
 
-any_part : (host : List ℕ) (size : ℕ) → size ≡ suc (length host) → nat_lt 0 (length (matches_from host [] 0 0 size)) ≡ true
-unfolding matches_from
-any_part host size is =
-    rw (is, at_first host) (lt-ltb 0 (suc (length (matches_from host [] 0 1 (length host)))) (omega arith))
+all_true : (taken : Bool) → taken ≡ taken && true && true && true && true && true && true
+all_true true = refl
+all_true false = refl
 
-every_host : (host : List ℕ) → has_part host [] ≡ true
-every_host host = any_part host _ (omega arith)
-
-taken_by : (choice : Choice) (object : MergedObject) → has_choice choice object.row ≡ is_selected choice [] object
-taken_by choice object = rw (every_host object.row.host.now) (sym (and-true (has_choice choice object.row)))
+taken_by : (choice : Choice) (object : MergedObject) → has_choice choice object ≡ is_selected (only choice) object
+taken_by choice object =
+    rw (every_text object.row.host.now, every_text object.row.service.now, every_text object.row.output.now)
+    (all_true (has_choice choice object))
 
 -- ---- counts
 
@@ -140,11 +139,11 @@ everything {X} (object ∷ objects) =
     omega (arith, more, everything objects)
 
 chosen : (choice : Choice) (objects : List MergedObject)
-    → count_by (λ object. has_choice choice object.row) objects ≡ length (selected choice [] objects)
+    → count_by (λ object. has_choice choice object) objects ≡ length (selected (only choice) objects)
 chosen choice objects =
-    same_count (λ object. has_choice choice object.row) (is_selected choice []) objects
+    same_count (λ object. has_choice choice object) (is_selected (only choice)) objects
     (λ k other inside. taken_by choice (slice_index_or objects k other))
-    ∙ sym (selected_count choice [] objects)
+    ∙ sym (selected_count (only choice) objects)
 
 -- ---- states of hosts and of services
 
@@ -198,9 +197,9 @@ service_tile last state (byte ∷ rest) wanted above below is =
 -- ---- the tiles
 
 hosts_chosen : (state : State) (objects : List MergedObject) → 5 ≤ number_of_state state → All HasOwnState objects
-    → count_by (is_host_in state) objects ≡ length (selected (choice.In state) [] objects)
+    → count_by (is_host_in state) objects ≡ length (selected (only (choice.In state)) objects)
 hosts_chosen state objects high own =
-    same_count (is_host_in state) (λ object. has_choice (choice.In state) object.row) objects
+    same_count (is_host_in state) (λ object. has_choice (choice.In state) object) objects
     (λ k other inside.
     let object = slice_index_or objects k other in
     host_tile object.row.last object.row.state object.row.service.now (number_of_state state) high (own k other inside))
@@ -208,9 +207,9 @@ hosts_chosen state objects high own =
 
 services_chosen : (state : State) (objects : List MergedObject) → 1 ≤ number_of_state state → number_of_state state ≤ 4
     → All HasOwnState objects
-    → count_by (is_service_in state) objects ≡ length (selected (choice.In state) [] objects)
+    → count_by (is_service_in state) objects ≡ length (selected (only (choice.In state)) objects)
 services_chosen state objects above below own =
-    same_count (is_service_in state) (λ object. has_choice (choice.In state) object.row) objects
+    same_count (is_service_in state) (λ object. has_choice (choice.In state) object) objects
     (λ k other inside.
     let object = slice_index_or objects k other in
     service_tile object.row.last object.row.state object.row.service.now (number_of_state state) above below (own k other inside))

@@ -1,7 +1,7 @@
 -- The page of some parts: each slot has its text (`filled`), and `html_bytes` is what a browser is sent. `without_texts`
 -- is what the texts have no part in.
-use Rattle.std.specs.Prelude.{ℕ, List, [], Option, Some, None, Ok, Err, map, slice_get, string_bytes}
-use Rattle.std.specs.List.{flat_map}
+use Rattle.std.specs.Prelude.{ℕ, ◌==◌, List, [], Option, Some, None, Ok, Err, map, slice_get, string_bytes}
+use Rattle.std.specs.List.{flat_map, before_first, after_first}
 use Rattle.std.specs.Fmt.{decimal}
 use Rattle.std.specs.Str.Lossy.{utf8_lossy}
 use Rattle.form_urlencoded.specs.Form.{byte_serialize}
@@ -14,6 +14,7 @@ use Rattle.status_merge.specs.declared.gateway.MergedObject.{MergedObject}
 use Rattle.status_merge.specs.declared.entries.Origin.{Origin}
 use Rattle.status_merge.specs.declared.entries.CommentLine.{CommentLine}
 use Rattle.status_merge.specs.declared.entries.DowntimeLine.{DowntimeLine}
+use Rattle.status_merge.specs.Asking.{Asked, asked_by}
 use Rattle.status_view.specs.declared.view.View.{View}
 use Rattle.status_view.specs.declared.layout.ObjectText.{ObjectText}
 use Rattle.status_view.specs.declared.layout.ObjectText.TheVariants as object
@@ -22,10 +23,12 @@ use Rattle.status_view.specs.declared.layout.EntryText.{EntryText}
 use Rattle.status_view.specs.declared.layout.EntryText.TheVariants as entry
 use Rattle.status_view.specs.declared.layout.ChangeText.{ChangeText}
 use Rattle.status_view.specs.declared.layout.ChangeText.TheVariants as change
+use Rattle.status_view.specs.declared.layout.AskedText.{AskedText}
+use Rattle.status_view.specs.declared.layout.AskedText.TheVariants as asked
 use Rattle.status_view.specs.declared.layout.Slot.{Slot}
 use Rattle.status_view.specs.declared.layout.Slot.TheVariants as slot
 use Rattle.status_view.specs.Layout.{Piece, Markup, Number, Text, NodeView}
-use Rattle.status_view.specs.Links.{object_link}
+use Rattle.status_view.specs.Links.{object_link, page_query}
 
 -- a text of the item of this index; nothing where there is none
 abbrev pub text_at : {X : Type 0} → (X → List ℕ) → List X → ℕ → List ℕ
@@ -40,13 +43,21 @@ old_cause (Some old) = string_bytes old.cause
 abbrev pub cause_text : Gateway → List ℕ
 cause_text gateway = elim gateway.page [ Ok page ↦ old_cause gateway.old | Err cause ↦ string_bytes cause ]
 
+-- an output's words stand before its first `|`, its performance data after it (Nagios Core 4 manual, Plugin API)
+abbrev pub words_of : List ℕ → List ℕ
+words_of output = before_first (λ byte. byte == 124) output
+
+abbrev pub performance_of : List ℕ → List ℕ
+performance_of output = after_first (λ byte. byte == 124) output
+
 -- a text of an object's row
 abbrev pub object_text : ObjectText → MergedObject → List ℕ
 object_text object.Host shown = plain_bytes shown.row.host.now
 object_text object.HostInLink shown = byte_serialize shown.row.host.now
 object_text object.Service shown = plain_bytes shown.row.service.now
 object_text object.Link shown = object_link shown.row.host.now shown.row.service.now
-object_text object.Output shown = plain_bytes shown.row.output.now
+object_text object.Output shown = plain_bytes (words_of shown.row.output.now)
+object_text object.Performance shown = plain_bytes (performance_of shown.row.output.now)
 object_text object.Gateway shown = shown.gateway.now
 
 -- a text of the row of a comment or a downtime entry, by its fields and by the gateways that have it
@@ -76,10 +87,18 @@ change_text change.ServiceInLink shown = byte_serialize shown.change.now.service
 change_text change.Gateway shown = shown.gateway.now
 change_text change.GatewayInLink shown = byte_serialize shown.gateway.now
 
+-- a text that a query asks for
+abbrev pub asked_text : AskedText → Asked → List ℕ
+asked_text asked.Host query = query.host
+asked_text asked.Service query = query.service
+asked_text asked.Output query = query.output
+asked_text asked.Gateway query = query.gateway
+
 -- the text that a slot is filled with
 abbrev pub slot_text : View → Slot → List ℕ
 slot_text view slot.Title = view.title.now
-slot_text view slot.HostAsked = string_bytes view.query.now.host
+slot_text view (slot.Asked what) = asked_text what (asked_by view.query.now)
+slot_text view (slot.Query page) = page_query (asked_by view.query.now) view.query.now.refresh page
 slot_text view (slot.Gateway i) = text_at (λ gateway. gateway.name.now) view.gateways.now i
 slot_text view (slot.Cause i) = text_at cause_text view.gateways.now i
 slot_text view (slot.Object i what) = text_at (object_text what) view.objects.now i

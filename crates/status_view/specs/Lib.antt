@@ -11,3 +11,4 @@ pub mod ChangesLayout
 pub mod Page
 pub mod Filling
 pub mod OneObject
+pub mod inner

@@ -1,5 +1,6 @@
 -- The list of objects: `objects_nodes`, and the row of an object: `object_nodes`. Own rules.
-use Rattle.std.specs.Prelude.{ℕ, ◌-◌, Bool, not, nat_lt, List, [], ◌∷◌, ◌++◌, length, Option, Some, None, codes}
+use Rattle.std.specs.Prelude.{ℕ, ◌+◌, ◌-◌, ◌/◌, Bool, not, ◌==◌, nat_lt, if◌then◌else◌, List, [], ◌∷◌, ◌++◌, length, Option, Some, None, codes}
+use Rattle.std.specs.List.{flat_map, range_with_len}
 use Rattle.gate_pages.specs.StatusPage.{state_name}
 use Rattle.status_reading.specs.declared.rows.ShownAcknowledgement.{ShownAcknowledgement}
 use Rattle.status_reading.specs.declared.rows.ShownAcknowledgement.TheVariants.{Missing, Normal, Sticky}
@@ -30,14 +31,15 @@ acknowledgement_nodes Missing = []
 acknowledgement_nodes Normal = Markup (codes "<span class=\"badge\">acknowledged</span> ") ∷ []
 acknowledgement_nodes Sticky = Markup (codes "<span class=\"badge\">acknowledged, sticky</span> ") ∷ []
 
--- the marks: stale, acknowledged, and in how many downtime entries
+-- the marks: stale, acknowledged, in how many downtime entries, and whether its host is out
 unfoldable pub marks_nodes : ObjectShape → List NodeView
 marks_nodes row =
     (Markup (codes "<td class=\"cell\">") ∷ [])
     ++ nodes_if row.stale (Markup (codes "<span class=\"badge stale\">stale</span> ") ∷ [])
     ++ acknowledgement_nodes row.acknowledgement
     ++ nodes_if (nat_lt 0 row.depth)
-    (Markup (codes "<span class=\"badge\">downtime ") ∷ Number row.depth ∷ Markup (codes "</span>") ∷ [])
+    (Markup (codes "<span class=\"badge\">downtime ") ∷ Number row.depth ∷ Markup (codes "</span> ") ∷ [])
+    ++ nodes_if row.host_is_out (Markup (codes "<span class=\"badge\">host out</span>") ∷ [])
     ++ (Markup (codes "</td>") ∷ [])
 
 -- how long before the moment of the page a moment was, which stands in the title of the cell that begins so
@@ -58,6 +60,16 @@ unfoldable pub age_nodes : ℕ → Option ℕ → List NodeView
 age_nodes moment None = Markup (codes "<td class=\"num cell soft\">never</td>") ∷ []
 age_nodes moment (Some last) = ago_nodes (codes "<td class=\"num cell\" title=\"") moment last
 
+-- the output, its performance data apart
+unfoldable pub output_nodes : ℕ → List NodeView
+output_nodes index =
+    Markup (codes "<td class=\"out\">")
+    ∷ Text (slot.Object index text.Output)
+    ∷ Markup (codes " <span class=\"soft perf\">")
+    ∷ Text (slot.Object index text.Performance)
+    ∷ Markup (codes "</span>")
+    ∷ []
+
 -- the row of the object of this index; with the gateway where the page shows several
 unfoldable pub object_nodes : Bool → ℕ → ObjectShape → List NodeView
 object_nodes several index row =
@@ -71,7 +83,7 @@ object_nodes several index row =
     ++ marks_nodes row
     ++ since_nodes row.moment row.since
     ++ age_nodes row.moment row.last
-    ++ (Markup (codes "<td class=\"out\">") ∷ Text (slot.Object index text.Output) ∷ [])
+    ++ output_nodes index
     ++ nodes_if several
     (Markup (codes "</td><td class=\"cell soft\" data-name=\"at\">") ∷ Text (slot.Object index text.Gateway) ∷ [])
     ++ (Markup (codes "</td></tr>\n") ∷ [])
@@ -88,6 +100,30 @@ objects_table several rows =
     ++ each_indexed (object_nodes several) rows
     ++ (Markup (codes "</tbody></table>\n") ∷ [])
 
+-- the link to a page of this number; the page that is shown has none
+unfoldable pub number_nodes : ℕ → ℕ → List NodeView
+number_nodes shown page =
+    if page == shown
+    then Markup (codes " <b aria-current=\"page\">") ∷ Number page ∷ Markup (codes "</b>") ∷ []
+    else Markup (codes " <a href=\"/?") ∷ Text (slot.Query page) ∷ Markup (codes "\">") ∷ Number page ∷ Markup (codes "</a>") ∷ []
+
+-- the links to the pages of so many objects, 500 on each, from 1 to that of the last object
+unfoldable pub numbers_nodes : ℕ → ℕ → List NodeView
+numbers_nodes shown count =
+    (Markup (codes "<nav class=\"pages\" aria-label=\"Rows\">") ∷ Number count ∷ Markup (codes " selected, page") ∷ [])
+    ++ flat_map (number_nodes shown) (range_with_len 1 ((count - 1) / 500 + 1))
+    ++ (Markup (codes "</nav>\n") ∷ [])
+
+-- nothing where one page has them all
+unfoldable pub pages_nodes : ℕ → ℕ → List NodeView
+pages_nodes shown count = nodes_if (nat_lt 500 count) (numbers_nodes shown count)
+
+-- the link to the same rows on a page where they can be marked, where there is one
+unfoldable pub to_marks_nodes : Bool → ℕ → List NodeView
+to_marks_nodes marks shown =
+    nodes_if marks
+    (Markup (codes " <a href=\"/marks?") ∷ Text (slot.Query shown) ∷ Markup (codes "\">Mark rows</a>") ∷ [])
+
 -- the list, with how many objects it has, and how many there are
 unfoldable pub objects_nodes : PageShapeView → List NodeView
 objects_nodes shape =
@@ -95,6 +131,9 @@ objects_nodes shape =
     ∷ Number (length shape.objects)
     ∷ Markup (codes " of ")
     ∷ Number shape.counts.objects
-    ∷ Markup (codes " shown</caption>\n")
+    ∷ Markup (codes " shown")
     ∷ [])
+    ++ to_marks_nodes shape.marks shape.page
+    ++ (Markup (codes "</caption>\n") ∷ [])
     ++ objects_table (nat_lt 1 (length shape.gateways)) shape.objects
+    ++ pages_nodes shape.page shape.selected

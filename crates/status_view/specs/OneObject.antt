@@ -12,7 +12,7 @@ use Rattle.status_merge.specs.declared.gateway.Gateway.{Gateway}
 use Rattle.status_merge.specs.declared.gateway.MergedObject.{MergedObject}
 use Rattle.status_merge.specs.declared.entries.Origin.{Origin}
 use Rattle.status_merge.specs.Ranks.{is_made}
-use Rattle.status_merge.specs.Objects.{objects_on, merged}
+use Rattle.status_merge.specs.Objects.{objects_on, merged, with_hosts}
 use Rattle.status_merge.specs.Entries.{comment_view, comment_lines, downtime_view, downtime_lines}
 use Rattle.status_view.specs.declared.view.View.{View}
 use Rattle.status_view.specs.declared.layout.EntryList.TheVariants.{Comments, Downtimes}
@@ -43,7 +43,8 @@ is_asked asked host service = bytes_eq host asked.host.now && bytes_eq service a
 -- the object's row on the page of a gateway, as the list of objects has it of that gateway alone
 abbrev pub rows_on : ObjectAsked → Gateway → List MergedObject
 rows_on asked gateway =
-    filter (λ object. is_asked asked object.row.host.now object.row.service.now) (merged (objects_on gateway))
+    filter (λ object. is_asked asked object.row.host.now object.row.service.now)
+    (with_hosts (merged (objects_on gateway)))
 
 -- whether a line is that of a comment on the object, or of a downtime entry of it
 abbrev pub is_comment_on : ObjectAsked → ShownComment × List Origin → Bool

@@ -1,5 +1,5 @@
 -- What decides the markup of a page: `page_shape`. A shape has states, marks, moments, counts and ids, and no text.
-use Rattle.std.specs.Prelude.{ℕ, Bool, false, not, ◌==◌, nat_lt, List, map, length, count_by, Option, Some, None, is_some, Ok, Err}
+use Rattle.std.specs.Prelude.{ℕ, Bool, false, not, ◌==◌, ◌||◌, nat_lt, List, map, length, count_by, Option, Some, None, is_some, Ok, Err}
 use Rattle.gate_model.specs.declared.state.State.TheVariants.{Pending}
 use Rattle.gate_model.specs.State.{is_same_state}
 use Rattle.status_merge.specs.declared.gateway.Gateway.{Gateway}
@@ -9,6 +9,7 @@ use Rattle.status_merge.specs.declared.entries.CommentLine.{CommentLine}
 use Rattle.status_merge.specs.declared.entries.DowntimeLine.{DowntimeLine}
 use Rattle.status_merge.specs.declared.counts.Counts.{Counts}
 use Rattle.status_merge.specs.declared.query.Choice.{Choice}
+use Rattle.status_merge.specs.Asking.{Asked, asked_by}
 use Rattle.status_merge.specs.Ranks.{rank, counts_of}
 use Rattle.status_view.specs.declared.shape.GatewayShape.{GatewayShape}
 use Rattle.status_view.specs.declared.shape.ObjectShape.{ObjectShape}
@@ -30,6 +31,12 @@ pub record EntryShapeView : Type 0 where
 pub record PageShapeView : Type 0 where
   pub clock : ℕ
   pub choice : Choice
+  pub filters : Bool
+  pub acknowledged : Option Bool
+  pub downtime : Option Bool
+  pub page : ℕ
+  pub selected : ℕ
+  pub marks : Bool
   pub refresh : ℕ
   pub keeps_refresh : Bool
   pub counts : Counts
@@ -49,6 +56,12 @@ abbrev pub shape_view : PageShape → PageShapeView
 shape_view shape = record {
   clock = shape.clock;
   choice = shape.choice;
+  filters = shape.filters;
+  acknowledged = shape.acknowledged;
+  downtime = shape.downtime;
+  page = shape.page;
+  selected = shape.selected;
+  marks = shape.marks;
   refresh = shape.refresh;
   keeps_refresh = shape.keeps_refresh;
   counts = shape.counts;
@@ -82,7 +95,7 @@ gateway_shape gateway = elim gateway.page [
 
 -- an unhandled problem, or a stale object that is no problem, needs attention: the ranks 0 to 4
 abbrev pub is_urgent : MergedObject → Bool
-is_urgent object = nat_lt (rank object.row) 5
+is_urgent object = nat_lt (rank object) 5
 
 -- the shape of an object's row
 abbrev pub object_shape : MergedObject → ObjectShape
@@ -93,6 +106,7 @@ object_shape object = record {
   stale = object.row.stale;
   acknowledgement = object.row.acknowledgement;
   depth = object.row.depth;
+  host_is_out = object.host_is_out;
   is_urgent = is_urgent object;
   moment = object.moment;
   since = object.since;
@@ -126,11 +140,26 @@ downtime_shape line = record {
   ids = map (λ origin. origin.id) line.origins.items;
 }
 
--- the shape of a page: the counts are those of all objects, and the rows those of the objects that the query selects
+-- whether more is asked for than a state and a host
+abbrev pub has_filters : Asked → Bool
+has_filters asked =
+    not (length asked.service == 0)
+    || not (length asked.output == 0)
+    || not (length asked.gateway == 0)
+    || is_some asked.acknowledged
+    || is_some asked.downtime
+
+-- the shape of a page: the counts are those of all objects, and the rows those of its page
 abbrev pub page_shape : View → PageShapeView
 page_shape view = record {
   clock = view.clock;
   choice = view.query.now.choice;
+  filters = has_filters (asked_by view.query.now);
+  acknowledged = view.query.now.acknowledged;
+  downtime = view.query.now.downtime;
+  page = view.query.now.page;
+  selected = view.selected;
+  marks = view.marks;
   refresh = view.query.now.refresh;
   keeps_refresh = not (view.query.now.refresh == view.refresh);
   counts = counts_of view.all.now;

@@ -1,17 +1,17 @@
 -- The counts of a page, each with the link to the objects that it counts: `summary_nodes`. Its form: `form_nodes`.
 -- Own rules.
-use Rattle.std.specs.Prelude.{◌≡◌, ℕ, Bool, true, false, ◌==◌, List, [], ◌∷◌, ◌++◌, length, codes}
+use Rattle.std.specs.Prelude.{◌≡◌, ℕ, Bool, true, false, ◌==◌, List, [], ◌∷◌, ◌++◌, length, Option, Some, None, codes}
 use Rattle.std.specs.List.{flat_map}
 use Rattle.gate_model.specs.declared.state.State.{State}
 use Rattle.gate_model.specs.declared.state.State.TheVariants.{Pending, Ok, Warning, Critical, Unknown, Up, Down, Unreachable}
 use Rattle.gate_model.specs.State.{is_same_state}
-use Rattle.gate_model.specs.Table.{object_kind}
-use Rattle.status_reading.specs.RowFaults.{service_name, is_state_of}
 use Rattle.status_merge.specs.declared.gateway.MergedObject.{MergedObject}
 use Rattle.status_merge.specs.declared.query.Choice.{Choice}
 use Rattle.status_merge.specs.declared.query.Choice.TheVariants.{All, Problems, Unhandled, Stale, In}
-use Rattle.status_merge.specs.Asking.{choice_word}
+use Rattle.status_merge.specs.Asking.{choice_word, mark_word, only}
 use Rattle.status_merge.specs.Selecting.{selected}
+use Rattle.status_view.specs.declared.layout.AskedText.{AskedText}
+use Rattle.status_view.specs.declared.layout.AskedText.TheVariants as asked
 use Rattle.status_view.specs.declared.layout.Slot.TheVariants as slot
 use Rattle.status_view.specs.declared.summary_layout.Tile.{Tile}
 use Rattle.status_view.specs.Layout.{NodeView, Markup, Number, Text, nodes_if}
@@ -25,6 +25,13 @@ same_choice Unhandled Unhandled = true
 same_choice Stale Stale = true
 same_choice (In one) (In other) = is_same_state one other
 same_choice one other = false
+
+-- whether the same is asked of a mark
+unfoldable pub same_mark : Option Bool → Option Bool → Bool
+same_mark None None = true
+same_mark (Some true) (Some true) = true
+same_mark (Some false) (Some false) = true
+same_mark one other = false
 
 -- the rest of a link's query, after its state: the refresh that the query asks for. A count is that of all hosts, so its
 -- link asks for all.
@@ -101,14 +108,9 @@ summary_nodes shape =
 abbrev pub tiles_of : PageShapeView → List TileView
 tiles_of shape = all_tiles shape ++ host_tiles shape ++ service_tiles shape
 
--- an object has a state of its kind, as on every page that is read
-abbrev pub HasOwnState : MergedObject → Type 0
-HasOwnState object =
-    is_state_of object.row.last (object_kind (service_name object.row.service.now)) object.row.state ≡ true
-
 -- the number of a tile is the length of what its link selects of these objects
 abbrev pub CountsSelected : List MergedObject → TileView → Type 0
-CountsSelected objects tile = tile.count ≡ length (selected tile.choice [] objects)
+CountsSelected objects tile = tile.count ≡ length (selected (only tile.choice) objects)
 
 -- ---- the form
 
@@ -126,6 +128,39 @@ form_choices =
     ∷ In Critical ∷ In Warning ∷ In Unknown ∷ In Ok
     ∷ In Down ∷ In Unreachable ∷ In Up ∷ In Pending ∷ []
 
+-- the entry of a list of what is asked of a mark; what the query asks is selected
+unfoldable pub mark_option_nodes : Option Bool → Option Bool → List NodeView
+mark_option_nodes chosen mark =
+    (Markup (codes "<option") ∷ [])
+    ++ nodes_if (same_mark chosen mark) (Markup (codes " selected") ∷ [])
+    ++ (Markup (codes ">") ∷ Markup (mark_word mark) ∷ Markup (codes "</option>") ∷ [])
+
+-- the list, whose beginning is this
+unfoldable pub mark_nodes : List ℕ → Option Bool → List NodeView
+mark_nodes begin chosen =
+    (Markup begin ∷ [])
+    ++ mark_option_nodes chosen None
+    ++ mark_option_nodes chosen (Some true)
+    ++ mark_option_nodes chosen (Some false)
+    ++ (Markup (codes "</select></label>") ∷ [])
+
+-- a text, whose field's beginning is this
+unfoldable pub text_nodes : List ℕ → AskedText → List NodeView
+text_nodes begin what = Markup begin ∷ Text (slot.Asked what) ∷ Markup (codes "\"></label>") ∷ []
+
+-- the filters, which are folded unless the query has one
+unfoldable pub filters_nodes : PageShapeView → List NodeView
+filters_nodes shape =
+    (Markup (codes " <details") ∷ [])
+    ++ nodes_if shape.filters (Markup (codes " open") ∷ [])
+    ++ (Markup (codes "><summary>Filters</summary>") ∷ [])
+    ++ text_nodes (codes "<label>Service <input name=\"service\" value=\"") asked.Service
+    ++ text_nodes (codes " <label>Output <input name=\"output\" value=\"") asked.Output
+    ++ text_nodes (codes " <label>Gateway <input name=\"gateway\" value=\"") asked.Gateway
+    ++ mark_nodes (codes " <label>Acknowledged <select name=\"acknowledged\">") shape.acknowledged
+    ++ mark_nodes (codes " <label>In downtime <select name=\"downtime\">") shape.downtime
+    ++ (Markup (codes "</details>") ∷ [])
+
 unfoldable pub form_nodes : PageShapeView → List NodeView
 form_nodes shape =
     (Markup (codes "<form method=\"get\" action=\"/\" role=\"search\" aria-label=\"Objects\">")
@@ -133,9 +168,11 @@ form_nodes shape =
     ∷ [])
     ++ flat_map (option_nodes shape.choice) form_choices
     ++ (Markup (codes "</select></label> <label>Host <input name=\"host\" value=\"")
-    ∷ Text slot.HostAsked
+    ∷ Text (slot.Asked asked.Host)
     ∷ Markup (codes "\"></label> <label>Refresh <input name=\"refresh\" type=\"number\"")
     ∷ Markup (codes " min=\"0\" max=\"3600\" value=\"")
     ∷ Number shape.refresh
-    ∷ Markup (codes "\"></label> <button>Show</button></form>\n")
+    ∷ Markup (codes "\"></label>")
     ∷ [])
+    ++ filters_nodes shape
+    ++ (Markup (codes " <button>Show</button></form>\n") ∷ [])

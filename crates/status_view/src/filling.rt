@@ -1,20 +1,21 @@
 //! The texts of a page, each in its slot.
 
-ghost use Rattle.std.specs.Prelude.{◌≡◌, ◌++◌, IfOk, OnOk};
+ghost use Rattle.std.specs.Prelude.{◌≡◌, ◌==◌, ◌<◌, ◌++◌, position, length, IfOk, IfSome, OnOk};
 ghost use Rattle.form_urlencoded.specs.Form.{byte_serialize};
 ghost use Rattle.html_text.specs.Escaping.{html_text};
 ghost use Rattle.std.specs.Str.Lossy.{utf8_lossy};
 ghost use Rattle.status_reading.specs.Plain.{plain_bytes};
+ghost use Rattle.status_merge.specs.Asking.{asked_by};
 ghost use Rattle.status_view.specs.Layout.{node_view};
-ghost use Rattle.status_view.specs.Links.{object_link};
-ghost use Rattle.status_view.specs.Filling.{old_cause, cause_text, object_text, entry_text, change_text, slot_text, with_text, filled, piece_bytes, html_bytes};
+ghost use Rattle.status_view.specs.Links.{object_link, page_query};
+ghost use Rattle.status_view.specs.Filling.{old_cause, cause_text, words_of, performance_of, object_text, entry_text, change_text, asked_text, slot_text, with_text, filled, piece_bytes, html_bytes};
 
-use crate::layout::{ChangeText, EntryList, EntryText, Layout, Node, ObjectText, Slot};
-use crate::links::{object_link, push_value};
+use crate::layout::{AskedText, ChangeText, EntryList, EntryText, Layout, Node, ObjectText, Slot};
+use crate::links::{object_link, page_query, push_value};
 use crate::view::View;
 use html_text::Html;
 use status_memory::GatewayChange;
-use status_merge::{Gateway, MergedObject, Old, Origin};
+use status_merge::{Gateway, MergedObject, Old, Origin, Query};
 use status_reading::plain_bytes;
 use std::alloc::{AllocError, Global};
 
@@ -59,6 +60,31 @@ fn put_cause(html: &mut Html, gateway: &Gateway<'_>) -> Result<(), AllocError>
     }
 }
 
+fn bar(output: &[u8]) -> Option<usize>
+    ensures offset { result ≡ position (λ byte. byte == 124) output.now }
+    ensures within { IfSome result (λ offset. offset < length output.now) }
+{
+    output.iter().position(|byte| *byte == b'|')
+}
+
+fn words_of(output: &[u8]) -> &[u8]
+    ensures { result.now ≡ words_of output.now }
+{
+    match bar(output) {
+        Some(offset) => &output[..offset],
+        None => output,
+    }
+}
+
+fn performance_of(output: &[u8]) -> &[u8]
+    ensures { result.now ≡ performance_of output.now }
+{
+    match bar(output) {
+        Some(offset) => &output[offset + 1..],
+        None => b"",
+    }
+}
+
 fn put_object(
     alloc: Global,
     html: &mut Html,
@@ -72,7 +98,8 @@ fn put_object(
         ObjectText::HostInLink => put_in_link(alloc, html, shown.row.host),
         ObjectText::Service => put_field(alloc, html, shown.row.service),
         ObjectText::Link => put_link(alloc, html, shown.row.host, shown.row.service),
-        ObjectText::Output => put_field(alloc, html, shown.row.output),
+        ObjectText::Output => put_field(alloc, html, words_of(shown.row.output)),
+        ObjectText::Performance => put_field(alloc, html, performance_of(shown.row.output)),
         ObjectText::Gateway => html.text(shown.gateway.as_bytes()),
     }
 }
@@ -180,12 +207,35 @@ fn put_change(
     }
 }
 
+// A text that a query asks for.
+fn put_asked(html: &mut Html, query: &Query, text: AskedText) -> Result<(), AllocError>
+    ensures { OnOk result
+        (html.new ≡ html.old ++ html_text (asked_text text (asked_by query.now))) }
+{
+    let asked = match text {
+        AskedText::Host => &query.host,
+        AskedText::Service => &query.service,
+        AskedText::Output => &query.output,
+        AskedText::Gateway => &query.gateway,
+    };
+    html.text(asked.as_str().as_bytes())
+}
+
+// The query that asks for a page of the list.
+fn put_query(alloc: Global, html: &mut Html, query: &Query, page: usize) -> Result<(), AllocError>
+    ensures { OnOk result (html.new ≡ html.old
+        ++ html_text (page_query (asked_by query.now) query.now.refresh page)) }
+{
+    html.text(page_query(alloc, query, page)?.as_str().as_bytes())
+}
+
 fn fill_slot(alloc: Global, html: &mut Html, view: &View<'_>, slot: Slot) -> Result<(), AllocError>
     ensures { OnOk result (html.new ≡ html.old ++ html_text (slot_text view.entry.now slot)) }
 {
     match slot {
         Slot::Title => html.text(view.title.as_bytes()),
-        Slot::HostAsked => html.text(view.query.host.as_str().as_bytes()),
+        Slot::Asked(text) => put_asked(html, view.query, text),
+        Slot::Query(page) => put_query(alloc, html, view.query, page),
         Slot::Gateway(index) => match view.gateways.get(index) {
             Some(gateway) => html.text(gateway.name.as_bytes()),
             None => html.text(b""),

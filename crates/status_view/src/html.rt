@@ -1,9 +1,11 @@
 ghost use Rattle.std.specs.Prelude.{◌≡◌, map, count_by, IfOk};
 ghost use Rattle.std.specs.List.{All};
 ghost use Rattle.gate_model.specs.State.{is_same_state};
+ghost use Rattle.status_merge.specs.Asking.{asked_by};
 ghost use Rattle.status_view.specs.declared.view.View.{View as Shown};
-ghost use Rattle.status_view.specs.Shapes.{entry_shape_view, shape_view, old_age, gateway_shape, is_urgent, object_shape, comment_shape, downtime_shape, page_shape};
-ghost use Rattle.status_view.specs.SummaryLayout.{tiles_of, HasOwnState, CountsSelected};
+ghost use Rattle.status_view.specs.Shapes.{entry_shape_view, shape_view, old_age, gateway_shape, is_urgent, object_shape, comment_shape, downtime_shape, has_filters, page_shape};
+ghost use Rattle.status_view.specs.SummaryLayout.{tiles_of, CountsSelected};
+ghost use Rattle.status_merge.specs.Objects.{HasOwnState};
 ghost use Rattle.status_view.specs.Page.{page_nodes};
 ghost use Rattle.status_view.specs.Filling.{filled, html_bytes, without_texts};
 
@@ -14,7 +16,9 @@ use crate::shape::{
 };
 use crate::view::View;
 use html_text::Html;
-use status_merge::{CommentLine, DowntimeLine, Gateway, MergedObject, Old, Origin, count, rank};
+use status_merge::{
+    CommentLine, DowntimeLine, Gateway, MergedObject, Old, Origin, Query, count, rank,
+};
 use status_reading::State;
 use std::alloc::{AllocError, Global};
 
@@ -59,7 +63,8 @@ fn object_shape(shown: &MergedObject<'_>) -> ObjectShape
         stale: row.stale,
         acknowledgement: row.acknowledgement,
         depth: row.depth,
-        is_urgent: rank(row) < 5,
+        host_is_out: shown.host_is_out,
+        is_urgent: rank(shown) < 5,
         moment: shown.moment,
         since: shown.since,
     }
@@ -169,10 +174,18 @@ fn pending_in(objects: &[MergedObject<'_>]) -> usize
 fn urgent_in(objects: &[MergedObject<'_>]) -> usize
     ensures { result ≡ count_by is_urgent objects.now }
 {
-    objects
-        .iter()
-        .filter(|object| rank(&object.row) < 5)
-        .count()
+    objects.iter().filter(|object| rank(object) < 5).count()
+}
+
+// Whether a query asks for more than a state and a host.
+fn has_filters(query: &Query) -> bool
+    ensures { result ≡ has_filters (asked_by query.now) }
+{
+    !query.service.is_empty()
+        || !query.output.is_empty()
+        || !query.gateway.is_empty()
+        || query.acknowledged.is_some()
+        || query.downtime.is_some()
 }
 
 /// What decides the markup of a page. The counts are those of all objects, whatever the query
@@ -183,6 +196,12 @@ pub fn shape_of(alloc: Global, view: &View<'_>) -> Result<PageShape, AllocError>
     Ok(PageShape {
         clock: view.clock,
         choice: view.query.choice,
+        filters: has_filters(view.query),
+        acknowledged: view.query.acknowledged,
+        downtime: view.query.downtime,
+        page: view.query.page,
+        selected: view.selected,
+        marks: view.marks,
         refresh: view.query.refresh,
         keeps_refresh: view.query.refresh != view.refresh,
         counts: count(view.all),

@@ -13,7 +13,9 @@ pub enum ObjectText {
     Service,
     /// The link to the page of the object.
     Link,
+    /// An output's words, and its performance data.
     Output,
+    Performance,
     /// The name of its gateway.
     Gateway,
 }
@@ -48,12 +50,22 @@ pub enum ChangeText {
     GatewayInLink,
 }
 
+/// A text that the query asks for.
+#[derive(Clone, Copy)]
+pub enum AskedText {
+    Host,
+    Service,
+    Output,
+    Gateway,
+}
+
 /// The text that a slot of a page is filled with.
 #[derive(Clone, Copy)]
 pub enum Slot {
     Title,
-    /// The text of the query's host.
-    HostAsked,
+    Asked(AskedText),
+    /// The query of a URL that asks for the page of this number of the list of objects.
+    Query(usize),
     /// The name of the gateway of this index.
     Gateway(usize),
     /// Why there is no page of the gateway of this index.

@@ -1,12 +1,15 @@
-//! The link to the page of one object.
+//! The link to the page of one object, and the query that asks for a page of the list.
 
-ghost use Rattle.std.specs.Prelude.{◌≡◌, ◌++◌, IfOk, OnOk, codes, string_bytes, if◌then◌else◌};
+ghost use Rattle.std.specs.Prelude.{◌≡◌, ◌^◌, ◌<◌, ◌≤◌, ◌++◌, IfOk, OnOk, codes, string_bytes, if◌then◌else◌};
 ghost use Rattle.std.specs.Str.{bytes_eq};
-ghost use Rattle.form_urlencoded.specs.Form.{byte_serialize, decode, raw_pairs};
-ghost use Rattle.status_view.specs.Links.{object_query, object_link, value_in};
+ghost use Rattle.form_urlencoded.specs.Form.{append_pair, byte_serialize, decode, raw_pairs};
+ghost use Rattle.status_merge.specs.Asking.{asked_by, asked_in, page_asked};
+ghost use Rattle.status_view.specs.Links.{object_query, object_link, value_in, page_query};
+ghost use Rattle.status_view.specs.inner.Pairs.{IsTextPair};
 
-use form_urlencoded::{byte_serialize, raw_pairs};
+use form_urlencoded::{Serializer, byte_serialize, raw_pairs};
 use percent_encoding::percent_decode;
+use status_merge::{Query, choice_name, mark_name};
 use std::alloc::{AllocError, Global};
 
 /// The names of an object, as the pages of its gateways write them.
@@ -45,6 +48,43 @@ pub fn object_link(alloc: Global, host: &[u8], service: &[u8]) -> Result<String,
     link.push_str("&service=")?;
     push_value(&mut link, service)?;
     Ok(link)
+}
+
+// Appends a name and a value to a query.
+fn push_pair(form: &mut Serializer, name: &str, value: &str) -> Result<(), AllocError>
+    ensures pair { OnOk result (form.new
+        ≡ record form.old { form = append_pair form.old.form name.now value.now }) }
+    ensures texts { IsTextPair (name.now, value.now) }
+{
+    form.append_pair(name, value)
+}
+
+/// The query of a URL that asks for a page, from 1, of the objects that a query asks for. The only
+/// error is out of memory. Own rule.
+pub fn page_query(alloc: Global, query: &Query, page: usize) -> Result<String, AllocError>
+    ensures query { IfOk result (λ text.
+        string_bytes text ≡ page_query (asked_by query.now) query.now.refresh page) }
+
+    // It is read as what was asked for, and as this page.
+    ensures read { let pairs = raw_pairs (page_query (asked_by query.now) query.now.refresh page) in
+        1 ≤ page → page < 2 ^ 32 → IfOk result (λ _.
+        (asked_in pairs ≡ asked_by query.now) × (page_asked pairs ≡ page)) }
+{
+    let mut form = Serializer::new(String::new(alloc));
+    push_pair(&mut form, "state", choice_name(query.choice))?;
+    push_pair(&mut form, "host", query.host.as_str())?;
+    push_pair(&mut form, "service", query.service.as_str())?;
+    push_pair(&mut form, "output", query.output.as_str())?;
+    push_pair(&mut form, "gateway", query.gateway.as_str())?;
+    push_pair(&mut form, "acknowledged", mark_name(query.acknowledged))?;
+    push_pair(&mut form, "downtime", mark_name(query.downtime))?;
+    push_pair(
+        &mut form,
+        "refresh",
+        query.refresh.to_string(alloc)?.as_str(),
+    )?;
+    push_pair(&mut form, "page", page.to_string(alloc)?.as_str())?;
+    Ok(form.finish())
 }
 
 // The bytes that an encoded name or value stands for.

@@ -1,9 +1,10 @@
 //! The rows of objects.
 
-ghost use Rattle.std.specs.Prelude.{◌≡◌, ◌++◌, OnOk};
+ghost use Rattle.std.specs.Prelude.{◌≡◌, ◌++◌, ◌<◌, OnOk};
+ghost use Rattle.std.specs.List.{flat_map, range_with_len};
 ghost use Rattle.status_view.specs.Layout.{each_indexed};
 ghost use Rattle.status_view.specs.Shapes.{shape_view};
-ghost use Rattle.status_view.specs.ObjectsLayout.{object_name_nodes, acknowledgement_nodes, marks_nodes, ago_nodes, since_nodes, age_nodes, object_nodes, objects_table, objects_nodes};
+ghost use Rattle.status_view.specs.ObjectsLayout.{object_name_nodes, acknowledgement_nodes, marks_nodes, ago_nodes, since_nodes, age_nodes, output_nodes, object_nodes, objects_table, number_nodes, numbers_nodes, pages_nodes, to_marks_nodes, objects_nodes};
 
 use crate::layout::{Layout, Node, ObjectText, Slot};
 use crate::shape::{ObjectShape, PageShape};
@@ -63,8 +64,12 @@ fn lay_out_marks(layout: &mut Layout, row: &ObjectShape) -> Result<(), AllocErro
         &[
             Node::Markup("<span class=\"badge\">downtime "),
             Node::Number(u64::from(row.depth)),
-            Node::Markup("</span>"),
+            Node::Markup("</span> "),
         ],
+    )?;
+    layout.put_if(
+        row.host_is_out,
+        &[Node::Markup("<span class=\"badge\">host out</span>")],
     )?;
     layout.put(&[Node::Markup("</td>")])
 }
@@ -102,6 +107,19 @@ fn lay_out_age(layout: &mut Layout, moment: u32, last: Option<u32>) -> Result<()
     }
 }
 
+#[tactic(auto, unfolding(crate::specs::ObjectsLayout::output_nodes))]
+fn lay_out_output(layout: &mut Layout, index: usize) -> Result<(), AllocError>
+    ensures { OnOk result (layout.new ≡ layout.old ++ output_nodes index) }
+{
+    layout.put(&[
+        Node::Markup("<td class=\"out\">"),
+        Node::Slot(Slot::Object(index, ObjectText::Output)),
+        Node::Markup(" <span class=\"soft perf\">"),
+        Node::Slot(Slot::Object(index, ObjectText::Performance)),
+        Node::Markup("</span>"),
+    ])
+}
+
 fn lay_out_object(
     layout: &mut Layout,
     row: &ObjectShape,
@@ -124,10 +142,7 @@ fn lay_out_object(
     lay_out_marks(layout, row)?;
     lay_out_since(layout, row.moment, row.since)?;
     lay_out_age(layout, row.moment, row.last)?;
-    layout.put(&[
-        Node::Markup("<td class=\"out\">"),
-        Node::Slot(Slot::Object(index, ObjectText::Output)),
-    ])?;
+    lay_out_output(layout, index)?;
     layout.put_if(
         several,
         &[
@@ -169,6 +184,75 @@ pub fn lay_out_table(
     layout.put(&[Node::Markup("</tbody></table>\n")])
 }
 
+#[tactic(auto, unfolding(crate::specs::ObjectsLayout::number_nodes))]
+fn lay_out_number(layout: &mut Layout, shown: u32, page: usize) -> Result<(), AllocError>
+    ensures { OnOk result (layout.new ≡ layout.old ++ number_nodes shown page) }
+{
+    if page == shown as usize {
+        layout.put(&[
+            Node::Markup(" <b aria-current=\"page\">"),
+            Node::Number(page as u64),
+            Node::Markup("</b>"),
+        ])
+    } else {
+        layout.put(&[
+            Node::Markup(" <a href=\"/?"),
+            Node::Slot(Slot::Query(page)),
+            Node::Markup("\">"),
+            Node::Number(page as u64),
+            Node::Markup("</a>"),
+        ])
+    }
+}
+
+fn lay_out_numbers(layout: &mut Layout, shown: u32, count: usize) -> Result<(), AllocError>
+    ensures { OnOk result
+        (layout.new ≡ layout.old ++ flat_map (number_nodes shown) (range_with_len 1 count)) }
+{
+    for index in 0..count {
+        lay_out_number(layout, shown, index + 1)?;
+    }
+    Ok(())
+}
+
+fn lay_out_all_numbers(layout: &mut Layout, shown: u32, count: usize) -> Result<(), AllocError>
+    requires { 500 < count }
+    ensures { OnOk result (layout.new ≡ layout.old ++ numbers_nodes shown count) }
+{
+    layout.put(&[
+        Node::Markup("<nav class=\"pages\" aria-label=\"Rows\">"),
+        Node::Number(count as u64),
+        Node::Markup(" selected, page"),
+    ])?;
+    lay_out_numbers(layout, shown, (count - 1) / 500 + 1)?;
+    layout.put(&[Node::Markup("</nav>\n")])
+}
+
+#[tactic(auto, unfolding(crate::specs::ObjectsLayout::pages_nodes))]
+fn lay_out_pages(layout: &mut Layout, shown: u32, count: usize) -> Result<(), AllocError>
+    ensures { OnOk result (layout.new ≡ layout.old ++ pages_nodes shown count) }
+{
+    if count > 500 {
+        lay_out_all_numbers(layout, shown, count)
+    } else {
+        Ok(())
+    }
+}
+
+#[tactic(auto, unfolding(crate::specs::ObjectsLayout::to_marks_nodes))]
+fn lay_out_to_marks(layout: &mut Layout, marks: bool, shown: u32) -> Result<(), AllocError>
+    ensures { OnOk result (layout.new ≡ layout.old ++ to_marks_nodes marks shown) }
+{
+    layout.put_if(
+        marks,
+        &[
+            Node::Markup(" <a href=\"/marks?"),
+            Node::Slot(Slot::Query(shown as usize)),
+            Node::Markup("\">Mark rows</a>"),
+        ],
+    )
+}
+
 /// Appends the list of objects.
 pub fn lay_out_objects(layout: &mut Layout, shape: &PageShape) -> Result<(), AllocError>
     ensures { OnOk result (layout.new ≡ layout.old ++ objects_nodes (shape_view shape.now)) }
@@ -180,7 +264,10 @@ pub fn lay_out_objects(layout: &mut Layout, shape: &PageShape) -> Result<(), All
         Node::Number(rows.len() as u64),
         Node::Markup(" of "),
         Node::Number(shape.counts.objects as u64),
-        Node::Markup(" shown</caption>\n"),
+        Node::Markup(" shown"),
     ])?;
-    lay_out_table(layout, rows, several)
+    lay_out_to_marks(layout, shape.marks, shape.page)?;
+    layout.put(&[Node::Markup("</caption>\n")])?;
+    lay_out_table(layout, rows, several)?;
+    lay_out_pages(layout, shape.page, shape.selected)
 }

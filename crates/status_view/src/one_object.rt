@@ -22,8 +22,8 @@ use crate::view::View;
 use html_text::Html;
 use status_memory::GatewayChange;
 use status_merge::{
-    Choice, CommentLine, DowntimeLine, Gateway, MergedObject, Query, is_made, merge,
-    merge_comments, merge_downtimes,
+    CommentLine, DowntimeLine, Gateway, MergedObject, Query, is_made, merge, merge_comments,
+    merge_downtimes,
 };
 use status_reading::ShownSource;
 use std::alloc::{AllocError, Global};
@@ -275,11 +275,7 @@ fn view_page(alloc: Global, view: &View<'_>) -> Result<Html, AllocError>
 pub fn object_page(alloc: Global, asked: &ObjectAsked<'_>) -> Result<Html, AllocError>
     ensures { IfOk result (λ html. IsObjectPage asked.entry.now html) }
 {
-    let query = Query {
-        choice: Choice::All,
-        host: String::new(alloc),
-        refresh: asked.refresh,
-    };
+    let query = Query::new(alloc, asked.refresh);
     let rows = rows_of(alloc, asked)?;
     let mut comments = merge_comments(alloc, asked.gateways, &query)?;
     retain_comments(&mut comments, asked);
@@ -290,9 +286,11 @@ pub fn object_page(alloc: Global, asked: &ObjectAsked<'_>) -> Result<Html, Alloc
         title: asked.title,
         clock: asked.clock,
         refresh: asked.refresh,
+        marks: false,
         query: &query,
         gateways: asked.gateways,
         all: rows.as_slice(),
+        selected: rows.len(),
         objects: rows.as_slice(),
         comments: comments.as_slice(),
         downtimes: downtimes.as_slice(),

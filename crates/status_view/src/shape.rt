@@ -34,6 +34,8 @@ pub struct ObjectShape {
     pub stale: bool,
     pub acknowledgement: ShownAcknowledgement,
     pub depth: u32,
+    /// Whether it is a service whose host is DOWN, UNREACHABLE or in downtime.
+    pub host_is_out: bool,
     /// Whether it needs attention: an unhandled problem, or stale and no problem.
     pub is_urgent: bool,
     /// The moment of the page.
@@ -85,6 +87,15 @@ pub struct PageShape {
     /// The clock of the program, in seconds since 1970.
     pub clock: u32,
     pub choice: Choice,
+    /// Whether the query asks for more than a state and a host, and what it asks of the marks.
+    pub filters: bool,
+    pub acknowledged: Option<bool>,
+    pub downtime: Option<bool>,
+    /// The number of the page, from 1, and how many objects the query selects.
+    pub page: u32,
+    pub selected: usize,
+    /// Whether there is a page where rows can be marked.
+    pub marks: bool,
     pub refresh: u32,
     /// Whether `refresh` is not the default, so that the links keep it.
     pub keeps_refresh: bool,

@@ -37,7 +37,8 @@ table{width:100%;border-collapse:collapse;background:var(--card);border:1px soli
 th{font-size:.78rem;font-weight:600;color:var(--soft);text-align:left}\
 th,td{padding:.4rem .6rem;border-bottom:1px solid var(--line);vertical-align:top}\
 td{overflow-wrap:anywhere}.name+.cell{overflow-wrap:normal}\
-.out{white-space:pre-wrap;min-width:14rem}.num{white-space:nowrap}\
+.out{white-space:pre-wrap;min-width:9rem}.perf{display:block}.perf:empty{display:none}\
+.num{white-space:nowrap}\
 .name{font-weight:600}.name a{color:inherit}\
 .badge{display:inline-block;padding:.05rem .5rem;border-radius:1rem;font-size:.75rem;\
 font-weight:650;white-space:nowrap;overflow-wrap:normal;background:var(--markbg);color:var(--mark)}\
@@ -49,9 +50,10 @@ font-weight:650;white-space:nowrap;overflow-wrap:normal;background:var(--markbg)
 .soft{color:var(--soft);font-weight:400}tr.handled .out,tr.handled .name{color:var(--soft)}\
 .alarm{padding:.6rem .8rem;border:1px solid var(--alarm);border-radius:.5rem;\
 background:var(--alarmbg);color:var(--alarm);margin:.5rem 0}\
-footer{color:var(--soft);font-size:.85rem}\
-@media(min-width:1000px){.name{min-width:15rem}}\
-@media(max-width:720px){header,main,footer{padding:.6rem}thead{display:none}\
+.pages{margin:.6rem 0}summary{cursor:pointer;color:var(--link)}footer{color:var(--soft);font-size:.85rem}\
+@media(min-width:1200px){.name{min-width:15rem}.out{min-width:14rem}}\
+@media(max-width:1199px){.name{min-width:8rem}td .badge{white-space:normal}}\
+@media(max-width:840px){header,main,footer{padding:.6rem}thead{display:none}\
 table,caption,tbody,tr,td{display:block;border:0;background:none;padding:0}\
 tr{background:var(--card);border:1px solid var(--line);border-radius:.5rem;\
 padding:.5rem .7rem;margin-bottom:.5rem}\

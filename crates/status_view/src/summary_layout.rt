@@ -3,11 +3,11 @@
 ghost use Rattle.std.specs.Prelude.{◌≡◌, ◌++◌, map, OnOk, codes};
 ghost use Rattle.std.specs.List.{flat_map};
 ghost use Rattle.status_view.specs.Shapes.{shape_view};
-ghost use Rattle.status_view.specs.SummaryLayout.{same_choice, kept_nodes, tile_view, tile_nodes, group_nodes, state_tile, all_tiles, host_tiles, service_tiles, summary_nodes, option_nodes, form_choices, form_nodes};
+ghost use Rattle.status_view.specs.SummaryLayout.{same_choice, kept_nodes, tile_view, tile_nodes, group_nodes, state_tile, all_tiles, host_tiles, service_tiles, summary_nodes, option_nodes, form_choices, same_mark, mark_option_nodes, mark_nodes, text_nodes, filters_nodes, form_nodes};
 
-use crate::layout::{Layout, Node, Slot};
+use crate::layout::{AskedText, Layout, Node, Slot};
 use crate::shape::PageShape;
-use status_merge::{Choice, choice_name};
+use status_merge::{Choice, choice_name, mark_name};
 use status_reading::State;
 use std::alloc::AllocError;
 
@@ -226,6 +226,77 @@ fn lay_out_choices(layout: &mut Layout, chosen: Choice) -> Result<(), AllocError
     )
 }
 
+#[tactic(auto, unfolding(crate::specs::SummaryLayout::same_mark))]
+fn same_mark(one: Option<bool>, other: Option<bool>) -> bool
+    ensures { result ≡ same_mark one other }
+{
+    match (one, other) {
+        (None, None) | (Some(true), Some(true)) | (Some(false), Some(false)) => true,
+        _ => false,
+    }
+}
+
+fn lay_out_mark_option(
+    layout: &mut Layout,
+    mark: Option<bool>,
+    chosen: Option<bool>,
+) -> Result<(), AllocError>
+    ensures { OnOk result (layout.new ≡ layout.old ++ mark_option_nodes chosen mark) }
+{
+    layout.put(&[Node::Markup("<option")])?;
+    layout.put_if(same_mark(chosen, mark), &[Node::Markup(" selected")])?;
+    layout.put(&[
+        Node::Markup(">"),
+        Node::Markup(mark_name(mark)),
+        Node::Markup("</option>"),
+    ])
+}
+
+fn lay_out_mark(
+    layout: &mut Layout,
+    begin: &'static str,
+    chosen: Option<bool>,
+) -> Result<(), AllocError>
+    ensures { OnOk result (layout.new ≡ layout.old ++ mark_nodes begin.now chosen) }
+{
+    layout.put(&[Node::Markup(begin)])?;
+    lay_out_mark_option(layout, None, chosen)?;
+    lay_out_mark_option(layout, Some(true), chosen)?;
+    lay_out_mark_option(layout, Some(false), chosen)?;
+    layout.put(&[Node::Markup("</select></label>")])
+}
+
+#[tactic(auto, unfolding(crate::specs::SummaryLayout::text_nodes))]
+fn lay_out_text(layout: &mut Layout, begin: &'static str, text: AskedText) -> Result<(), AllocError>
+    ensures { OnOk result (layout.new ≡ layout.old ++ text_nodes begin.now text) }
+{
+    layout.put(&[
+        Node::Markup(begin),
+        Node::Slot(Slot::Asked(text)),
+        Node::Markup("\"></label>"),
+    ])
+}
+
+// Appends the filters, which are folded unless the query has one.
+fn lay_out_filters(layout: &mut Layout, shape: &PageShape) -> Result<(), AllocError>
+    ensures { OnOk result (layout.new ≡ layout.old ++ filters_nodes (shape_view shape.now)) }
+{
+    layout.put(&[Node::Markup(" <details")])?;
+    layout.put_if(shape.filters, &[Node::Markup(" open")])?;
+    layout.put(&[Node::Markup("><summary>Filters</summary>")])?;
+    let service = "<label>Service <input name=\"service\" value=\"";
+    lay_out_text(layout, service, AskedText::Service)?;
+    let output = " <label>Output <input name=\"output\" value=\"";
+    lay_out_text(layout, output, AskedText::Output)?;
+    let gateway = " <label>Gateway <input name=\"gateway\" value=\"";
+    lay_out_text(layout, gateway, AskedText::Gateway)?;
+    let acknowledged = " <label>Acknowledged <select name=\"acknowledged\">";
+    lay_out_mark(layout, acknowledged, shape.acknowledged)?;
+    let downtime = " <label>In downtime <select name=\"downtime\">";
+    lay_out_mark(layout, downtime, shape.downtime)?;
+    layout.put(&[Node::Markup("</details>")])
+}
+
 /// Appends the form.
 pub fn lay_out_form(layout: &mut Layout, shape: &PageShape) -> Result<(), AllocError>
     ensures { OnOk result (layout.new ≡ layout.old ++ form_nodes (shape_view shape.now)) }
@@ -237,10 +308,12 @@ pub fn lay_out_form(layout: &mut Layout, shape: &PageShape) -> Result<(), AllocE
     lay_out_choices(layout, shape.choice)?;
     layout.put(&[
         Node::Markup("</select></label> <label>Host <input name=\"host\" value=\""),
-        Node::Slot(Slot::HostAsked),
+        Node::Slot(Slot::Asked(AskedText::Host)),
         Node::Markup("\"></label> <label>Refresh <input name=\"refresh\" type=\"number\""),
         Node::Markup(" min=\"0\" max=\"3600\" value=\""),
         Node::Number(u64::from(shape.refresh)),
-        Node::Markup("\"></label> <button>Show</button></form>\n"),
-    ])
+        Node::Markup("\"></label>"),
+    ])?;
+    lay_out_filters(layout, shape)?;
+    layout.put(&[Node::Markup(" <button>Show</button></form>\n")])
 }

@@ -9,11 +9,15 @@ pub struct View<'a> {
     pub clock: u32,
     /// The seconds of refresh without a query.
     pub refresh: u32,
+    /// Whether there is a page where the rows of the list can be marked.
+    pub marks: bool,
     pub query: &'a Query,
     pub gateways: &'a [Gateway<'a>],
     /// All objects, for the counts.
     pub all: &'a [MergedObject<'a>],
-    /// Those that the query selects.
+    /// How many the query selects.
+    pub selected: usize,
+    /// Those of them on its page.
     pub objects: &'a [MergedObject<'a>],
     pub comments: &'a [CommentLine<'a>],
     pub downtimes: &'a [DowntimeLine<'a>],

@@ -2,7 +2,7 @@
 use Rattle.std.proofs.Common.{◌≡◌, ℕ, Bool, true, false, List, [], Bor, Option, Some, unwrap_or, codes, sym, subst, ◌∙◌}
 use Rattle.http.specs.declared.request.Parts.{Parts}
 use Rattle.http.specs.Uri.{uri_path, uri_query}
-use Rattle.http_header.specs.HeaderMap.{get}
+use Rattle.http_header.specs.HeaderMap.{get, get_all}
 use Rattle.http_server.specs.declared.response.Response.{Response}
 use Rattle.page_watching.specs.declared.places.Place.{Place}
 use Rattle.web_answers.specs.Answers.{IsRefusal}
@@ -14,10 +14,12 @@ use Rattle.statusweb.specs.Service.{body_asked, route_of, IsShownAt, IsMethodAns
 pub shown_at : (heading : Heading) (places : List Place) (clock : ℕ) (head : Parts) (query : List ℕ) (whole : Bool) (route : Option Route)
     (response : Response)
     → query ≡ unwrap_or (uri_query head.uri) [] → route ≡ route_of (uri_path head.uri)
-    → IsShownAt heading places clock query whole route response → IsMethodAnswer (Some whole) heading places clock head response
+    → IsShownAt heading places clock query (get_all head.headers (codes "if-none-match")) whole route response
+    → IsMethodAnswer (Some whole) heading places clock head response
 shown_at heading places clock head query whole route response asked at shown =
-    let there = subst (λ (query : List ℕ). IsShownAt heading places clock query whole route response) asked shown in
-    subst (λ (route : Option Route). IsShownAt heading places clock (unwrap_or (uri_query head.uri) []) whole route response) at there
+    let known = get_all head.headers (codes "if-none-match") in
+    let there = subst (λ (query : List ℕ). IsShownAt heading places clock query known whole route response) asked shown in
+    subst (λ (route : Option Route). IsShownAt heading places clock (unwrap_or (uri_query head.uri) []) known whole route response) at there
 
 abbrev Answers : Heading → List Place → ℕ → Parts → Response → Bool → Type 0
 Answers heading places clock head response answers = elim answers [

@@ -5,7 +5,8 @@ use Rattle.std.specs.Borrow.{Bor}
 use Rattle.std.specs.Str.{bytes_eq}
 use Rattle.http.specs.declared.request.Request.{Request}
 use Rattle.http.specs.declared.request.Parts.{Parts}
-use Rattle.http_header.specs.HeaderMap.{get}
+use Rattle.http_header.specs.FieldValue.{FieldValue}
+use Rattle.http_header.specs.HeaderMap.{get, get_all}
 use Rattle.http.specs.Request.{head_of}
 use Rattle.http.specs.Uri.{uri_path, uri_query}
 use Rattle.http_server.specs.declared.response.Response.{Response}
@@ -40,18 +41,19 @@ route_of path =
     else if bytes_eq path (codes "/style.css") then Some Style
     else None
 
--- what is answered at a path. That this is kept of what the gateways sent, and the clock the system's, no clause can say.
-abbrev pub IsShownAt : Heading → List Place → ℕ → List ℕ → Bool → Option Route → Response → Type 0
-IsShownAt heading places clock query whole None response = IsRefusal 404 [] response
-IsShownAt heading places clock query whole (Some (Status form)) response = IsStatusOf heading places clock query form whole response
-IsShownAt heading places clock query whole (Some Object) response = IsObjectOf heading places clock query whole response
-IsShownAt heading places clock query whole (Some (Changes form)) response = AreChangesOf heading places clock form whole response
-IsShownAt heading places clock query whole (Some Style) response = IsKept (codes "text/css; charset=utf-8") STYLE.now response
+-- what is answered at a path, to a request with these values of `If-None-Match`. That this is kept of what the gateways sent, and the clock the system's, no clause can say.
+abbrev pub IsShownAt : Heading → List Place → ℕ → List ℕ → List FieldValue → Bool → Option Route → Response → Type 0
+IsShownAt heading places clock query known whole None response = IsRefusal 404 [] response
+IsShownAt heading places clock query known whole (Some (Status form)) response = IsStatusOf heading places clock query form whole response
+IsShownAt heading places clock query known whole (Some Object) response = IsObjectOf heading places clock query whole response
+IsShownAt heading places clock query known whole (Some (Changes form)) response = AreChangesOf heading places clock form whole response
+IsShownAt heading places clock query known whole (Some Style) response = IsKept (codes "text/css; charset=utf-8") STYLE.now known response
 
 -- what is answered to a method
 abbrev pub IsMethodAnswer : Option Bool → Heading → List Place → ℕ → Parts → Response → Type 0
 IsMethodAnswer (Some whole) heading places clock head response =
-    IsShownAt heading places clock (unwrap_or (uri_query head.uri) []) whole (route_of (uri_path head.uri)) response
+    IsShownAt heading places clock (unwrap_or (uri_query head.uri) []) (get_all head.headers (codes "if-none-match")) whole
+    (route_of (uri_path head.uri)) response
 IsMethodAnswer None heading places clock head response = IsRefusal 405 ((codes "allow", codes "GET, HEAD") ∷ []) response
 
 -- what is answered at a clock, but for its date

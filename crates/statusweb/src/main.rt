@@ -68,6 +68,7 @@ fn serve_on<
     let heading = Heading {
         title: settings.title,
         refresh: settings.refresh,
+        marks: false,
     };
     let site = Site {
         rt,

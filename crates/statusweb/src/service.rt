@@ -75,7 +75,7 @@ fn send_path<R: Wait>(
     let query = request.uri().query().unwrap_or("");
     match route_of(request.uri().path()) {
         None => refuse(response, StatusCode::NOT_FOUND, site.alloc),
-        Some(Route::Style) => send_style(site.alloc, response),
+        Some(Route::Style) => send_style(site.alloc, request, response),
         Some(Route::Status(form)) => send_status(site, now, form, query, whole, response),
         Some(Route::Object) => send_object(site, now, query, whole, response),
         Some(Route::Changes(form)) => send_changes(site, now, form, whole, response),

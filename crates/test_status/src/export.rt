@@ -67,7 +67,7 @@ nscagate_objects{kind=\"service\",state=\"PENDING\"} 0\n\
 # HELP nscagate_objects_stale Objects without a result for longer than their threshold.\n\
 # TYPE nscagate_objects_stale gauge\n\
 nscagate_objects_stale 0\n\
-# HELP nscagate_problems_unhandled Problems neither acknowledged nor in downtime.\n\
+# HELP nscagate_problems_unhandled Problems neither acknowledged nor in downtime, without services whose host is out.\n\
 # TYPE nscagate_problems_unhandled gauge\n\
 nscagate_problems_unhandled 0\n\
 # HELP nscagate_objects_acknowledged Objects with an acknowledgement.\n\
@@ -79,7 +79,7 @@ nscagate_objects_in_downtime 1\n\
 # HELP nscagate_problem Objects with a problem.\n\
 # TYPE nscagate_problem gauge\n\
 nscagate_problem{gateway=\"e\\\"\",host=\"web1\",service=\"HTTP\",state=\"CRITICAL\",\
-acknowledged=\"true\",downtime=\"true\"} 1\n\
+acknowledged=\"true\",downtime=\"true\",host_out=\"false\"} 1\n\
 # HELP nscagate_stale Objects without a result for longer than their threshold.\n\
 # TYPE nscagate_stale gauge\n";
 

@@ -86,7 +86,7 @@ fn a_query_selects(rt: HostRuntime) -> Result<(), Fail> {
     let text = names(rt.alloc(), selected.as_slice())?;
     assert_eq!(rt; text.as_slice(), b"west db1 \n".as_slice());
     for object in selected.as_slice() {
-        assert_eq!(rt; (is_unhandled(&object.row), rank(&object.row)), (true, 0));
+        assert_eq!(rt; (is_unhandled(object), rank(object)), (true, 0));
     }
     Ok(())
 }

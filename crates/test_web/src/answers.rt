@@ -27,7 +27,7 @@ impl Service for Answers {
         }
         match request.uri().path() {
             "/sent" => send(response, StatusCode::OK, kind, body)?,
-            "/kept" => send_kept(response, kind, body)?,
+            "/kept" => send_kept(response, self.alloc, request, kind, body)?,
             _ => refuse_method(response, self.alloc)?,
         }
         add_date(response, self.alloc, 784_111_777)
@@ -52,14 +52,21 @@ referrer-policy: no-referrer\r\n\
 connection: close\r\n";
 
 #[rattlefmt::skip]
-const CASES: [(&[u8], &str, &str); 4] = [
+const CASES: [(&[u8], &str, &str); 5] = [
     // request                                                      before and after the guards
     (b"GET /sent HTTP/1.1\r\nHost: status.example:8080\r\n\r\n",
      "HTTP/1.1 200 OK\r\ncontent-type: text/plain\r\ncache-control: no-store\r\n",
      "date: Sun, 06 Nov 1994 08:49:37 GMT\r\ncontent-length: 2\r\n\r\nhi"),
-    (b"GET /kept HTTP/1.1\r\nHost: 127.0.0.1\r\n\r\n",
-     "HTTP/1.1 200 OK\r\ncontent-type: text/plain\r\ncache-control: max-age=300\r\n",
+    (b"GET /kept HTTP/1.1\r\nHost: 127.0.0.1\r\nIf-None-Match: \"8f43\"\r\n\r\n",
+     "HTTP/1.1 200 OK\r\netag: \"8f434346648f6b96df89dda901c5176b10a6d83961dd3c1ac88b59b2dc327aa4\"\r\n\
+content-type: text/plain\r\ncache-control: max-age=300\r\n",
      "date: Sun, 06 Nov 1994 08:49:37 GMT\r\ncontent-length: 2\r\n\r\nhi"),
+    (b"GET /kept HTTP/1.1\r\nHost: 127.0.0.1\r\nIf-None-Match: \"a\"\r\nIf-None-Match: \"b\", \
+W/\"8f434346648f6b96df89dda901c5176b10a6d83961dd3c1ac88b59b2dc327aa4\"\r\n\r\n",
+     "HTTP/1.1 304 Not Modified\r\n\
+etag: \"8f434346648f6b96df89dda901c5176b10a6d83961dd3c1ac88b59b2dc327aa4\"\r\n\
+cache-control: max-age=300\r\n",
+     "date: Sun, 06 Nov 1994 08:49:37 GMT\r\n\r\n"),
     (b"POST / HTTP/1.1\r\nHost: localhost\r\n\r\n",
      "HTTP/1.1 405 Method Not Allowed\r\nallow: GET, HEAD\r\ncontent-type: text/plain; charset=utf-8\r\n\
 cache-control: no-store\r\n",

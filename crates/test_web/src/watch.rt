@@ -2,8 +2,7 @@ use http::StatusCode;
 use http_server::Response;
 use page_watching::{Watch, places_in};
 use status_serving::{
-    ChangesForm, Form, Heading, Site, changes_body, send_changes, send_status, send_style,
-    status_body,
+    ChangesForm, Form, Heading, Site, changes_body, send_changes, send_status, status_body,
 };
 use std::alloc::Global;
 use std::sync::Wait;
@@ -12,6 +11,7 @@ use std::test::Fail;
 const HEADING: Heading<'static> = Heading {
     title: "nscagate",
     refresh: 30,
+    marks: false,
 };
 
 const METRICS: &[u8] = b"# HELP nscagate_up Whether the gateway's status page was read.\n\
@@ -53,21 +53,19 @@ fn a_gateway_without_a_page_is_down(rt: HostRuntime) -> Result<(), Fail> {
 }
 
 // The statuses of what is answered before the first page.
-fn statuses_of<R: Wait>(site: &Site<'_, R>) -> Result<[StatusCode; 3], Fail> {
+fn statuses_of<R: Wait>(site: &Site<'_, R>) -> Result<[StatusCode; 2], Fail> {
     let mut status = Response::new(site.alloc);
     send_status(site, 1_795_464_900, Form::Html, "", true, &mut status)?;
     let mut changes = Response::new(site.alloc);
     send_changes(site, 1_795_464_900, ChangesForm::Feed, true, &mut changes)?;
-    let mut style = Response::new(site.alloc);
-    send_style(site.alloc, &mut style)?;
-    Ok([status.status, changes.status, style.status])
+    Ok([status.status, changes.status])
 }
 
 fn statuses_over<'x, R: Wait>(
     rt: &'x R,
     alloc: Global,
     watch: &'x Watch<'_>,
-) -> Result<[StatusCode; 3], Fail> {
+) -> Result<[StatusCode; 2], Fail> {
     let heading = HEADING;
     let site = Site {
         rt,
@@ -78,7 +76,7 @@ fn statuses_over<'x, R: Wait>(
     statuses_of(&site)
 }
 
-fn statuses<R: Wait>(rt: &R, alloc: Global) -> Result<[StatusCode; 3], Fail> {
+fn statuses<R: Wait>(rt: &R, alloc: Global) -> Result<[StatusCode; 2], Fail> {
     let places = places_in(alloc, &["east=127.0.0.1:5669"])?;
     let watch = Watch::new(alloc, places.as_slice())?;
     statuses_over(rt, alloc, &watch)
@@ -87,13 +85,6 @@ fn statuses<R: Wait>(rt: &R, alloc: Global) -> Result<[StatusCode; 3], Fail> {
 #[test]
 fn without_a_page_the_status_is_unavailable(rt: HostRuntime) -> Result<(), Fail> {
     let statuses = statuses(&rt, rt.alloc())?;
-    assert!(rt;
-        statuses
-            == [
-                StatusCode::SERVICE_UNAVAILABLE,
-                StatusCode::OK,
-                StatusCode::OK
-            ]
-    );
+    assert!(rt; statuses == [StatusCode::SERVICE_UNAVAILABLE, StatusCode::OK]);
     Ok(())
 }

@@ -1,1 +1,2 @@
 pub mod FieldSteps
+pub mod RefusalSteps

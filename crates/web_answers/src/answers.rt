@@ -1,18 +1,23 @@
 //! Responses, each with the header fields that keep a browser from running or loading anything
 //! else.
-ghost use Rattle.std.specs.Prelude.{◌∷◌, [], OnOk, codes};
+ghost use Rattle.std.specs.Prelude.{◌≡◌, ◌∷◌, [], IfOk, OnOk, codes, string_bytes};
+ghost use Rattle.std.specs.List.{list_any};
+ghost use Rattle.http.specs.Request.{head_of};
 ghost use Rattle.http.specs.StatusCode.{code_digits};
-ghost use Rattle.http_server.specs.Response.{IsBlank};
-ghost use Rattle.web_answers.specs.Answers.{Extends, IsDated, guard_fields, body_fields, IsSent, IsKept, IsRefusal};
+ghost use Rattle.http_header.specs.HeaderMap.{get_all};
+ghost use Rattle.http_server.specs.Response.{IsBlank, IsResponse};
+ghost use Rattle.web_answers.specs.Answers.{Extends, IsDated, guard_fields, body_fields, IsSent, entity_tag, has_tag, IsKept, IsRefusal};
 
 use bytes::Bytes;
 use http::header::{
-    ALLOW, CACHE_CONTROL, CONNECTION, CONTENT_SECURITY_POLICY, CONTENT_TYPE, DATE, REFERRER_POLICY,
-    X_CONTENT_TYPE_OPTIONS,
+    ALLOW, CACHE_CONTROL, CONNECTION, CONTENT_SECURITY_POLICY, CONTENT_TYPE, DATE, ETAG,
+    IF_NONE_MATCH, REFERRER_POLICY, X_CONTENT_TYPE_OPTIONS,
 };
-use http::{HeaderValue, StatusCode};
+use http::{HeaderValue, Request, StatusCode};
 use http_server::Response;
 use httpdate::HttpDate;
+use memchr::memmem::find_iter;
+use sha2::{Digest, Sha256};
 use std::alloc::{AllocError, Global};
 
 // No script runs and nothing but the style is loaded, even where an escape were missing.
@@ -58,15 +63,67 @@ pub fn send(
     fill(response, kind, HeaderValue::from_static("no-store"), body)
 }
 
-/// Answers a body of a type, that is kept for five minutes.
+fn entity_tag(alloc: Global, body: &[u8]) -> Result<String, AllocError>
+    ensures { IfOk result (λ tag. string_bytes tag ≡ entity_tag body.now) }
+{
+    let mut hasher = Sha256::new();
+    hasher.update(body);
+    let digits = hex::encode(alloc, hasher.finalize().as_slice())?;
+    let mut tag = String::from_str(alloc, "\"")?;
+    tag.push_str(digits.as_str())?;
+    tag.push_str("\"")?;
+    Ok(tag)
+}
+
+fn has_tag(tag: &[u8], value: &[u8]) -> bool
+    ensures { result ≡ has_tag tag.now value.now }
+{
+    value == b"*".as_slice() || find_iter(value, tag).next().is_some()
+}
+
+// Whether a request has a body with this tag already.
+fn is_known(request: &Request<Bytes>, tag: &[u8]) -> bool
+    ensures { result ≡ list_any (λ value. has_tag tag.now value.bytes)
+        (get_all (head_of request.now).headers (codes "if-none-match")) }
+{
+    let values = request.headers().get_all(IF_NONE_MATCH);
+    values.iter().any(|value| has_tag(tag, value.as_bytes()))
+}
+
+// Answers that a body with this tag is there already.
+fn send_known(response: &mut Response, tag: HeaderValue) -> Result<(), AllocError>
+    requires { IsBlank response.old }
+    ensures { OnOk result (IsResponse 304 ((codes "etag", tag.bytes)
+        ∷ (codes "cache-control", codes "max-age=300") ∷ guard_fields) [] response.new) }
+{
+    response.status = StatusCode::NOT_MODIFIED;
+    response.add_header(ETAG, tag)?;
+    response.add_header(CACHE_CONTROL, HeaderValue::from_static("max-age=300"))?;
+    add_guards(response)
+}
+
+/// Answers a body of a type, that may be kept for five minutes, with its entity tag; or 304 without a
+/// body, where the request has that tag in a field `If-None-Match`. The only error is out of memory.
 pub fn send_kept(
     response: &mut Response,
+    alloc: Global,
+    request: &Request<Bytes>,
     kind: HeaderValue,
     body: Vec<u8>,
 ) -> Result<(), AllocError>
     requires { IsBlank response.old }
-    ensures { OnOk result (IsKept kind.bytes body.items response.new) }
+    ensures { OnOk result (IsKept kind.bytes body.items
+        (get_all (head_of request.now).headers (codes "if-none-match")) response.new) }
 {
+    let tag = entity_tag(alloc, body.as_slice())?;
+    // A tag has digits and quotes alone, which a field may have.
+    let Ok(field) = HeaderValue::from_bytes(alloc, tag.as_str().as_bytes()) else {
+        return Err(AllocError);
+    };
+    if is_known(request, tag.as_str().as_bytes()) {
+        return send_known(response, field);
+    }
+    response.add_header(ETAG, field)?;
     fill(
         response,
         kind,

@@ -4,6 +4,8 @@
 
 mod answers;
 mod hosts;
+mod refusals;
 
 pub use answers::{add_date, refuse, refuse_method, send, send_kept};
 pub use hosts::answers_host;
+pub use refusals::guarded;

@@ -1,11 +1,19 @@
-ghost use Rattle.std.specs.Prelude.{◌≡◌};
+ghost use Rattle.std.specs.Prelude.{◌≡◌, IfOk};
+ghost use Rattle.httpdate.specs.declared.date.HttpDate.{HttpDate as Date};
+ghost use Rattle.http_server.specs.Connection.{history};
+ghost use Rattle.web_answers.specs.Refusals.{guarded};
 ghost use Rattle.web_connections.specs.Times.{limit_of};
 
-use http_server::{Connection, Service};
+use bytes::Bytes;
+use http_server::{Connection, Reason, Service, State};
+use httpdate::HttpDate;
 use mio::net::TcpStream;
+use std::alloc::{AllocError, Global};
 use std::io;
-use std::io::{ErrorKind, Read};
+use std::io::{ErrorKind, Read, Write};
 use std::net::Shutdown;
+use std::time::{Clock, SystemTime};
+use web_answers::guarded;
 
 // How many bytes are read and dropped at a time.
 const PIECE: usize = 16_384;
@@ -42,6 +50,8 @@ pub(crate) fn limit_of(owed: Owed) -> u64
 pub(crate) struct Browser {
     stream: TcpStream,
     connection: Connection,
+    // The rest of a refusal of http_server's own, in place of the connection's output.
+    refusal: Bytes,
     // Whether a read or a write may find something to do.
     pub(crate) may_read: bool,
     pub(crate) may_write: bool,
@@ -62,11 +72,36 @@ fn unless_blocked(called: io::Result<usize>) -> io::Result<Option<usize>> {
     }
 }
 
+// Takes all that waits to be sent.
+fn take_pending(alloc: Global, connection: &mut Connection) -> Result<Vec<u8>, AllocError>
+    ensures { IfOk result (λ text. text.items ≡ (history connection.old).pending) }
+{
+    let mut text = Vec::new(alloc);
+    while connection.wants_write() {
+        let piece = connection.output();
+        let count = piece.len();
+        text.extend_from_slice(piece)?;
+        connection.sent(count);
+    }
+    Ok(text)
+}
+
+// Takes a refusal of http_server's own, with the fields of every answer.
+fn take_refusal<R: Clock>(rt: &R, alloc: Global, connection: &mut Connection) -> io::Result<Bytes>
+    ensures { IfOk result (λ text.
+        (date : Date) × (text ≡ guarded date (history connection.old).pending)) }
+{
+    let date = HttpDate::try_from(SystemTime::now(rt)?)?;
+    let text = take_pending(alloc, connection)?;
+    Ok(Bytes::from_vec(guarded(alloc, text.as_slice(), date)?)?)
+}
+
 impl Browser {
     pub(crate) fn new(stream: TcpStream, connection: Connection, now: u64) -> Browser {
         Browser {
             stream,
             connection,
+            refusal: Bytes::new(),
             may_read: true,
             may_write: true,
             kept: 0,
@@ -79,7 +114,7 @@ impl Browser {
     pub(crate) fn owed(&self) -> Owed {
         if self.is_parting {
             Owed::End
-        } else if self.connection.wants_write() {
+        } else if self.wants_write() {
             Owed::Taking
         } else {
             Owed::Request
@@ -106,16 +141,38 @@ impl Browser {
         }
     }
 
+    // The next bytes to send.
+    fn output(&self) -> &[u8] {
+        if self.refusal.is_empty() {
+            self.connection.output()
+        } else {
+            self.refusal.as_slice()
+        }
+    }
+
+    fn wants_write(&self) -> bool {
+        !self.refusal.is_empty() || self.connection.wants_write()
+    }
+
+    fn write(&mut self) -> io::Result<usize> {
+        if self.refusal.is_empty() {
+            return self.connection.write_to(&mut self.stream);
+        }
+        let count = self.stream.write(self.refusal.as_slice())?;
+        self.refusal.advance(count);
+        Ok(count)
+    }
+
     // Writes once, if there is something to write: whether some was taken.
     fn send(&mut self) -> io::Result<bool> {
-        if !self.may_write || !self.connection.wants_write() {
+        if !self.may_write || !self.wants_write() {
             return Ok(false);
         }
-        match unless_blocked(self.connection.write_to(&mut self.stream))? {
+        match unless_blocked(self.write())? {
             None => self.may_write = false,
             Some(0) => return Err(io::Error::from(ErrorKind::WriteZero)),
             Some(_) => {
-                let left = self.connection.output().len();
+                let left = self.output().len();
                 self.kept = if left == 0 { 0 } else { self.kept.max(left) };
                 return Ok(true);
             }
@@ -125,7 +182,7 @@ impl Browser {
 
     // Reads once, if a request is awaited: whether something came, or the end.
     fn receive(&mut self) -> io::Result<bool> {
-        if !self.may_read || self.connection.wants_write() || !self.connection.wants_read() {
+        if !self.may_read || self.wants_write() || !self.connection.wants_read() {
             return Ok(false);
         }
         match unless_blocked(self.connection.read_from(&mut self.stream))? {
@@ -149,8 +206,29 @@ impl Browser {
         Ok(true)
     }
 
+    // Answers what came. A refusal of http_server's own gets the fields of every answer.
+    fn advance<R: Clock, S: Service>(
+        &mut self,
+        rt: &R,
+        alloc: Global,
+        service: &mut S,
+    ) -> io::Result<()> {
+        self.connection.advance(service);
+        let is_refused = matches!(self.connection.state(), State::Closing(Reason::Refused(_)));
+        if is_refused && self.connection.wants_write() {
+            self.refusal = take_refusal(rt, alloc, &mut self.connection)?;
+        }
+        Ok(())
+    }
+
     /// Does what can be done without waiting: whether the connection goes on.
-    pub(crate) fn go_on<S: Service>(&mut self, service: &mut S, now: u64) -> io::Result<bool> {
+    pub(crate) fn go_on<R: Clock, S: Service>(
+        &mut self,
+        rt: &R,
+        alloc: Global,
+        service: &mut S,
+        now: u64,
+    ) -> io::Result<bool> {
         if self.is_parting {
             return self.drop_piece();
         }
@@ -159,8 +237,8 @@ impl Browser {
             if !is_sent && !self.receive()? {
                 return Ok(true);
             }
-            self.connection.advance(service);
-            if self.connection.is_done() {
+            self.advance(rt, alloc, service)?;
+            if !self.wants_write() && self.connection.is_done() {
                 self.stream.shutdown(Shutdown::Write)?;
                 self.is_parting = true;
                 self.since = now;

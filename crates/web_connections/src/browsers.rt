@@ -194,14 +194,15 @@ impl Browsers {
 
     // Does for the browser at this place what can be done without waiting, and closes its connection
     // where it has failed, is late or has ended.
-    fn go_on<S: Service>(&mut self, service: &mut S, place: usize, now: u64) {
+    fn go_on<R: Clock, S: Service>(&mut self, rt: &R, service: &mut S, place: usize, now: u64) {
         if place >= self.browsers.len() {
             return;
         }
         let Some(browser) = &mut self.browsers[place] else {
             return;
         };
-        let goes_on = !browser.can_go_on() || browser.go_on(service, now).unwrap_or(false);
+        let goes_on = !browser.can_go_on()
+            || browser.go_on(rt, self.alloc, service, now).unwrap_or(false);
         if !goes_on || browser.is_late(now) {
             self.close(place);
         }
@@ -237,7 +238,7 @@ impl Browsers {
         let now = self.now(rt);
         self.accept(rt, now);
         for place in 0..self.browsers.len() {
-            self.go_on(service, place, now);
+            self.go_on(rt, service, place, now);
         }
         self.limit_kept();
     }

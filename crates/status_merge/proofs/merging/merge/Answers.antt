@@ -1,22 +1,27 @@
-use Rattle.std.proofs.Common.{◌≡◌, List, [], ◌∷◌, ◌++◌, length, map, refl, sym, ◌∙◌, ap, append-nil, arith}
-use Rattle.std.specs.List.{flat_map}
-use Rattle.std.specs.Vec.Iter.{into_iter_items}
-use Rattle.status_merge.specs.Objects.{latest, merged, objects_on}
-use Rattle.status_merge.specs.inner.Views.{group_view}
-use Rattle.status_merge.proofs.MergeLaws.{merged_lists}
+use Rattle.std.proofs.Common.{◌≡◌, List, map, subst, sym, ap, ◌∙◌}
+use Rattle.std.specs.List.{All, flat_map}
+use Rattle.std.proofs.lemmas.Result.{IfOk-weaker}
+use Rattle.status_merge.specs.declared.gateway.MergedObject.{MergedObject}
+use Rattle.status_merge.specs.Objects.{objects_on, merged, with_hosts, unmarked, IsListOf, HasOwnState}
+use Rattle.status_merge.proofs.MarkLaws.{unmarked_lists}
+use Rattle.status_merge.proofs.StateLaws.{own_states}
 use Rattle.status_merge.proofs.merging.merge.Goals as goal
-
-none_left : {A : Type 0} (xs : List A) → length xs ≡ 0 → xs ≡ []
-none_left [] e = refl
-none_left (x ∷ xs) e = absurd (omega (arith, e))
 
 pub returns-clause-lists : goal.returns-clause-lists
 returns-clause-lists c =
-    let ok = c.loop-group.group-iterator.rest.ok.0 in
-    let len = c.in-None.ensures.steps.0 in
-    let left : into_iter_items c.loop-group.group-iterator ≡ [] =
-    none_left (into_iter_items c.loop-group.group-iterator) (omega (arith, ok, len)) in
-    let is : c.loop-group.merged.items ≡ merged (flat_map objects_on c.args.gateways.now) =
-    sym (append-nil c.loop-group.merged.items)
-    ∙ (ap (λ rest. c.loop-group.merged.items ++ map latest (map group_view rest)) (sym left) ∙ c.loop-group.invariant) in
-    rw is (merged_lists (flat_map objects_on c.args.gateways.now))
+    let rows = flat_map objects_on c.args.gateways.now in
+    let all : c.as_slice-2.result.now ≡ merged rows =
+    c.as_slice-2.ensures.value ∙ c.in_ok-merged.ensures ∙ ap merged (c.as_slice.ensures.value ∙ c.in_ok-rows.ensures) in
+    IfOk-weaker c.with_hosts.result _ _
+    (λ found is. subst (λ (objects : List MergedObject). IsListOf rows (map unmarked objects)) (sym (is ∙ ap with_hosts all))
+    (unmarked_lists c.args.gateways.now))
+    c.with_hosts.ensures
+
+pub returns-clause-own : goal.returns-clause-own
+returns-clause-own c =
+    let rows = flat_map objects_on c.args.gateways.now in
+    let all : c.as_slice-2.result.now ≡ merged rows =
+    c.as_slice-2.ensures.value ∙ c.in_ok-merged.ensures ∙ ap merged (c.as_slice.ensures.value ∙ c.in_ok-rows.ensures) in
+    IfOk-weaker c.with_hosts.result _ _
+    (λ found is sound. subst (All HasOwnState) (sym (is ∙ ap with_hosts all)) (own_states c.args.gateways.now sound))
+    c.with_hosts.ensures

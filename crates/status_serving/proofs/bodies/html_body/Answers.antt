@@ -1,5 +1,7 @@
-use Rattle.std.proofs.Common.{[], ap, map, refl, ◌∙◌}
+use Rattle.std.proofs.Common.{ℕ, [], length, ap, map, refl, ◌∙◌}
+use Rattle.status_merge.specs.Asking.{Asked}
 use Rattle.status_merge.specs.Entries.{comment_view, comment_lines, downtime_view, downtime_lines}
+use Rattle.status_merge.specs.Selecting.{page_rows}
 use Rattle.status_view.specs.declared.view.View.{View}
 use Rattle.status_serving.proofs.BodySteps.{selected_as, page_of}
 use Rattle.status_serving.proofs.bodies.html_body.Goals as goal
@@ -7,15 +9,20 @@ use Rattle.status_serving.proofs.bodies.html_body.Goals as goal
 pub returns : goal.returns
 returns c =
     let asked = c.in_ok-query.ensures in
+    let host = ap (λ (asked : Asked). asked.host) asked.asked in
     let gateways = c.args.gateways.now in
+    let selected = c.in_ok-selected.ensures
+    ∙ selected_as _ _ _ _ asked.asked (c.as_slice.ensures.value ∙ c.in_ok-all.ensures.merged) in
     let view : View = record {
       title = c.args.heading.now.title;
       clock = c.args.clock;
       refresh = c.args.heading.now.refresh;
+      marks = c.args.heading.now.marks;
       query = record { ref_ptr = (0, 0); now = c.in_ok-query.query };
       gateways = c.args.gateways;
       all = c.as_slice-2.result;
-      objects = c.as_slice-3.result;
+      selected = c.len.result;
+      objects = c.page_rows.result;
       comments = c.as_slice-4.result;
       downtimes = c.as_slice-5.result;
       changes = record { ref_ptr = (0, 0); now = [] };
@@ -24,15 +31,18 @@ returns c =
       title = refl;
       clock = refl;
       refresh = refl;
-      choice = asked.choice;
-      host = asked.host;
+      marks = refl;
+      asked = asked.asked;
+      page = asked.page;
       seconds = asked.refresh;
       pages = refl;
       all = c.as_slice-2.ensures.value ∙ c.in_ok-all.ensures.merged;
-      objects = c.as_slice-3.ensures.value ∙ c.in_ok-objects.ensures
-          ∙ selected_as _ _ _ _ _ _ asked.choice asked.host (c.as_slice.ensures.value ∙ c.in_ok-all.ensures.merged);
+      selected = c.len.ensures ∙ c.in_ok-selected.selected.ok.0 ∙ ap length selected;
+      objects = c.page_rows.ensures
+          ∙ ap (λ (page : ℕ). page_rows page c.as_slice-3.result.now) asked.page
+          ∙ ap (page_rows _) (c.as_slice-3.ensures.value ∙ selected);
       comments = ap (map comment_view) c.as_slice-4.ensures.value ∙ c.in_ok-comments.ensures
-          ∙ ap (λ host. comment_lines host gateways) asked.host;
+          ∙ ap (λ host. comment_lines host gateways) host;
       downtimes = ap (map downtime_view) c.as_slice-5.ensures.value ∙ c.in_ok-downtimes.ensures
-          ∙ ap (λ host. downtime_lines host gateways) asked.host;
+          ∙ ap (λ host. downtime_lines host gateways) host;
     }) (c.into_bytes.ensures ∙ c.in_ok-html_page.ensures.page)

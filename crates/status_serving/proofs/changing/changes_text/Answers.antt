@@ -1,5 +1,4 @@
-use Rattle.std.proofs.Common.{[], refl, ◌∙◌}
-use Rattle.status_merge.specs.declared.query.Choice.TheVariants.{All}
+use Rattle.std.proofs.Common.{[], false, refl, ◌∙◌}
 use Rattle.status_view.specs.declared.view.View.{View}
 use Rattle.status_serving.proofs.changing.changes_text.Goals as goal
 
@@ -9,12 +8,11 @@ returns-in-Html c =
       title = c.args.heading.now.title;
       clock = c.args.clock;
       refresh = c.args.heading.now.refresh;
-      query = record {
-        ref_ptr = (0, 0);
-        now = record { choice = All; host = c.new.result; refresh = c.args.heading.now.refresh };
-      };
+      marks = false;
+      query = record { ref_ptr = (0, 0); now = c.new-query.result };
       gateways = record { ref_ptr = (0, 0); now = [] };
       all = record { ref_ptr = (0, 0); now = [] };
+      selected = 0;
       objects = record { ref_ptr = (0, 0); now = [] };
       comments = record { ref_ptr = (0, 0); now = [] };
       downtimes = record { ref_ptr = (0, 0); now = [] };
@@ -32,12 +30,11 @@ returns-in-Feed c =
       title = c.args.heading.now.title;
       clock = c.args.clock;
       refresh = c.args.heading.now.refresh;
-      query = record {
-        ref_ptr = (0, 0);
-        now = record { choice = All; host = c.new.result; refresh = c.args.heading.now.refresh };
-      };
+      marks = false;
+      query = record { ref_ptr = (0, 0); now = c.new-query.result };
       gateways = record { ref_ptr = (0, 0); now = [] };
       all = record { ref_ptr = (0, 0); now = [] };
+      selected = 0;
       objects = record { ref_ptr = (0, 0); now = [] };
       comments = record { ref_ptr = (0, 0); now = [] };
       downtimes = record { ref_ptr = (0, 0); now = [] };

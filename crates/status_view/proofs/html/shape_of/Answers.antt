@@ -4,6 +4,7 @@ use Rattle.status_view.proofs.html.shape_of.Goals as goal
 pub returns : goal.returns
 returns c =
     rw (
+      c.has_filters.ensures,
       c.count.ensures,
       c.pending_in.ensures,
       c.urgent_in.ensures,

@@ -8,6 +8,7 @@ unfolding marks_nodes
 returns c =
     ended c.put-2.result _ _ (c.args.layout.now ++ marks_nodes c.args.row.now) c.put-2.ensures
     (rw (
+      c.in_ok-put_if-3.ensures,
       c.in_ok-put_if-2.ensures,
       c.in_ok-lay_out_acknowledgement.ensures,
       c.in_ok-put_if.ensures,

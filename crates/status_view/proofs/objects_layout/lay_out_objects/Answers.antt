@@ -7,7 +7,8 @@ use Rattle.status_view.proofs.objects_layout.lay_out_objects.Goals as goal
 pub returns : goal.returns
 unfolding objects_nodes
 returns c =
-    ended c.lay_out_table.result _ _
+    ended c.lay_out_pages.result _ _
     (c.args.layout.now ++ objects_nodes (shape_view c.args.shape.now))
-    c.lay_out_table.ensures
-    (rw c.in_ok-put.ensures (simp (append_assoc, c.as_slice-rows.ensures.value, c.as_slice.ensures.value)))
+    c.lay_out_pages.ensures
+    (rw (c.in_ok-lay_out_table.ensures, c.in_ok-put-2.ensures, c.in_ok-lay_out_to_marks.ensures, c.in_ok-put.ensures)
+    (simp (append_assoc, c.as_slice-rows.ensures.value, c.as_slice.ensures.value)))

@@ -1,5 +1,5 @@
-use Rattle.std.proofs.Common.{◌≡◌, List, ℕ, ap, map, filter, refl, ◌∙◌, Result, Ok, Err, IfOk}
-use Rattle.status_merge.specs.declared.query.Choice.TheVariants.{All}
+use Rattle.std.proofs.Common.{◌≡◌, false, List, ℕ, ap, map, filter, refl, ◌∙◌, Result, Ok, Err, IfOk}
+use Rattle.status_merge.specs.Asking.{Asked}
 use Rattle.status_merge.specs.Entries.{comment_view, comment_lines, downtime_view, downtime_lines}
 use Rattle.status_view.specs.declared.view.View.{View}
 use Rattle.status_view.specs.declared.one_object.ObjectAsked.{ObjectAsked}
@@ -21,13 +21,16 @@ page_of asked html view shows page = (view, shows, page)
 pub returns : goal.returns
 returns c =
     let asked = c.args.asked.now in
+    let host = ap (λ (query : Asked). query.host) c.new-query.ensures.asked in
     let view : View = record {
       title = asked.title;
       clock = asked.clock;
       refresh = asked.refresh;
-      query = record { ref_ptr = (0, 0); now = record { choice = All; host = c.new.result; refresh = asked.refresh } };
+      marks = false;
+      query = record { ref_ptr = (0, 0); now = c.new-query.result };
       gateways = asked.gateways;
       all = c.as_slice.result;
+      selected = c.len.result;
       objects = c.as_slice-2.result;
       comments = c.as_slice-3.result;
       downtimes = c.as_slice-4.result;
@@ -37,13 +40,13 @@ returns c =
     (λ html page. page_of asked html view (record {
       title = refl;
       clock = refl;
-      seconds = refl;
+      seconds = c.new-query.ensures.refresh;
       pages = refl;
       objects = c.as_slice-2.ensures.value ∙ c.in_ok-rows.ensures;
       comments = ap (map comment_view) c.as_slice-3.ensures.value ∙ c.retain_comments.ensures
-          ∙ ap (filter (is_comment_on asked)) (c.in_ok-comments.ensures ∙ ap (λ host. comment_lines host asked.gateways.now) c.new.ensures.bytes);
+          ∙ ap (filter (is_comment_on asked)) (c.in_ok-comments.ensures ∙ ap (λ host. comment_lines host asked.gateways.now) host);
       downtimes = ap (map downtime_view) c.as_slice-4.ensures.value ∙ c.retain_downtimes.ensures
-          ∙ ap (filter (is_downtime_of asked)) (c.in_ok-downtimes.ensures ∙ ap (λ host. downtime_lines host asked.gateways.now) c.new.ensures.bytes);
+          ∙ ap (filter (is_downtime_of asked)) (c.in_ok-downtimes.ensures ∙ ap (λ host. downtime_lines host asked.gateways.now) host);
       changes = c.as_slice-5.ensures.value ∙ c.in_ok-changes.ensures;
     }) page)
     c.view_page.ensures

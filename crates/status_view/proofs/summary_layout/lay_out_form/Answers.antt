@@ -7,5 +7,10 @@ use Rattle.status_view.proofs.summary_layout.lay_out_form.Goals as goal
 pub returns : goal.returns
 unfolding form_nodes
 returns c =
-    ended c.put-2.result _ _ (c.args.layout.now ++ form_nodes (shape_view c.args.shape.now)) c.put-2.ensures
-    (rw (c.in_ok-lay_out_choices.ensures, c.in_ok-put.ensures) (simp (append_assoc, c.from.ensures)))
+    ended c.put-3.result _ _ (c.args.layout.now ++ form_nodes (shape_view c.args.shape.now)) c.put-3.ensures
+    (rw (
+      c.in_ok-lay_out_filters.ensures,
+      c.in_ok-put-2.ensures,
+      c.in_ok-lay_out_choices.ensures,
+      c.in_ok-put.ensures,
+    ) (simp (append_assoc, c.from.ensures)))

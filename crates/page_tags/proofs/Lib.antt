@@ -1,0 +1,6 @@
+mod Examples
+mod Placing
+mod Times
+mod Heads
+mod Lists
+mod Desk

@@ -1,0 +1,264 @@
+-- The lists of a page, the page of an object, that of changes, and the feed.
+use Rattle.std.proofs.Common.{◌≡◌, ℕ, ◌+◌, ◌-◌, ◌/◌, Bool, true, false, not, List, [], ◌∷◌, length, Option, Some, None, refl}
+use Rattle.std.specs.Prelude.{nat_lt, codes}
+use Rattle.std.specs.List.{list_any, enumerate_from, range_with_len}
+use Rattle.gate_pages.specs.StatusPage.{state_name, plan_name}
+use Rattle.html_text.specs.Escaping.{is_markup}
+use Rattle.status_reading.specs.declared.rows.ShownAcknowledgement.{ShownAcknowledgement}
+use Rattle.status_reading.specs.declared.rows.ShownAcknowledgement.TheVariants.{Missing, Normal, Sticky}
+use Rattle.status_reading.specs.declared.rows.ShownSource.{ShownSource}
+use Rattle.status_reading.specs.declared.rows.ShownSource.TheVariants as source
+use Rattle.status_reading.specs.Page.{shown_source}
+use Rattle.status_merge.specs.declared.query.Choice.TheVariants.{In}
+use Rattle.status_merge.specs.Asking.{choice_word}
+use Rattle.status_view.specs.declared.layout.EntryList.{EntryList}
+use Rattle.status_view.specs.declared.layout.EntryList.TheVariants.{Comments, Downtimes}
+use Rattle.status_view.specs.declared.shape.ObjectShape.{ObjectShape}
+use Rattle.status_view.specs.declared.shape.CommentMarks.{CommentMarks}
+use Rattle.status_view.specs.declared.shape.DowntimeMarks.{DowntimeMarks}
+use Rattle.status_view.specs.declared.shape.EntryMarks.{EntryMarks}
+use Rattle.status_view.specs.declared.shape.EntryMarks.TheVariants.{Comment, Downtime}
+use Rattle.status_view.specs.declared.changes.ChangeShape.{ChangeShape}
+use Rattle.status_view.specs.declared.layout.Slot.TheVariants.{Change}
+use Rattle.status_view.specs.declared.layout.ChangeText.TheVariants as change_text
+use Rattle.status_view.specs.declared.view.View.{View}
+use Rattle.status_view.specs.Filling.{filled}
+use Rattle.status_view.specs.Layout.{Markup, Text, nodes_if}
+use Rattle.status_view.specs.Shapes.{EntryShapeView, PageShapeView}
+use Rattle.status_view.specs.ObjectsLayout.{object_name_nodes, acknowledgement_nodes, marks_nodes, ago_nodes, since_nodes, age_nodes, output_nodes, object_nodes, objects_table, number_nodes, numbers_nodes, pages_nodes, to_marks_nodes, objects_nodes}
+use Rattle.status_view.specs.ListsLayout.{comment_nodes, duration_nodes, window_nodes, began_nodes, entry_marks_nodes, entry_name_nodes, words_nodes, origin_nodes, entry_nodes, list_head, entries_table, entries_nodes}
+use Rattle.status_view.specs.ListsLayout as lists
+use Rattle.status_view.specs.Page.{head_nodes, end_nodes, page_nodes}
+use Rattle.status_view.specs.ChangesLayout.{change_nodes, changes_table, changes_nodes, feed_id_nodes, feed_title_nodes, feed_entry_nodes, updated_at, feed_nodes}
+use Rattle.status_view.specs.OneObject.{name_nodes, rows_nodes, acknowledged_nodes, reason_nodes, reasons_nodes, object_head_nodes, object_page_nodes}
+use Rattle.page_tags.specs.Tags.{InText, InDouble, HasOwnTags}
+use Rattle.page_tags.proofs.Placing.{run, place_after, plain, joined, run_if, same, each, own_tags}
+use Rattle.page_tags.proofs.Times.{span, instant, time}
+use Rattle.page_tags.proofs.Heads.{state_plain, choice_plain, document, title, alarms, summary, form}
+
+-- ---- objects
+
+object_name : (index : ℕ) (is_host : Bool) → run InText (object_name_nodes index is_host) ≡ Some InText
+unfolding object_name_nodes
+object_name index true = refl
+object_name index false = refl
+
+acknowledgement : (kind : ShownAcknowledgement) → run InText (acknowledgement_nodes kind) ≡ Some InText
+unfolding acknowledgement_nodes
+acknowledgement Missing = refl
+acknowledgement Normal = refl
+acknowledgement Sticky = refl
+
+marks : (row : ObjectShape) → run InText (marks_nodes row) ≡ Some InText
+unfolding marks_nodes
+marks row = simp (joined, run_if, same, acknowledgement row.acknowledgement)
+
+ago : (begin : List ℕ) (moment past : ℕ) → place_after InText begin ≡ InDouble → run InText (ago_nodes begin moment past) ≡ Some InText
+unfolding ago_nodes
+ago begin moment past is = simp (joined, is, instant InDouble (codes " ") past refl, span InText (moment - past))
+
+since : (moment past : ℕ) → run InText (since_nodes moment past) ≡ Some InText
+unfolding since_nodes
+since moment past = ago (codes "<td class=\"num cell\" data-name=\"since\" title=\"") moment past refl
+
+age : (moment : ℕ) (last : Option ℕ) → run InText (age_nodes moment last) ≡ Some InText
+unfolding age_nodes
+age moment None = refl
+age moment (Some last) = ago (codes "<td class=\"num cell\" title=\"") moment last refl
+
+output : (index : ℕ) → run InText (output_nodes index) ≡ Some InText
+unfolding output_nodes
+output index = refl
+
+object : (several : Bool) (index : ℕ) (row : ObjectShape) → run InText (object_nodes several index row) ≡ Some InText
+unfolding object_nodes
+object several index row = simp (joined, run_if, same, object_name index row.is_host, marks row, since row.moment row.since, age row.moment row.last, output index, plain InDouble (choice_word (In row.state)) (choice_plain (In row.state)), plain InText (state_name row.state) (state_plain row.state))
+
+table : (several : Bool) (rows : List ObjectShape) → run InText (objects_table several rows) ≡ Some InText
+unfolding objects_table
+table several rows = simp (joined, run_if, same, each (λ item. object_nodes several item.0 item.1) InText (λ item. object several item.0 item.1) (enumerate_from 0 rows))
+
+number : (shown page : ℕ) → run InText (number_nodes shown page) ≡ Some InText
+unfolding number_nodes
+number shown page = simp (run_if, same)
+
+numbers : (shown count : ℕ) → run InText (numbers_nodes shown count) ≡ Some InText
+unfolding numbers_nodes
+numbers shown count = simp (joined, each (number_nodes shown) InText (number shown) (range_with_len 1 ((count - 1) / 500 + 1)))
+
+pages : (shown count : ℕ) → run InText (pages_nodes shown count) ≡ Some InText
+unfolding pages_nodes
+pages shown count = simp (run_if, same, numbers shown count)
+
+to_marks : (is : Bool) (shown : ℕ) → run InText (to_marks_nodes is shown) ≡ Some InText
+unfolding to_marks_nodes
+to_marks true shown = refl
+to_marks false shown = refl
+
+objects : (shape : PageShapeView) → run InText (objects_nodes shape) ≡ Some InText
+unfolding objects_nodes
+objects shape =
+    simp (joined, to_marks shape.marks shape.page, table (nat_lt 1 (length shape.gateways)) shape.objects, pages shape.page shape.selected)
+
+-- ---- comments and downtime entries
+
+source_plain : (from : ShownSource) → list_any is_markup (shown_source from) ≡ false
+source_plain source.User = refl
+source_plain source.Acknowledgement = refl
+source_plain source.Downtime = refl
+
+plan_plain : (fixed : Bool) → list_any is_markup (plan_name fixed) ≡ false
+plan_plain true = refl
+plan_plain false = refl
+
+comment : (row : CommentMarks) → run InText (comment_nodes row) ≡ Some InText
+unfolding comment_nodes
+comment row = simp (joined, run_if, same, plain InText (shown_source row.source) (source_plain row.source), time row.moment)
+
+duration : (seconds : ℕ) → run InText (duration_nodes seconds) ≡ Some InText
+unfolding duration_nodes
+duration seconds = span InText seconds
+
+window : (row : DowntimeMarks) → run InText (window_nodes row) ≡ Some InText
+unfolding window_nodes
+window row = simp (joined, run_if, same, time row.start, time row.end, plain InText (plan_name row.fixed) (plan_plain row.fixed), duration row.duration)
+
+began_ago : (moment begin : ℕ) → run InText (lists.ago_nodes moment begin) ≡ Some InText
+unfolding lists.ago_nodes
+began_ago moment begin = simp (joined, span InText (moment - begin))
+
+began : (moment : ℕ) (begin : Option ℕ) → run InText (began_nodes moment begin) ≡ Some InText
+unfolding began_nodes
+began moment None = refl
+began moment (Some begin) = began_ago moment begin
+
+entry_marks : (row : EntryMarks) → run InText (entry_marks_nodes row) ≡ Some InText
+unfolding entry_marks_nodes
+entry_marks (Comment row) = comment row
+entry_marks (Downtime row) = simp (joined, window row, began row.moment row.begin)
+
+entry_name : (list : EntryList) (index : ℕ) (is_host : Bool) → run InText (entry_name_nodes list index is_host) ≡ Some InText
+unfolding entry_name_nodes
+entry_name list index true = refl
+entry_name list index false = refl
+
+words : (list : EntryList) (index : ℕ) → run InText (words_nodes list index) ≡ Some InText
+unfolding words_nodes
+words list index = refl
+
+origin : (list : EntryList) (index gateway id : ℕ) → run InText (origin_nodes list index gateway id) ≡ Some InText
+unfolding origin_nodes
+origin list index gateway id = simp (joined, run_if, same)
+
+entry : (list : EntryList) (index : ℕ) (row : EntryShapeView) → run InText (entry_nodes list index row) ≡ Some InText
+unfolding entry_nodes
+entry list index row = simp (joined, entry_name list index row.is_host, entry_marks row.marks, words list index, each (λ item. origin_nodes list index item.0 item.1) InText (λ item. origin list index item.0 item.1) (enumerate_from 0 row.ids))
+
+head_of : (list : EntryList) → run InText (list_head list) ≡ Some InText
+unfolding list_head
+head_of Comments = refl
+head_of Downtimes = refl
+
+entries : (list : EntryList) (rows : List EntryShapeView) → run InText (entries_table list rows) ≡ Some InText
+unfolding entries_table
+entries list rows = simp (joined, head_of list, each (λ item. entry_nodes list item.0 item.1) InText (λ item. entry list item.0 item.1) (enumerate_from 0 rows))
+
+list_of : (list : EntryList) (rows : List EntryShapeView) → run InText (entries_nodes list rows) ≡ Some InText
+unfolding entries_nodes
+list_of list rows = simp (run_if, same, entries list rows)
+
+-- ---- the page of states
+
+end : run InText end_nodes ≡ Some InText
+unfolding end_nodes
+end = refl
+
+head : (shape : PageShapeView) → run InText (head_nodes shape) ≡ Some InText
+unfolding head_nodes
+head shape = simp (joined, document shape.refresh shape.urgent, title shape.gateways, alarms shape.clock shape.gateways, summary shape, form shape)
+
+page : (shape : PageShapeView) → run InText (page_nodes shape) ≡ Some InText
+unfolding page_nodes
+page shape = simp (joined, head shape, objects shape, list_of Comments shape.comments, list_of Downtimes shape.downtimes, end)
+
+pub page_tags : (view : View) (shape : PageShapeView) → HasOwnTags (filled view (page_nodes shape))
+page_tags view shape = own_tags (page_nodes shape) (page shape) view
+
+-- ---- changes
+
+change : (index : ℕ) (row : ChangeShape) → run InText (change_nodes index row) ≡ Some InText
+unfolding change_nodes
+change index row = simp (joined, run_if, same, time row.moment, plain InDouble (choice_word (In row.to)) (choice_plain (In row.to)), plain InText (state_name row.from) (state_plain row.from), plain InText (state_name row.to) (state_plain row.to))
+
+changed : (rows : List ChangeShape) → run InText (changes_table rows) ≡ Some InText
+unfolding changes_table
+changed rows = simp (joined, each (λ item. change_nodes item.0 item.1) InText (λ item. change item.0 item.1) (enumerate_from 0 rows))
+
+changes : (refresh : ℕ) (rows : List ChangeShape) → run InText (changes_nodes refresh rows) ≡ Some InText
+unfolding changes_nodes
+changes refresh rows = simp (joined, document refresh 0, title [], changed rows)
+
+pub changes_tags : (view : View) (refresh : ℕ) (rows : List ChangeShape) → HasOwnTags (filled view (changes_nodes refresh rows))
+changes_tags view refresh rows = own_tags (changes_nodes refresh rows) (changes refresh rows) view
+
+-- ---- the feed
+
+feed_id : (index : ℕ) (row : ChangeShape) → run InText (feed_id_nodes index row) ≡ Some InText
+unfolding feed_id_nodes
+feed_id index row = simp (plain InText (state_name row.from) (state_plain row.from), plain InText (state_name row.to) (state_plain row.to))
+
+service_title : (index : ℕ) (is_host : Bool) → run InText (nodes_if (not is_host) (Markup (codes " / ") ∷ Text (Change index change_text.Service) ∷ [])) ≡ Some InText
+service_title index true = refl
+service_title index false = refl
+
+feed_title : (index : ℕ) (row : ChangeShape) → run InText (feed_title_nodes index row) ≡ Some InText
+unfolding feed_title_nodes
+feed_title index row =
+    simp (joined, service_title index row.is_host, plain InText (state_name row.from) (state_plain row.from), plain InText (state_name row.to) (state_plain row.to))
+
+feed_entry : (index : ℕ) (row : ChangeShape) → run InText (feed_entry_nodes index row) ≡ Some InText
+unfolding feed_entry_nodes
+feed_entry index row = simp (joined, feed_id index row, feed_title index row, instant InText (codes "T") row.moment refl)
+
+feed : (clock : ℕ) (rows : List ChangeShape) → run InText (feed_nodes clock rows) ≡ Some InText
+unfolding feed_nodes
+feed clock rows = simp (joined, instant InText (codes "T") (updated_at clock rows) refl, each (λ item. feed_entry_nodes item.0 item.1) InText (λ item. feed_entry item.0 item.1) (enumerate_from 0 rows))
+
+pub feed_tags : (view : View) (clock : ℕ) (rows : List ChangeShape) → HasOwnTags (filled view (feed_nodes clock rows))
+feed_tags view clock rows = own_tags (feed_nodes clock rows) (feed clock rows) view
+
+-- ---- the page of an object
+
+named : (is_host : Bool) → run InText (name_nodes is_host) ≡ Some InText
+unfolding name_nodes
+named true = refl
+named false = refl
+
+rows_of : (rows : List ObjectShape) → run InText (rows_nodes rows) ≡ Some InText
+unfolding rows_nodes
+rows_of [] = refl
+rows_of (row ∷ rows) = simp (joined, named row.is_host, table true (row ∷ rows))
+
+acknowledged : (index moment : ℕ) → run InText (acknowledged_nodes index moment) ≡ Some InText
+unfolding acknowledged_nodes
+acknowledged index moment = simp (joined, time moment)
+
+reason : (index : ℕ) (row : EntryMarks) → run InText (reason_nodes index row) ≡ Some InText
+unfolding reason_nodes
+reason index (Comment row) = simp (run_if, same, acknowledged index row.moment)
+reason index (Downtime row) = refl
+
+reasons : (rows : List ObjectShape) (comments : List EntryShapeView) → run InText (reasons_nodes rows comments) ≡ Some InText
+unfolding reasons_nodes
+reasons rows comments = simp (run_if, same, each (λ (item : ℕ × EntryShapeView). reason_nodes item.0 item.1.marks) InText (λ item. reason item.0 item.1.marks) (enumerate_from 0 comments))
+
+object_head : (shape : PageShapeView) → run InText (object_head_nodes shape) ≡ Some InText
+unfolding object_head_nodes
+object_head shape = simp (joined, document shape.refresh 0, title shape.gateways, alarms shape.clock shape.gateways, rows_of shape.objects, reasons shape.objects shape.comments)
+
+object_page : (shape : PageShapeView) (rows : List ChangeShape) → run InText (object_page_nodes shape rows) ≡ Some InText
+unfolding object_page_nodes
+object_page shape rows = simp (joined, object_head shape, list_of Comments shape.comments, list_of Downtimes shape.downtimes, changed rows, end)
+
+pub object_tags : (view : View) (shape : PageShapeView) (rows : List ChangeShape) → HasOwnTags (filled view (object_page_nodes shape rows))
+object_tags view shape rows = own_tags (object_page_nodes shape rows) (object_page shape rows) view
