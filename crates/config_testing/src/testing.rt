@@ -1,5 +1,8 @@
+ghost use Rattle.std.specs.Prelude.{◌≡◌, IfOk, count_by};
+ghost use Rattle.config_testing.specs.Tested.{IsTested, good_line, is_host, is_service};
+
 use gate_config::{Config, ConfigFault, Key, read_config};
-use gate_model::{TableFault, Text, push_escaped, push_number};
+use gate_model::{ObjectTable, TableFault, Text, push_escaped, push_number};
 use gate_reader::Sink;
 use near_words::nearest;
 use operator_setup::{ControlFault, print, read_configuration};
@@ -246,17 +249,36 @@ fn cause(
 }
 
 // How many hosts and how many services are configured.
-fn counted(config: &Config) -> (u32, u32) {
-    let mut hosts = 0u32;
-    let mut services = 0u32;
-    let lines = u32::try_from(config.table.len()).unwrap_or(u32::MAX);
-    for place in 0..lines {
-        match config.table.line(place) {
-            Some(line) if line.service.is_some() => services = services.saturating_add(1),
-            _ => hosts = hosts.saturating_add(1),
+fn counted(table: &ObjectTable) -> (u32, u32)
+    ensures hosts { result.0 ≡ count_by is_host table.now }
+    ensures services { result.1 ≡ count_by is_service table.now }
+{
+    let mut hosts = 0;
+    let mut services = 0;
+    for place in 0..table.len() as u32 {
+        if let Some(line) = table.line(place) {
+            if line.service.is_some() {
+                services += 1;
+            } else {
+                hosts += 1;
+            }
         }
     }
     (hosts, services)
+}
+
+// The line of a file that is a configuration.
+fn good_line(alloc: Global, file: &[u8], table: &ObjectTable) -> Result<Vec<u8>, AllocError>
+    ensures { IfOk result (λ line. line.items ≡ good_line file.now table.now) }
+{
+    let (hosts, services) = counted(table);
+    let mut line = Vec::from_slice(alloc, file)?;
+    line.extend_from_slice(b": ")?;
+    push_number(&mut line, u64::from(hosts))?;
+    line.extend_from_slice(b" hosts, ")?;
+    push_number(&mut line, u64::from(services))?;
+    line.extend_from_slice(b" services\n")?;
+    Ok(line)
 }
 
 /// Reads a configuration as the daemon does, and prints how many objects it has. A fault is reported
@@ -266,20 +288,18 @@ pub fn test_config<F: Files, W: Sink>(
     alloc: Global,
     file: &Text,
     output: &mut W,
-) -> Result<u8, ControlFault> {
+) -> Result<u8, ControlFault>
+    ensures status { IfOk result (λ status. status ≡ 0) }
+    ensures tested { IfOk result (λ _.
+        IsTested file.now (W.state output.old) (W.state output.new)) }
+{
     let Ok(path) = str::from_utf8(file.bytes()) else {
         return Err(ControlFault::Unreadable);
     };
     let text = read_configuration(files, alloc, path)?;
     match read_config(alloc, text.as_slice()) {
         Ok(config) => {
-            let (hosts, services) = counted(&config);
-            let mut line = Vec::from_slice(alloc, file.bytes())?;
-            line.extend_from_slice(b": ")?;
-            push_number(&mut line, u64::from(hosts))?;
-            line.extend_from_slice(b" hosts, ")?;
-            push_number(&mut line, u64::from(services))?;
-            line.extend_from_slice(b" services\n")?;
+            let line = good_line(alloc, file.bytes(), &config.table)?;
             print(output, line.as_slice())?;
             Ok(0)
         }

@@ -1,3 +1,8 @@
+ghost use Rattle.std.specs.Prelude.{◌≡◌, ℕ, Option, IfOk, IfSome, take};
+ghost use Rattle.memchr.specs.Find.{IsLastByte, is_byte};
+ghost use Rattle.kept_files.specs.Stat.{is_ended_at};
+
+use memchr::memrchr;
 use std::alloc::Global;
 use std::fs::{File, Files, OpenFile, OpenOptions};
 use std::io::{Read, Write};
@@ -7,12 +12,19 @@ use std::{fs, io};
 // The bytes of the longest file that is read, 1 GiB.
 const LONGEST_FILE: u64 = 1 << 30;
 
-/// Reads a file.
-pub fn read_file<F: Files>(files: &F, alloc: Global, path: &str) -> io::Result<Vec<u8>> {
-    let file = File::open(files, path)?;
+// Reads all that a reader has, at most so much.
+fn read_all<R: Read + Drop>(reader: R, alloc: Global) -> io::Result<Vec<u8>>
+    ensures { IfOk result (λ text.
+        IfSome (R.remaining reader) (λ bytes. text.items ≡ take 1073741824 bytes)) }
+{
     let mut text = Vec::new(alloc);
-    file.take(LONGEST_FILE).read_to_end(&mut text)?;
+    reader.take(LONGEST_FILE).read_to_end(&mut text)?;
     Ok(text)
+}
+
+/// Reads a file, at most 1 GiB of it.
+pub fn read_file<F: Files>(files: &F, alloc: Global, path: &str) -> io::Result<Vec<u8>> {
+    read_all(File::open(files, path)?, alloc)
 }
 
 // Writes a file that isn't there yet, and waits until the disk has it.
@@ -55,14 +67,14 @@ pub fn is_newer<F: Files>(files: &F, path: &str, other: &str) -> io::Result<bool
 
 // Whether the line of /proc/PID/stat is that of a process that has ended, and waits for its parent:
 // its state stands after the last parenthesis.
-fn is_ended(stat: &[u8]) -> bool {
-    let mut is_ended = false;
-    for (index, byte) in stat.iter().enumerate() {
-        if *byte == b')' {
-            is_ended = matches!(stat.get(index.saturating_add(2)), Some(b'Z' | b'X'));
-        }
+fn is_ended(stat: &[u8]) -> bool
+    ensures { (last : Option ℕ) × IsLastByte (is_byte 41) stat.now last
+        × (result ≡ is_ended_at stat.now last) }
+{
+    match memrchr(b')', stat) {
+        Some(index) => matches!(stat.get(index + 2), Some(b'Z' | b'X')),
+        None => false,
     }
-    is_ended
 }
 
 /// Whether a process of this number runs.

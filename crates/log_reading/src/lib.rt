@@ -8,5 +8,6 @@ mod lines;
 mod logged;
 mod page;
 
+pub use lines::line_of;
 pub use logged::{Logged, Refusal, accepted_records};
 pub use page::{LogFault, read_log_page};

@@ -200,8 +200,8 @@ fn push_line(
     out.extend_from_slice(outcome_name(outcome))
 }
 
-/// The line of a record, without its LF.
-fn line_of(alloc: Global, one: &Logged) -> Result<Vec<u8>, AllocError>
+/// The line of a record, without its LF. The only error is out of memory.
+pub fn line_of(alloc: Global, one: &Logged) -> Result<Vec<u8>, AllocError>
     ensures { IfOk result (λ line. line.items ++ codes "\n" ≡ logged_line one.now) }
 {
     let mut out = Vec::new(alloc);

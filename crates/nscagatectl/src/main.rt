@@ -3,14 +3,7 @@
 //! reads its answer, and watches the page until it shows the effect.
 #![tactic(auto)]
 
-mod holding;
-mod missing;
-mod preparing;
-mod restore_fault;
-mod restore_word;
-mod restoring;
 mod running;
-mod stop_word;
 
 use gate_reader::end_with;
 use operator_setup::{ControlFault, words_fault};

@@ -1,12 +1,12 @@
 //! What the words ask for, carried out.
 
-use crate::restore_word::restore;
-use crate::stop_word::stop;
 use clap::Error;
 use config_testing::test_config;
 use gate_reader::Sink;
 use operator_checking::{Wanted, report_unknown, run_check};
 use operator_commands::{Asked, Options, Task};
+use operator_log::run_log;
+use operator_restoring::{restore, stop};
 use operator_sending::carry_out_request;
 use operator_setup::{ControlFault, print};
 use operator_showing::{run_status, run_watch};
@@ -45,6 +45,7 @@ fn run_task<R: Net<Listener = TcpListener, Stream = TcpStream> + Clock + Files, 
         Task::Watch { interval } => run_watch(rt, alloc, options, interval, output),
         Task::Status { state, host } => run_status(rt, alloc, options, (state, host), output),
         Task::TestConfig { file } => test_config(rt, alloc, file, output),
+        Task::Log { file, since } => run_log(rt, alloc, file, since, options.json, output),
         Task::Stop { .. } => stop(rt, alloc, options, task, output, errors),
         Task::Restore { .. } => restore(rt, alloc, options, task, output, errors),
         Task::Command(_) => Err(ControlFault::BadWords),

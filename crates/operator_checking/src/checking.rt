@@ -1,9 +1,14 @@
 //! Whether gateways serve: their ports are asked, each with a time of its own.
 
+ghost use Rattle.std.specs.Prelude.{◌≡◌, ◌-◌, ◌≤◌, is_some, nat_lt, IfErr, IfOk, OnOk, if◌then◌else◌, length, vec_len};
+ghost use Rattle.gate_reader.specs.Sink.{Delivers};
+ghost use Rattle.operator_checks.specs.Findings.{weight};
+ghost use Rattle.operator_checking.specs.Checked.{IsChecked, IsReport, unknown_line};
+
 use gate_config::Config;
 use gate_grammar::read_number;
 use gate_model::{Moment, Text};
-use gate_reader::{Sink, put_last};
+use gate_reader::{Sink, put_last, put_line};
 use kept_files::keep_page;
 use operator_checks::{Finding, Port, figures_of, push_line, status_of};
 use operator_commands::Options;
@@ -14,7 +19,6 @@ use status_merge::{Gateway, merge};
 use status_reading::{ReadFault, StatusPage, read_status_page};
 use std::alloc::{AllocError, Global};
 use std::fs::Files;
-use std::io;
 use std::io::Read;
 use std::net::{Net, TcpListener, TcpStream};
 use std::time::{Clock, Duration, Instant};
@@ -141,7 +145,10 @@ fn shown<'a>(
     page: StatusPage<'_>,
     now: Moment,
     age: u32,
-) -> Result<Finding<'a>, AllocError> {
+) -> Result<Finding<'a>, AllocError>
+    ensures { IfOk result (λ finding. weight finding
+        ≡ (if nat_lt age (now.0 - page.entry.moment) then 3 else if is_some page.entry.closing then 1 else 0)) }
+{
     let old = now.0.saturating_sub(page.moment);
     let is_closing = page.closing.is_some();
     let gateways = [Gateway {
@@ -183,7 +190,9 @@ fn ask_pages<'a, R: Net<Listener = TcpListener, Stream = TcpStream> + Clock + Fi
     word: &'a [u8],
     ports: Ports<'a>,
     findings: &mut Vec<Finding<'a>>,
-) -> Result<Finding<'a>, ControlFault> {
+) -> Result<Finding<'a>, ControlFault>
+    ensures { OnOk result (vec_len findings.old ≤ vec_len findings.new) }
+{
     let (name, text) = divided(word);
     let Some(address) = read_address(text) else {
         return Ok(Finding::BadAddress(text));
@@ -218,7 +227,9 @@ fn add_port<'a, R: Net<Listener = TcpListener, Stream = TcpStream> + Clock>(
     port: Port,
     address: Option<&'a [u8]>,
     seconds: u32,
-) -> Result<(), AllocError> {
+) -> Result<(), AllocError>
+    ensures { OnOk result (vec_len findings.old ≤ vec_len findings.new) }
+{
     if let Some(text) = address {
         if let Some(finding) = ask_port(rt, port, text, seconds) {
             findings.push(finding)?;
@@ -233,7 +244,10 @@ fn check<R: Net<Listener = TcpListener, Stream = TcpStream> + Clock + Files, W: 
     alloc: Global,
     ports: Ports<'_>,
     output: &mut W,
-) -> Result<u8, ControlFault> {
+) -> Result<u8, ControlFault>
+    ensures { IfOk result (λ status.
+        IsReport (length ports.entry.pages.now) status (W.state output.old) (W.state output.new)) }
+{
     let mut findings = Vec::new(alloc);
     let seconds = ports.seconds;
     add_port(rt, &mut findings, Port::Agents, ports.agents, seconds)?;
@@ -249,15 +263,14 @@ fn check<R: Net<Listener = TcpListener, Stream = TcpStream> + Clock + Files, W: 
     Ok(status_of(findings.as_slice()))
 }
 
-fn put_unknown<W: Sink>(output: &mut W, text: &[u8]) -> io::Result<()> {
-    output.put(b"NSCAGATE UNKNOWN - ")?;
-    output.put(text)?;
-    put_last(output, b"\n")
-}
-
 /// Prints that nothing is known, as a plugin does, and returns its exit status, 3.
-pub fn report_unknown<W: Sink>(output: &mut W, text: &[u8]) -> Result<u8, ControlFault> {
-    match put_unknown(output, text) {
+pub fn report_unknown<W: Sink>(output: &mut W, text: &[u8]) -> Result<u8, ControlFault>
+    ensures printed { OnOk result (Delivers (W.state output.old) (W.state output.new)
+        (unknown_line text.now)) }
+    ensures status { IfOk result (λ status. status ≡ 3) }
+    ensures fault { IfErr result (λ fault. fault ≡ ControlFault.WriteFault) }
+{
+    match put_line(output, b"NSCAGATE UNKNOWN - ", text) {
         Ok(()) => Ok(3),
         Err(_) => Err(ControlFault::WriteFault),
     }
@@ -271,7 +284,10 @@ fn check_gateways<R: Net<Listener = TcpListener, Stream = TcpStream> + Clock + F
     wanted: Wanted<'_>,
     seconds: (u32, u32),
     output: &mut W,
-) -> Result<u8, ControlFault> {
+) -> Result<u8, ControlFault>
+    ensures { IfOk result (λ status. IsReport (length wanted.entry.gateways.now) status
+        (W.state output.old) (W.state output.new)) }
+{
     let mut pages = Vec::new(alloc);
     for text in wanted.gateways {
         pages.push(text.bytes())?;
@@ -296,7 +312,10 @@ fn check_configured<R: Net<Listener = TcpListener, Stream = TcpStream> + Clock +
     config: &Config,
     seconds: (u32, u32),
     output: &mut W,
-) -> Result<u8, ControlFault> {
+) -> Result<u8, ControlFault>
+    ensures { IfOk result (λ status.
+        IsReport 1 status (W.state output.old) (W.state output.new)) }
+{
     let ports = Ports {
         agents: Some(option_or(wanted.agents, &config.agents.text)),
         operators: Some(option_or(&options.operators, &config.operators.text)),
@@ -317,7 +336,10 @@ pub fn run_check<R: Net<Listener = TcpListener, Stream = TcpStream> + Clock + Fi
     options: &Options,
     wanted: Wanted<'_>,
     output: &mut W,
-) -> Result<u8, ControlFault> {
+) -> Result<u8, ControlFault>
+    ensures { IfOk result (λ status. IsChecked (length wanted.entry.gateways.now) status
+        (W.state output.old) (W.state output.new)) }
+{
     let seconds = match seconds_in(options, wanted) {
         Ok(seconds) => seconds,
         Err(fault) => return report_unknown(output, cause(&fault)),

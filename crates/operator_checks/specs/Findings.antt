@@ -20,7 +20,7 @@ abbrev pub figures_of : List MergedObject → Figures
 figures_of objects = record {
   objects = length objects;
   problems = count_by (λ object. is_problem object.row.state) objects;
-  unhandled = count_by (λ object. is_unhandled object.row) objects;
+  unhandled = count_by is_unhandled objects;
   stale = count_by (λ object. object.row.stale) objects;
 }
 

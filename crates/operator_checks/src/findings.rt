@@ -16,8 +16,7 @@ pub enum Port {
     Operators,
 }
 
-/// How many objects a page shows, and how many of them are problems, problems neither acknowledged
-/// nor in downtime, and stale.
+/// How many objects a page shows, and how many of them are problems, unhandled ones, and stale.
 #[derive(Clone, Copy, Debug, PartialEq, Eq)]
 pub struct Figures {
     pub objects: usize,

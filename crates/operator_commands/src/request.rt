@@ -82,7 +82,7 @@ pub enum Request {
     Shutdown,
 }
 
-/// What is asked for. A gateway is asked for all but `test-config`.
+/// What is asked for. A gateway is asked for all but `test-config` and `log`.
 #[derive(Debug, Drop)]
 pub enum Task {
     Command(Request),
@@ -105,6 +105,11 @@ pub enum Task {
     /// `test-config FILE`
     TestConfig {
         file: Text,
+    },
+    /// `log FILE [--since TIME]`
+    Log {
+        file: Text,
+        since: Option<Text>,
     },
     /// `stop PAGE [--log FILE] [--pid PID]`
     Stop {

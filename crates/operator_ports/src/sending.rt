@@ -1,5 +1,8 @@
 //! A command over the operators port, and its answer.
 
+ghost use Rattle.std.specs.Prelude.{◌≡◌, IfOk, map};
+ghost use Rattle.operator_ports.specs.Commands.{entered_at};
+
 use gate_grammar::Command;
 use gate_model::{Body, Moment};
 use operator_lines::{AskFault, Reply, ask};
@@ -8,14 +11,18 @@ use std::alloc::{AllocError, Global};
 use std::net::{Net, SocketAddr, TcpListener, TcpStream};
 use std::time::{Clock, Duration, Instant};
 
-/// Commands that are entered at this moment.
+/// Commands that are entered at this moment. The only error is out of memory.
 pub fn entered_at(
     alloc: Global,
     entered: Moment,
     bodies: Vec<Body>,
-) -> Result<Vec<Command>, AllocError> {
+) -> Result<Vec<Command>, AllocError>
+    ensures { IfOk result (λ commands. commands.items ≡ map (entered_at entered) bodies.items) }
+{
     let mut commands = Vec::with_capacity(alloc, bodies.len())?;
-    for body in bodies {
+    let mut left = bodies;
+    left.reverse();
+    while let Some(body) = left.pop() {
         commands.push(Command { entered, body })?;
     }
     Ok(commands)

@@ -2,3 +2,9 @@ pub mod Escapes
 pub mod Printed
 pub mod Pages
 pub mod Kept
+pub mod Naming
+pub mod Prospect
+pub mod Outbox
+pub mod Pending
+pub mod Back
+pub mod inner

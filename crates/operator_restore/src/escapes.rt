@@ -30,7 +30,7 @@ fn are_escaped(alloc: Global, lines: &[&[u8]]) -> Result<bool, AllocError>
     Ok(true)
 }
 
-fn lines_of(alloc: Global, text: &[u8]) -> Result<Vec<&[u8]>, AllocError>
+pub fn lines_of(alloc: Global, text: &[u8]) -> Result<Vec<&[u8]>, AllocError>
     ensures { IfOk result (λ lines.
         map (λ line. line.now) lines.items ≡ slice_split (λ byte. byte == 10) text.now) }
 {

@@ -1,1 +1,3 @@
 pub mod Fault
+pub mod Pages
+pub mod Places

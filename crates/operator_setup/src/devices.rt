@@ -1,5 +1,9 @@
 //! The clock, the output, and a page that was fetched, each with the fault that it can end in.
 
+ghost use Rattle.std.specs.Prelude.{◌≡◌, IfErr, MatchResult, OnErr, OnOk};
+ghost use Rattle.gate_reader.specs.Sink.{Delivers, FailsOnce};
+ghost use Rattle.operator_setup.specs.Pages.{IsNoPage, IsPageIn};
+
 use crate::fault::ControlFault;
 use gate_model::Moment;
 use gate_reader::{Sink, put_last};
@@ -18,16 +22,23 @@ pub fn now(rt: &impl Clock) -> Result<Moment, ControlFault> {
     }
 }
 
-/// Writes a text and flushes.
-pub fn print<W: Sink>(output: &mut W, text: &[u8]) -> Result<(), ControlFault> {
+/// Writes a text and flushes. An error is `WriteFault`.
+pub fn print<W: Sink>(output: &mut W, text: &[u8]) -> Result<(), ControlFault>
+    ensures ok { OnOk result (Delivers (W.state output.old) (W.state output.new) text.now) }
+    ensures err { OnErr result (FailsOnce (W.state output.old) (W.state output.new)) }
+    ensures fault { IfErr result (λ fault. fault ≡ ControlFault.WriteFault) }
+{
     match put_last(output, text) {
         Ok(()) => Ok(()),
         Err(_) => Err(ControlFault::WriteFault),
     }
 }
 
-/// The page that a text is.
-pub fn page_of<'t>(alloc: Global, text: &'t [u8]) -> Result<StatusPage<'t>, ControlFault> {
+/// The page that a text is. `BadPage`: it is none. `OutOfMemory` may come in the place of any other
+/// answer.
+pub fn page_of<'t>(alloc: Global, text: &'t [u8]) -> Result<StatusPage<'t>, ControlFault>
+    ensures { MatchResult result (IsPageIn text.now) (IsNoPage text.now) }
+{
     match read_status_page(alloc, text) {
         Ok(page) => Ok(page),
         Err(ReadFault::OutOfMemory) => Err(ControlFault::OutOfMemory),

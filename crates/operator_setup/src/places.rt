@@ -1,6 +1,9 @@
 //! Where the program asks: the addresses of the ports, and how long it waits.
 
-ghost use Rattle.std.specs.Prelude.{◌≡◌, ◌≤◌, IfOk};
+ghost use Rattle.std.specs.Prelude.{◌≡◌, ◌≤◌, IfOk, MatchOption, MatchResult};
+ghost use Rattle.std.specs.Option.{option_map};
+ghost use Rattle.std.specs.Str.{IsUtf8};
+ghost use Rattle.operator_setup.specs.Places.{IsAddressText, IsAskedAt, IsAskedAtV4, IsAskedAtV6, IsAskedIp, IsNoAddress, IsNoPath};
 
 use crate::fault::ControlFault;
 use gate_config::{Config, read_config};
@@ -28,27 +31,62 @@ pub struct Places {
     pub seconds: u32,
 }
 
-// An address that can be connected to: a port that is bound at each address of the machine is asked
-// at its loopback.
-fn reachable(address: SocketAddr) -> SocketAddr {
-    let ip = match address.ip() {
-        IpAddr::V4(ip) if ip.is_unspecified() => IpAddr::V4(Ipv4Addr::LOCALHOST),
-        IpAddr::V6(ip) if ip.is_unspecified() => IpAddr::V6(Ipv6Addr::LOCALHOST),
-        ip => ip,
-    };
-    SocketAddr::new(ip, address.port())
+fn reachable_v4(ip: Ipv4Addr) -> Ipv4Addr
+    ensures { IsAskedAtV4 ip result }
+{
+    if ip.is_unspecified() {
+        Ipv4Addr::new(127, 0, 0, 1)
+    } else {
+        ip
+    }
 }
 
-/// The address that a text is, where it can be connected to.
-pub fn read_address(text: &[u8]) -> Option<SocketAddr> {
+fn reachable_v6(ip: Ipv6Addr) -> Ipv6Addr
+    ensures { IsAskedAtV6 ip result }
+{
+    if ip.is_unspecified() {
+        Ipv6Addr::new(0, 0, 0, 0, 0, 0, 0, 1)
+    } else {
+        ip
+    }
+}
+
+fn reachable_ip(ip: IpAddr) -> IpAddr
+    ensures { IsAskedIp ip result }
+{
+    match ip {
+        IpAddr::V4(ip) => IpAddr::V4(reachable_v4(ip)),
+        IpAddr::V6(ip) => IpAddr::V6(reachable_v6(ip)),
+    }
+}
+
+// An address that can be connected to: a port that is bound at each address of the machine is asked
+// at its loopback.
+fn reachable(address: SocketAddr) -> SocketAddr
+    ensures { IsAskedAt address result }
+{
+    SocketAddr::new(reachable_ip(address.ip()), address.port())
+}
+
+/// The address that a text is, where it can be connected to: that of each address of the machine is
+/// its loopback.
+pub fn read_address(text: &[u8]) -> Option<SocketAddr>
+    ensures { MatchOption result (IsNoAddress text.now) (IsAddressText text.now) }
+{
     match SocketAddr::parse_ascii(text) {
         Ok(address) => Some(reachable(address)),
         Err(_) => None,
     }
 }
 
-fn address_in(text: &Text) -> Result<SocketAddr, ControlFault> {
-    read_address(text.bytes()).ok_or(ControlFault::BadAddress)
+fn address_in(text: &Text) -> Result<SocketAddr, ControlFault>
+    ensures { MatchResult result (IsAddressText text.now)
+        (λ fault. (fault ≡ ControlFault.BadAddress) × IsNoAddress text.now) }
+{
+    match read_address(text.bytes()) {
+        Some(address) => Ok(address),
+        None => Err(ControlFault::BadAddress),
+    }
 }
 
 /// Reads the file of a configuration, and no more of it than one byte beyond the greatest one.
@@ -79,16 +117,22 @@ fn configured(alloc: Global, text: &[u8]) -> Result<Config, ControlFault> {
     }
 }
 
-/// The path that a word is.
-pub fn path_in(text: &Text) -> Result<&str, ControlFault> {
+/// The path that a word is; `BadWords` where it is no UTF-8.
+pub fn path_in(text: &Text) -> Result<&str, ControlFault>
+    ensures { MatchResult result (λ path. path.now ≡ text.now)
+        (λ fault. (fault ≡ ControlFault.BadWords) × ¬ (IsUtf8 text.now)) }
+{
     match str::from_utf8(text.bytes()) {
         Ok(path) => Ok(path),
         Err(_) => Err(ControlFault::BadWords),
     }
 }
 
-/// The path that an option is.
-pub fn path_of(option: &Option<Text>) -> Result<Option<&str>, ControlFault> {
+/// The path that an option is; `BadWords` where it is no UTF-8.
+pub fn path_of(option: &Option<Text>) -> Result<Option<&str>, ControlFault>
+    ensures { MatchResult result (λ path. option_map (λ one. one.now) path ≡ option.now)
+        (λ fault. (fault ≡ ControlFault.BadWords) × IsNoPath option.now) }
+{
     match option {
         Some(text) => Ok(Some(path_in(text)?)),
         None => Ok(None),
@@ -105,8 +149,14 @@ fn config_path(options: &Options) -> Result<&str, ControlFault> {
     }
 }
 
-/// The address of an option, or else this one.
-pub fn address_or(option: &Option<Text>, default: SocketAddr) -> Result<SocketAddr, ControlFault> {
+/// The address of an option, or else this one, where it can be connected to. `BadAddress`: the option
+/// is no address.
+pub fn address_or(option: &Option<Text>, default: SocketAddr) -> Result<SocketAddr, ControlFault>
+    ensures { MatchOption option.now
+        (MatchResult result (IsAskedAt default) (λ _. ⊥))
+        (λ text. MatchResult result (IsAddressText text)
+        (λ fault. (fault ≡ ControlFault.BadAddress) × IsNoAddress text)) }
+{
     match option {
         Some(text) => address_in(text),
         None => Ok(reachable(default)),

@@ -1,5 +1,7 @@
 //! One page after another, and what is other on each.
 
+ghost use Rattle.std.specs.Prelude.{◌≤◌, IfOk};
+
 use change_lines::push_change;
 use gate_grammar::read_number;
 use gate_model::Text;
@@ -19,7 +21,9 @@ use std::time::{Clock, Duration};
 const INTERVAL: u32 = 1;
 
 // `--interval`, which is 1 to 3600, by default 1.
-fn interval_in(interval: &Option<Text>) -> Result<u32, ControlFault> {
+fn interval_in(interval: &Option<Text>) -> Result<u32, ControlFault>
+    ensures { IfOk result (λ seconds. (1 ≤ seconds) × (seconds ≤ 3600)) }
+{
     let Some(text) = interval else {
         return Ok(INTERVAL);
     };

@@ -1,5 +1,8 @@
 //! The status page, whole or in part, as it came or as JSON.
 
+ghost use Rattle.std.specs.Prelude.{◌≡◌, IfOk};
+ghost use Rattle.operator_showing.specs.Shown.{AsksForAll, IsPageShown, IsShown};
+
 use gate_model::{State, Text};
 use gate_reader::Sink;
 use operator_commands::Options;
@@ -52,11 +55,10 @@ fn query_in(
         Some(text) => str::from_utf8(text.bytes()).unwrap_or(""),
         None => "",
     };
-    Ok(Query {
-        choice,
-        host: String::from_str(alloc, host)?,
-        refresh: 0,
-    })
+    let mut query = Query::new(alloc, 0);
+    query.choice = choice;
+    query.host = String::from_str(alloc, host)?;
+    Ok(query)
 }
 
 // Whether a query chooses an object.
@@ -64,23 +66,29 @@ fn is_chosen(alloc: Global, object: MergedObject<'_>, query: &Query) -> Result<b
     Ok(!select(alloc, &[object], query)?.is_empty())
 }
 
+// A gateway of this name, whose page this is.
+fn alone<'a>(name: &'a str, page: StatusPage<'a>) -> Gateway<'a> {
+    Gateway {
+        name,
+        page: Ok(page),
+        since: &[],
+        old: None,
+        most: 0,
+    }
+}
+
 // The lines of the objects of a page that a query chooses, as this text has them.
 fn chosen_lines(
     alloc: Global,
     text: &[u8],
-    page: &StatusPage<'_>,
+    page: StatusPage<'_>,
     query: &Query,
 ) -> Result<Vec<u8>, AllocError> {
+    let objects = merge(alloc, &[alone("", page)])?;
     let mut lines = Vec::new(alloc);
     let rows = text.split(|byte| *byte == b'\n').skip(1);
-    for (line, row) in rows.zip(page.objects.as_slice()) {
-        let object = MergedObject {
-            gateway: "",
-            moment: page.moment,
-            since: page.moment,
-            row: *row,
-        };
-        if is_chosen(alloc, object, query)? {
+    for (line, object) in rows.zip(objects.as_slice()) {
+        if is_chosen(alloc, *object, query)? {
             lines.extend_from_slice(line)?;
             lines.extend_from_slice(b"\n")?;
         }
@@ -95,13 +103,7 @@ fn json_line(
     page: StatusPage<'_>,
     query: &Query,
 ) -> Result<Vec<u8>, AllocError> {
-    let gateways = [Gateway {
-        name,
-        page: Ok(page),
-        since: &[],
-        old: None,
-        most: 0,
-    }];
+    let gateways = [alone(name, page)];
     let objects = merge(alloc, &gateways)?;
     let chosen = select(alloc, objects.as_slice(), query)?;
     let mut text = json_text(alloc, &gateways, chosen.as_slice(), query)?;
@@ -110,7 +112,10 @@ fn json_line(
 }
 
 // Prints a text, where it is a page.
-fn show<W: Sink>(alloc: Global, text: &[u8], output: &mut W) -> Result<u8, ControlFault> {
+fn show<W: Sink>(alloc: Global, text: &[u8], output: &mut W) -> Result<u8, ControlFault>
+    ensures { IfOk result (λ status. (status ≡ 0)
+        × IsPageShown text.now (W.state output.old) (W.state output.new)) }
+{
     let _page = page_of(alloc, text)?;
     print(output, text)?;
     Ok(0)
@@ -122,9 +127,11 @@ fn show_chosen<W: Sink>(
     text: &[u8],
     query: &Query,
     output: &mut W,
-) -> Result<u8, ControlFault> {
+) -> Result<u8, ControlFault>
+    ensures { IfOk result (λ status. status ≡ 0) }
+{
     let page = page_of(alloc, text)?;
-    let lines = chosen_lines(alloc, text, &page, query)?;
+    let lines = chosen_lines(alloc, text, page, query)?;
     print(output, lines.as_slice())?;
     Ok(0)
 }
@@ -136,7 +143,9 @@ fn show_json<W: Sink>(
     name: &str,
     query: &Query,
     output: &mut W,
-) -> Result<u8, ControlFault> {
+) -> Result<u8, ControlFault>
+    ensures { IfOk result (λ status. status ≡ 0) }
+{
     let page = page_of(alloc, text)?;
     let line = json_line(alloc, name, page, query)?;
     print(output, line.as_slice())?;
@@ -151,7 +160,13 @@ pub fn run_status<R: Net<Listener = TcpListener, Stream = TcpStream> + Clock + F
     options: &Options,
     wanted: (&Option<Text>, &Option<Text>),
     output: &mut W,
-) -> Result<u8, ControlFault> {
+) -> Result<u8, ControlFault>
+    ensures status { IfOk result (λ status. status ≡ 0) }
+
+    // The page is printed as it came where nothing else is asked for.
+    ensures shown { IfOk result (λ _. AsksForAll options.now wanted.entry.0.now wanted.entry.1.now
+        → IsShown (W.state output.old) (W.state output.new)) }
+{
     let query = query_in(alloc, wanted.0, wanted.1)?;
     let (places, text) = fetched(rt, alloc, options)?;
     let text = text.as_slice();

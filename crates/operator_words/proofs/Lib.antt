@@ -1,3 +1,2 @@
-mod Examples
 pub mod FoundSteps
 pub mod WordSteps

@@ -123,6 +123,9 @@ check =
 abbrev pub test_config : App
 test_config = with_word (codes "file") true (new_app (codes "test-config"))
 
+abbrev pub log : App
+log = with_flag (codes "json") (with_option (codes "since") false (with_word (codes "file") true (new_app (codes "log"))))
+
 -- `NAME PAGE [--log FILE] [--pid PID]`
 abbrev pub on_page : List ℕ → App
 on_page name =
@@ -162,9 +165,9 @@ with_looks app = with_command check (with_command watch (with_command status app
 abbrev pub with_keeping : App → App
 with_keeping app = with_command restore (with_command stop app)
 
--- the subcommands on a whole gateway
+-- the subcommands on a whole gateway, its configuration and its log
 abbrev pub with_gateway : App → App
-with_gateway app = with_command test_config (with_command shutdown app)
+with_gateway app = with_command log (with_command test_config (with_command shutdown app))
 
 -- the words are all that follows the program's name, and one of them is a subcommand; there is a version
 abbrev pub top : App

@@ -55,6 +55,7 @@ look_on name found =
     task.Check (texts_in (codes "gateways") found) (option_in (codes "agents") found) (option_in (codes "age") found)
     (option_in (codes "keep") found)
     else if bytes_eq name (codes "test-config") then task.TestConfig (text_in (codes "file") found)
+    else if bytes_eq name (codes "log") then task.Log (text_in (codes "file") found) (option_in (codes "since") found)
     else task.Status (option_in (codes "state") found) (option_in (codes "host") found)
 
 -- what a subcommand of this name asks for

@@ -3,7 +3,7 @@
 ghost use Rattle.std.specs.Prelude.{◌≡◌, IfOk, false};
 ghost use Rattle.clap.specs.Words.{app_of, new_app, with_subcommand};
 ghost use Rattle.clap.specs.declared.builder.command.Command.TheViews.{out-Command as fields_of};
-ghost use Rattle.operator_words.specs.CommandLine.{IsArgument, IsCommand, word_of, words_of, option_of, comment, flag_of, with_remark, asking, plain, worded, with_object, on_object, ack, comment_command, uncomment, windowed, downtime, cancel, passive, result_command, shutdown, status, watch, check, test_config, on_page, stop, restore, with_remarks, with_objects, with_ids, with_looks, with_gateway, with_keeping, top, program};
+ghost use Rattle.operator_words.specs.CommandLine.{IsArgument, IsCommand, word_of, words_of, option_of, comment, flag_of, with_remark, asking, plain, worded, with_object, on_object, ack, comment_command, uncomment, windowed, downtime, cancel, passive, result_command, shutdown, status, watch, check, test_config, log, on_page, stop, restore, with_remarks, with_objects, with_ids, with_looks, with_gateway, with_keeping, top, program};
 
 use clap::{Arg, ArgAction, Command};
 use std::alloc::{AllocError, Global};
@@ -297,6 +297,20 @@ fn test_config<'a>(alloc: Global) -> Result<Command<'a>, AllocError>
     .arg(word(alloc, "file", true, "The configuration"))
 }
 
+fn log<'a>(alloc: Global) -> Result<Command<'a>, AllocError>
+    ensures { IfOk result (IsCommand log) }
+{
+    begun(alloc, "log", "Sum up a log page")
+        .arg(word(alloc, "file", true, "The file that the daemon prints to"))?
+        .arg(option(
+            alloc,
+            "since",
+            false,
+            "Only records since then, in seconds since 1970",
+        ))?
+        .arg(flag(alloc, "json", "Print JSON, an object a line"))
+}
+
 // A subcommand on a page that is kept.
 fn on_page<'a>(alloc: Global, name: &'a str, about: &'a str) -> Result<Command<'a>, AllocError>
     ensures { IfOk result (IsCommand (on_page name.entry.now)) }
@@ -377,12 +391,13 @@ fn with_looks<'a>(alloc: Global, command: Command<'a>) -> Result<Command<'a>, Al
     with(two, check(alloc)?)
 }
 
-// The subcommands on a whole gateway.
+// The subcommands on a whole gateway, its configuration and its log.
 fn with_gateway<'a>(alloc: Global, command: Command<'a>) -> Result<Command<'a>, AllocError>
     ensures { IfOk result (λ more. app_of more ≡ with_gateway (app_of command.entry)) }
 {
     let one = with(command, shutdown(alloc)?)?;
-    with(one, test_config(alloc)?)
+    let two = with(one, test_config(alloc)?)?;
+    with(two, log(alloc)?)
 }
 
 // The subcommands that keep what a gateway shows.

@@ -134,6 +134,10 @@ fn look_on(alloc: Global, name: &str, found: &ArgMatches<'_>) -> Result<Task, Al
         "test-config" => Task::TestConfig {
             file: text_in(alloc, found, "file")?,
         },
+        "log" => Task::Log {
+            file: text_in(alloc, found, "file")?,
+            since: option_in(alloc, found, "since")?,
+        },
         _ => Task::Status {
             state: option_in(alloc, found, "state")?,
             host: option_in(alloc, found, "host")?,

@@ -1,4 +1,4 @@
--- A gateway that applies such commands at one moment accepts each that is no acknowledgement.
+-- A gateway that applies such commands at one moment accepts each, but maybe an acknowledgement.
 use Rattle.std.proofs.Common.{◌≡◌, ℕ, ℤ, ◌+◌, ◌<◌, ◌≤◌, Bool, true, false, List, [], ◌∷◌, ◌++◌, length, reverse, max, refl, sym, ap, ◌∙◌, subst, arith, append_assoc}
 use Rattle.std.specs.Prelude.{not, ◌&&◌, ◌||◌, ◌==◌, nat_lt, nat_le, Option, Some, None, is_some, option_map, if◌then◌else◌}
 use Rattle.std.specs.Option.{option_to_list}
@@ -7,7 +7,7 @@ use Rattle.std.proofs.lemmas.List.{reverse-append, append-nil}
 use Rattle.gate_model.specs.declared.record.Moment.{Moment}
 use Rattle.gate_model.specs.declared.record.Record.{Record}
 use Rattle.gate_model.specs.declared.record.Outcome.{Outcome}
-use Rattle.gate_model.specs.declared.record.Outcome.TheVariants.{Accepted, NoSuchHost, PassiveDisabled, BadWindow, WindowPast, NoSuchTrigger}
+use Rattle.gate_model.specs.declared.record.Outcome.TheVariants.{Accepted, NoSuchHost, NoProblem, PassiveDisabled, BadWindow, WindowPast, NoSuchTrigger}
 use Rattle.gate_model.specs.declared.object.ObjectLine.{ObjectLine}
 use Rattle.gate_model.specs.declared.object.ObjectId.{ObjectId}
 use Rattle.gate_model.specs.declared.downtime.DowntimeEvent.{DowntimeEvent}
@@ -15,19 +15,21 @@ use Rattle.gate_model.specs.declared.downtime.DowntimeEvent.TheVariants as downt
 use Rattle.gate_model.specs.declared.status.ObjectEvent.{ObjectEvent}
 use Rattle.gate_model.specs.declared.status.ObjectEvent.TheVariants as object
 use Rattle.gate_model.specs.declared.state.State.{State}
+use Rattle.gate_model.specs.declared.state.State.TheVariants.{Pending}
 use Rattle.gate_model.specs.declared.submission.Body.{Body}
 use Rattle.gate_model.specs.declared.submission.Body.TheVariants as bodies
 use Rattle.gate_model.specs.Record.{is_accepted}
-use Rattle.gate_model.specs.Status.{is_passive, is_transition}
-use Rattle.gate_model.specs.State.{state_of_code}
+use Rattle.gate_model.specs.Status.{is_passive, is_transition, state_of}
+use Rattle.gate_model.specs.State.{state_of_code, is_problem}
 use Rattle.gate_model.specs.Table.{IsFaultless, place_of, object_kind, object_at}
 use Rattle.gate_model.specs.Downtime.{scheduled_in}
-use Rattle.gate_model.specs.Meaning.{Judged, object_event, object_events, transition_by, plan_of, downtime_events_of_body, downtime_events, is_live_after, outcome_at_place, outcome_for, outcome_of_window, outcome_at, judgement_of, judged}
+use Rattle.gate_model.specs.Meaning.{Judged, object_event, object_events, transition_by, plan_of, is_sticky, downtime_events_of_body, downtime_events, is_live_after, outcome_at_place, outcome_for, outcome_of_window, outcome_at, judgement_of, judged}
 use Rattle.gate_model.proofs.Hosts.{has_object-host}
+use Rattle.gate_model.proofs.ObjectSteps.{state_of-result}
 use Rattle.restore_plan.specs.declared.entries.Terms.{Terms}
 use Rattle.restore_plan.specs.Entries.{is_over, is_momentary}
 use Rattle.restore_plan.specs.Rehearsal.{records_from}
-use Rattle.restore_plan.specs.Acceptance.{is_acknowledgement, AcceptsOthers}
+use Rattle.restore_plan.specs.Acceptance.{is_acknowledgement, accepts_after, AcceptsAll, AcceptsOthers}
 use Rattle.restore_plan.proofs.LiveSteps.{AreTimely, all_live}
 
 -- ---- such commands
@@ -35,40 +37,61 @@ use Rattle.restore_plan.proofs.LiveSteps.{AreTimely, all_live}
 abbrev pub IsKnown : List ObjectLine → List ℕ → Option (List ℕ) → Type 0
 IsKnown fresh host service = is_some (place_of fresh host service) ≡ true
 
--- commands of which each can be accepted after those before it, which scheduled so many entries; results come first
-unfoldable pub IsApt : List ObjectLine → Moment → Bool → ℕ → List Body → Type 0
-IsApt fresh now others count [] = Unit {0}
-IsApt fresh now others count (bodies.Result host service code output ∷ rest) =
-    (others ≡ false) × IsKnown fresh host service × IsApt fresh now false count rest
-IsApt fresh now others count (bodies.AddComment host service persistent author text ∷ rest) =
-    IsKnown fresh host service × IsApt fresh now true count rest
-IsApt fresh now others count (bodies.DelComment kind id ∷ rest) = ⊥
-IsApt fresh now others count (bodies.DelAllComments host service ∷ rest) = ⊥
-IsApt fresh now others count (bodies.Acknowledge host service sticky notify persistent author text ∷ rest) =
-    IsApt fresh now true count rest
-IsApt fresh now others count (bodies.RemoveAck host service ∷ rest) = ⊥
-IsApt fresh now others count (bodies.Schedule host service starts ends fixed trigger lasts author text ∷ rest) =
+-- the place is this one
+abbrev pub is_at : ℕ → Option ℕ → Bool
+is_at place None = false
+is_at place (Some found) = found == place
+
+-- the state of the object at this place after a command that is accepted
+abbrev pub state_by : List ObjectLine → ℕ → Body → State → State
+state_by fresh place (bodies.Result host service code output) state =
+    if is_at place (place_of fresh host service) then state_of_code (object_kind service) code else state
+state_by fresh place _ state = state
+
+-- the object has a problem, where these are the states
+abbrev pub HasProblem : List ObjectLine → (ℕ → State) → List ℕ → Option (List ℕ) → Type 0
+HasProblem fresh shown host service =
+    IsKnown fresh host service
+    × ((place : ℕ) → place_of fresh host service ≡ Some place → is_problem (shown place) ≡ true)
+
+-- commands of which each can be accepted after those before it, which scheduled so many entries and left these states;
+-- results come first, and acknowledgements may be sure to be accepted
+unfoldable pub IsApt : List ObjectLine → Moment → Bool → (ℕ → State) → Bool → ℕ → List Body → Type 0
+IsApt fresh now sure shown others count [] = Unit {0}
+IsApt fresh now sure shown others count (bodies.Result host service code output ∷ rest) =
+    (others ≡ false) × IsKnown fresh host service
+    × IsApt fresh now sure (λ place. state_by fresh place (bodies.Result host service code output) (shown place)) false count rest
+IsApt fresh now sure shown others count (bodies.AddComment host service persistent author text ∷ rest) =
+    IsKnown fresh host service × IsApt fresh now sure shown true count rest
+IsApt fresh now sure shown others count (bodies.DelComment kind id ∷ rest) = ⊥
+IsApt fresh now sure shown others count (bodies.DelAllComments host service ∷ rest) = ⊥
+IsApt fresh now sure shown others count (bodies.Acknowledge host service sticky notify persistent author text ∷ rest) =
+    (sure ≡ true → HasProblem fresh shown host service) × IsApt fresh now sure shown true count rest
+IsApt fresh now sure shown others count (bodies.RemoveAck host service ∷ rest) = ⊥
+IsApt fresh now sure shown others count (bodies.Schedule host service starts ends fixed trigger lasts author text ∷ rest) =
     IsKnown fresh host service
     × (is_over now (record { starts = starts; ends = ends; fixed = fixed; trigger = trigger; lasts = lasts }) ≡ false)
     × (trigger ≤ count)
-    × IsApt fresh now true (count + 1) rest
-IsApt fresh now others count (bodies.DelDowntime kind id ∷ rest) = ⊥
-IsApt fresh now others count (bodies.Passive host service on ∷ rest) =
-    IsKnown fresh host service × IsApt fresh now true count rest
-IsApt fresh now others count (bodies.ScheduleServices host starts ends fixed trigger lasts author text ∷ rest) = ⊥
-IsApt fresh now others count (bodies.Shutdown ∷ rest) = ⊥
+    × IsApt fresh now sure shown true (count + 1) rest
+IsApt fresh now sure shown others count (bodies.DelDowntime kind id ∷ rest) = ⊥
+IsApt fresh now sure shown others count (bodies.Passive host service on ∷ rest) =
+    IsKnown fresh host service × IsApt fresh now sure shown true count rest
+IsApt fresh now sure shown others count (bodies.ScheduleServices host starts ends fixed trigger lasts author text ∷ rest) = ⊥
+IsApt fresh now sure shown others count (bodies.Shutdown ∷ rest) = ⊥
 
--- what is known after such commands: so many entries are scheduled, and no setting is made before the others begin
-record IsAfter (fresh : List ObjectLine) (now : Moment) (others : Bool) (count : ℕ) (before : List Judged) : Type 0 where
+-- what is known after such commands: so many entries are scheduled, no setting is made before the others begin, and these
+-- are the states
+record IsAfter (fresh : List ObjectLine) (now : Moment) (shown : ℕ → State) (others : Bool) (count : ℕ) (before : List Judged) : Type 0 where
   timely : AreTimely now (downtime_events fresh before)
   counted : length (scheduled_in 1 (downtime_events fresh before)) ≡ count
   none : others ≡ false → count ≡ 0
   enabled : others ≡ false → (place : ℕ) → is_passive place (object_events fresh before) ≡ true
+  states : (place : ℕ) → state_of place (object_events fresh before) ≡ shown place
 
 -- ---- outcomes
 
 accepted_for : (fresh : List ObjectLine) (host : List ℕ) (service : Option (List ℕ)) (judge : ℕ → Outcome) → IsFaultless fresh
-    → IsKnown fresh host service → ((place : ℕ) → is_accepted (judge place) ≡ true)
+    → IsKnown fresh host service → ((place : ℕ) → place_of fresh host service ≡ Some place → is_accepted (judge place) ≡ true)
     → is_accepted (outcome_for fresh host service judge) ≡ true
 accepted_for fresh host service judge good known each = found (place_of fresh host service) refl known
   where
@@ -79,7 +102,7 @@ accepted_for fresh host service judge good known each = found (place_of fresh ho
         ap (λ (has : Bool). is_accepted (if has then outcome_at_place judge (place_of fresh host service) else NoSuchHost))
         (has_object-host fresh host service place good is)
         ∙ ap (λ at. is_accepted (outcome_at_place judge at)) is
-        ∙ each place
+        ∙ each place is
 
 -- a window that isn't over, and whose trigger is live
 record IsOpen (now starts ends : Moment) (fixed trigger lasts : ℕ) : Type 0 where
@@ -129,33 +152,38 @@ schedules live now starts ends fixed trigger lasts window low =
     (triggered live trigger (trigger == 0) refl low)
 
 -- the outcome of the next command
-one : (fresh : List ObjectLine) (now : Moment) (others : Bool) (count : ℕ) (before : List Judged) (body : Body) (rest : List Body)
-    → IsFaultless fresh → IsAfter fresh now others count before → IsApt fresh now others count (body ∷ rest)
-    → is_acknowledgement body ≡ false → is_accepted (outcome_at fresh before now body) ≡ true
+one : (fresh : List ObjectLine) (now : Moment) (sure : Bool) (shown : ℕ → State) (others : Bool) (count : ℕ) (before : List Judged) (body : Body) (rest : List Body)
+    → IsFaultless fresh → IsAfter fresh now shown others count before → IsApt fresh now sure shown others count (body ∷ rest)
+    → (is_acknowledgement body ≡ true → sure ≡ true) → is_accepted (outcome_at fresh before now body) ≡ true
 unfolding IsApt
-one fresh now others count before (bodies.Result host service code output) rest good after apt is =
+one fresh now sure shown others count before (bodies.Result host service code output) rest good after apt is =
     accepted_for fresh host service (λ place. if is_passive place (object_events fresh before) then Accepted else PassiveDisabled)
     good apt.1
-    (λ place. ap (λ (on : Bool). is_accepted (if on then Accepted else PassiveDisabled)) (after.enabled apt.0 place))
-one fresh now others count before (bodies.AddComment host service persistent author text) rest good after apt is =
-    accepted_for fresh host service (λ place. Accepted) good apt.0 (λ place. refl)
-one fresh now others count before (bodies.DelComment kind id) rest good after apt is = absurd apt
-one fresh now others count before (bodies.DelAllComments host service) rest good after apt is = absurd apt
-one fresh now others count before (bodies.Acknowledge host service sticky notify persistent author text) rest good after apt is =
-    absurd cc
-one fresh now others count before (bodies.RemoveAck host service) rest good after apt is = absurd apt
-one fresh now others count before (bodies.Schedule host service starts ends fixed trigger lasts author text) rest good after apt is =
+    (λ place found. ap (λ (on : Bool). is_accepted (if on then Accepted else PassiveDisabled)) (after.enabled apt.0 place))
+one fresh now sure shown others count before (bodies.AddComment host service persistent author text) rest good after apt is =
+    accepted_for fresh host service (λ place. Accepted) good apt.0 (λ place found. refl)
+one fresh now sure shown others count before (bodies.DelComment kind id) rest good after apt is = absurd apt
+one fresh now sure shown others count before (bodies.DelAllComments host service) rest good after apt is = absurd apt
+one fresh now sure shown others count before (bodies.Acknowledge host service sticky notify persistent author text) rest good after apt is =
+    let known : HasProblem fresh shown host service = apt.0 (is refl) in
+    accepted_for fresh host service (λ place. if is_problem (state_of place (object_events fresh before)) then Accepted else NoProblem)
+    good known.0
+    (λ place found. ap (λ (problem : Bool). is_accepted (if problem then Accepted else NoProblem)) (
+    ap is_problem (after.states place) ∙ known.1 place found
+    ))
+one fresh now sure shown others count before (bodies.RemoveAck host service) rest good after apt is = absurd apt
+one fresh now sure shown others count before (bodies.Schedule host service starts ends fixed trigger lasts author text) rest good after apt is =
     let live = is_live_after fresh before now in
     accepted_for fresh host service (λ place. outcome_of_window live now starts ends trigger) good apt.0
-    (λ place. schedules live now starts ends fixed trigger lasts (opens now starts ends fixed trigger lasts apt.1) (
+    (λ place found. schedules live now starts ends fixed trigger lasts (opens now starts ends fixed trigger lasts apt.1) (
     λ low. all_live now (downtime_events fresh before) after.timely trigger low (omega (arith, after.counted, apt.2))
     ))
-one fresh now others count before (bodies.DelDowntime kind id) rest good after apt is = absurd apt
-one fresh now others count before (bodies.Passive host service on) rest good after apt is =
-    accepted_for fresh host service (λ place. Accepted) good apt.0 (λ place. refl)
-one fresh now others count before (bodies.ScheduleServices host starts ends fixed trigger lasts author text) rest good after apt is =
+one fresh now sure shown others count before (bodies.DelDowntime kind id) rest good after apt is = absurd apt
+one fresh now sure shown others count before (bodies.Passive host service on) rest good after apt is =
+    accepted_for fresh host service (λ place. Accepted) good apt.0 (λ place found. refl)
+one fresh now sure shown others count before (bodies.ScheduleServices host starts ends fixed trigger lasts author text) rest good after apt is =
     absurd apt
-one fresh now others count before bodies.Shutdown rest good after apt is = absurd apt
+one fresh now sure shown others count before bodies.Shutdown rest good after apt is = absurd apt
 
 -- ---- what is known after one more
 
@@ -168,15 +196,37 @@ quiet : (accepted : Bool) (events : List DowntimeEvent) → events ≡ [] → (i
 quiet true events is = is
 quiet false events is = refl
 
-unchanged : (fresh : List ObjectLine) (now : Moment) (others : Bool) (count : ℕ) (before : List Judged) (judgement : Judged)
-    → downtime_events fresh (judgement ∷ before) ≡ downtime_events fresh before → IsAfter fresh now others count before
-    → IsAfter fresh now true count (judgement ∷ before)
-unchanged fresh now others count before judgement is after = record {
+unchanged : (fresh : List ObjectLine) (now : Moment) (shown : ℕ → State) (others : Bool) (count : ℕ) (before : List Judged) (judgement : Judged)
+    → downtime_events fresh (judgement ∷ before) ≡ downtime_events fresh before
+    → ((place : ℕ) → state_of place (object_events fresh (judgement ∷ before)) ≡ state_of place (object_events fresh before))
+    → IsAfter fresh now shown others count before → IsAfter fresh now shown true count (judgement ∷ before)
+unchanged fresh now shown others count before judgement is same after = record {
   timely = subst (AreTimely now) (sym is) after.timely;
   counted = ap (λ events. length (scheduled_in 1 events)) is ∙ after.counted;
   none = λ not_yet. absurd cc;
   enabled = λ not_yet. absurd cc;
+  states = λ place. same place ∙ after.states place;
 }
+
+-- the state of an object, where a command is no result
+uneventful : (place : ℕ) (history : List ObjectEvent) (accepted : Bool)
+    → state_of place (option_to_list (if accepted then None else None) ++ history) ≡ state_of place history
+uneventful place history true = refl
+uneventful place history false = refl
+
+acknowledged : (place : ℕ) (history : List ObjectEvent) (accepted sticky : Bool) (index : ℕ) (at : Option ℕ)
+    → state_of place (option_to_list (if accepted then option_map (λ found. object.Acknowledge found sticky index) at else None) ++ history)
+    ≡ state_of place history
+acknowledged place history true sticky index None = refl
+acknowledged place history true sticky index (Some found) = refl
+acknowledged place history false sticky index at = refl
+
+switched : (place : ℕ) (history : List ObjectEvent) (accepted on : Bool) (at : Option ℕ)
+    → state_of place (option_to_list (if accepted then option_map (λ found. object.Passive found on) at else None) ++ history)
+    ≡ state_of place history
+switched place history true on None = refl
+switched place history true on (Some found) = refl
+switched place history false on at = refl
 
 transition_in : (now : Moment) (old : List DowntimeEvent) (test : Bool) (moment : Moment) (place : ℕ)
     → AreTimely now old → length (scheduled_in 1 old) ≡ 0
@@ -222,15 +272,30 @@ still_passive place history true state moment index None on = on
 still_passive place history true state moment index (Some found) on = on
 still_passive place history false state moment index at on = on
 
-more_events : (fresh : List ObjectLine) (judgement : Judged) (before : List Judged) (found : Option ObjectEvent)
+pub more_events : (fresh : List ObjectLine) (judgement : Judged) (before : List Judged) (found : Option ObjectEvent)
     → object_event fresh judgement ≡ found → object_events fresh (judgement ∷ before) ≡ option_to_list found ++ object_events fresh before
 more_events fresh judgement before None is = rw is
 more_events fresh judgement before (Some event) is = rw is
 
-after_result : (fresh : List ObjectLine) (now : Moment) (count number : ℕ) (before : List Judged) (host : List ℕ) (service : Option (List ℕ)) (code : ℤ) (output : List ℕ)
-    → IsAfter fresh now false count before
-    → IsAfter fresh now false count (judgement_of fresh before (applied now number (bodies.Result host service code output)) ∷ before)
-after_result fresh now count number before host service code output after =
+-- the state of an object after a result
+resulted : (fresh : List ObjectLine) (place : ℕ) (host : List ℕ) (service : Option (List ℕ)) (code : ℤ) (output : List ℕ) (moment : Moment) (index : ℕ) (history : List ObjectEvent) (accepted : Bool)
+    → accepted ≡ true
+    → state_of place (option_to_list (if accepted then option_map (λ found. object.Result found (state_of_code (object_kind service) code) moment index) (place_of fresh host service) else None) ++ history)
+    ≡ state_by fresh place (bodies.Result host service code output) (state_of place history)
+resulted fresh place host service code output moment index history false is = absurd cc
+resulted fresh place host service code output moment index history true is = at (place_of fresh host service)
+  where
+    at : (found : Option ℕ)
+        → state_of place (option_to_list (option_map (λ one. object.Result one (state_of_code (object_kind service) code) moment index) found) ++ history)
+        ≡ (if is_at place found then state_of_code (object_kind service) code else state_of place history)
+    at None = refl
+    at (Some one) = state_of-result place one (state_of_code (object_kind service) code) moment index history
+
+after_result : (fresh : List ObjectLine) (now : Moment) (shown : ℕ → State) (count number : ℕ) (before : List Judged) (host : List ℕ) (service : Option (List ℕ)) (code : ℤ) (output : List ℕ)
+    → is_accepted (outcome_at fresh before now (bodies.Result host service code output)) ≡ true → IsAfter fresh now shown false count before
+    → IsAfter fresh now (λ place. state_by fresh place (bodies.Result host service code output) (shown place)) false count
+    (judgement_of fresh before (applied now number (bodies.Result host service code output)) ∷ before)
+after_result fresh now shown count number before host service code output good after =
     let body : Body = bodies.Result host service code output in
     let old = downtime_events fresh before in
     let judgement = judgement_of fresh before (applied now number body) in
@@ -247,17 +312,21 @@ after_result fresh now count number before host service code output after =
           ap (is_passive place) (more_events fresh judgement before (object_event fresh judgement) refl)
           ∙ still_passive place (object_events fresh before) accepted (state_of_code (object_kind service) code) now (length before)
           (place_of fresh host service) (after.enabled refl place);
+      states = λ place.
+          ap (state_of place) (more_events fresh judgement before (object_event fresh judgement) refl)
+          ∙ resulted fresh place host service code output now (length before) (object_events fresh before) accepted good
+          ∙ ap (state_by fresh place body) (after.states place);
     }
 
 -- an accepted command schedules its entry
-one_more : (fresh : List ObjectLine) (now : Moment) (others : Bool) (count number : ℕ) (before : List Judged) (host : List ℕ) (service : Option (List ℕ)) (starts ends : Moment) (fixed trigger lasts : ℕ) (author text : List ℕ) (rest : List Body)
-    → IsFaultless fresh → IsAfter fresh now others count before
-    → IsApt fresh now others count (bodies.Schedule host service starts ends fixed trigger lasts author text ∷ rest)
-    → IsAfter fresh now true (count + 1) (
+one_more : (fresh : List ObjectLine) (now : Moment) (sure : Bool) (shown : ℕ → State) (others : Bool) (count number : ℕ) (before : List Judged) (host : List ℕ) (service : Option (List ℕ)) (starts ends : Moment) (fixed trigger lasts : ℕ) (author text : List ℕ) (rest : List Body)
+    → IsFaultless fresh → IsAfter fresh now shown others count before
+    → IsApt fresh now sure shown others count (bodies.Schedule host service starts ends fixed trigger lasts author text ∷ rest)
+    → IsAfter fresh now shown true (count + 1) (
     judgement_of fresh before (applied now number (bodies.Schedule host service starts ends fixed trigger lasts author text)) ∷ before
     )
 unfolding IsApt AreTimely
-one_more fresh now others count number before host service starts ends fixed trigger lasts author text rest good after apt =
+one_more fresh now sure shown others count number before host service starts ends fixed trigger lasts author text rest good after apt =
     scheduled (place_of fresh host service) refl apt.0
   where
     body : Body
@@ -274,7 +343,7 @@ one_more fresh now others count number before host service starts ends fixed tri
 
     added : (found : ObjectId) → downtime_events fresh (judgement ∷ before)
         ≡ downtime.Schedule now found (plan_of starts ends fixed trigger lasts (length before)) ∷ old
-        → IsAfter fresh now true (count + 1) (judgement ∷ before)
+        → IsAfter fresh now shown true (count + 1) (judgement ∷ before)
     added found is =
         let timely : AreTimely now (downtime.Schedule now found (plan_of starts ends fixed trigger lasts (length before)) ∷ old) =
         (refl, window.later, omega (arith, apt.2, after.counted), window.duration, after.timely) in
@@ -283,17 +352,21 @@ one_more fresh now others count number before host service starts ends fixed tri
           counted = ap (λ events. length (scheduled_in 1 events)) is ∙ omega (arith, after.counted);
           none = λ not_yet. absurd cc;
           enabled = λ not_yet. absurd cc;
+          states = λ place.
+              ap (state_of place) (more_events fresh judgement before (object_event fresh judgement) refl)
+              ∙ uneventful place (object_events fresh before) (is_accepted judgement.outcome)
+              ∙ after.states place;
         }
 
     scheduled : (place : Option ℕ) → place_of fresh host service ≡ place → is_some place ≡ true
-        → IsAfter fresh now true (count + 1) (judgement ∷ before)
+        → IsAfter fresh now shown true (count + 1) (judgement ∷ before)
     scheduled None is some = absurd cc
     scheduled (Some place) is some =
         let found = object_at (object_kind service) place in
         let plan = plan_of starts ends fixed trigger lasts (length before) in
         added found (
         ap (λ (accepted : Bool). (if accepted then downtime_events_of_body fresh (object_events fresh before) now (length before) body else []) ++ old)
-        (one fresh now others count before body rest good after apt refl)
+        (one fresh now sure shown others count before body rest good after apt (λ same. absurd cc))
         ∙ ap (λ at. option_to_list (option_map (λ one. downtime.Schedule now one plan) (option_map (object_at (object_kind service)) at)) ++ old) is
         )
 
@@ -315,57 +388,97 @@ reversed now number newer (body ∷ rest) =
     ∙ append_assoc (reverse records) (record_now ∷ []) newer
     ∙ reversed now (number + 1) (record_now ∷ newer) rest
 
-all : (fresh : List ObjectLine) (now : Moment) (others : Bool) (count number : ℕ) (newer : List Record) (before : List Body) (body : Body) (rest : List Body)
-    → IsFaultless fresh → IsAfter fresh now others count (judged fresh newer) → IsApt fresh now others count (before ++ body ∷ rest)
-    → is_acknowledgement body ≡ false
+all : (fresh : List ObjectLine) (now : Moment) (sure : Bool) (shown : ℕ → State) (others : Bool) (count number : ℕ) (newer : List Record) (before : List Body) (body : Body) (rest : List Body)
+    → IsFaultless fresh → IsAfter fresh now shown others count (judged fresh newer) → IsApt fresh now sure shown others count (before ++ body ∷ rest)
+    → (is_acknowledgement body ≡ true → sure ≡ true)
     → is_accepted (outcome_at fresh (judged fresh (history now number newer before)) now body) ≡ true
 unfolding IsApt history
-all fresh now others count number newer [] body rest good after apt is =
-    one fresh now others count (judged fresh newer) body rest good after apt is
-all fresh now others count number newer (bodies.Result host service code output ∷ before) body rest good after apt is =
+all fresh now sure shown others count number newer [] body rest good after apt is =
+    one fresh now sure shown others count (judged fresh newer) body rest good after apt is
+all fresh now sure shown others count number newer (bodies.Result host service code output ∷ before) body rest good after apt is =
     let first : Body = bodies.Result host service code output in
-    let results : IsAfter fresh now false count (judged fresh newer) =
-    subst (λ begun. IsAfter fresh now begun count (judged fresh newer)) apt.0 after in
-    all fresh now false count (number + 1) (applied now number first ∷ newer) before body rest good
-    (after_result fresh now count number (judged fresh newer) host service code output results) apt.2 is
-all fresh now others count number newer (bodies.AddComment host service persistent author text ∷ before) body rest good after apt is =
+    let results : IsAfter fresh now shown false count (judged fresh newer) =
+    subst (λ begun. IsAfter fresh now shown begun count (judged fresh newer)) apt.0 after in
+    let accepted = one fresh now sure shown others count (judged fresh newer) first (before ++ body ∷ rest) good after apt (λ same. absurd cc) in
+    all fresh now sure (λ place. state_by fresh place first (shown place)) false count (number + 1) (applied now number first ∷ newer) before body rest good
+    (after_result fresh now shown count number (judged fresh newer) host service code output accepted results) apt.2 is
+all fresh now sure shown others count number newer (bodies.AddComment host service persistent author text ∷ before) body rest good after apt is =
     let first : Body = bodies.AddComment host service persistent author text in
-    all fresh now true count (number + 1) (applied now number first ∷ newer) before body rest good
-    (unchanged fresh now others count (judged fresh newer) (judgement_of fresh (judged fresh newer) (applied now number first)) (
-    ap (λ none. none ++ downtime_events fresh (judged fresh newer)) (quiet (is_accepted (outcome_at fresh (judged fresh newer) now first)) [] refl)
-    ) after) apt.1 is
-all fresh now others count number newer (bodies.DelComment kind id ∷ before) body rest good after apt is = absurd apt
-all fresh now others count number newer (bodies.DelAllComments host service ∷ before) body rest good after apt is = absurd apt
-all fresh now others count number newer (bodies.Acknowledge host service sticky notify persistent author text ∷ before) body rest good after apt is =
+    let before_it = judged fresh newer in
+    let judgement = judgement_of fresh before_it (applied now number first) in
+    let accepted = is_accepted judgement.outcome in
+    all fresh now sure shown true count (number + 1) (applied now number first ∷ newer) before body rest good
+    (unchanged fresh now shown others count before_it judgement
+    (ap (λ none. none ++ downtime_events fresh before_it) (quiet accepted [] refl))
+    (λ place.
+    ap (state_of place) (more_events fresh judgement before_it (object_event fresh judgement) refl)
+    ∙ uneventful place (object_events fresh before_it) accepted)
+    after) apt.1 is
+all fresh now sure shown others count number newer (bodies.DelComment kind id ∷ before) body rest good after apt is = absurd apt
+all fresh now sure shown others count number newer (bodies.DelAllComments host service ∷ before) body rest good after apt is = absurd apt
+all fresh now sure shown others count number newer (bodies.Acknowledge host service sticky notify persistent author text ∷ before) body rest good after apt is =
     let first : Body = bodies.Acknowledge host service sticky notify persistent author text in
-    all fresh now true count (number + 1) (applied now number first ∷ newer) before body rest good
-    (unchanged fresh now others count (judged fresh newer) (judgement_of fresh (judged fresh newer) (applied now number first)) (
-    ap (λ none. none ++ downtime_events fresh (judged fresh newer)) (quiet (is_accepted (outcome_at fresh (judged fresh newer) now first)) [] refl)
-    ) after) apt is
-all fresh now others count number newer (bodies.RemoveAck host service ∷ before) body rest good after apt is = absurd apt
-all fresh now others count number newer (bodies.Schedule host service starts ends fixed trigger lasts author text ∷ before) body rest good after apt is =
+    let before_it = judged fresh newer in
+    let judgement = judgement_of fresh before_it (applied now number first) in
+    let accepted = is_accepted judgement.outcome in
+    all fresh now sure shown true count (number + 1) (applied now number first ∷ newer) before body rest good
+    (unchanged fresh now shown others count before_it judgement
+    (ap (λ none. none ++ downtime_events fresh before_it) (quiet accepted [] refl))
+    (λ place.
+    ap (state_of place) (more_events fresh judgement before_it (object_event fresh judgement) refl)
+    ∙ acknowledged place (object_events fresh before_it) accepted (is_sticky sticky) (length before_it) (place_of fresh host service))
+    after) apt.1 is
+all fresh now sure shown others count number newer (bodies.RemoveAck host service ∷ before) body rest good after apt is = absurd apt
+all fresh now sure shown others count number newer (bodies.Schedule host service starts ends fixed trigger lasts author text ∷ before) body rest good after apt is =
     let first : Body = bodies.Schedule host service starts ends fixed trigger lasts author text in
-    all fresh now true (count + 1) (number + 1) (applied now number first ∷ newer) before body rest good
-    (one_more fresh now others count number (judged fresh newer) host service starts ends fixed trigger lasts author text (before ++ body ∷ rest) good after apt)
+    all fresh now sure shown true (count + 1) (number + 1) (applied now number first ∷ newer) before body rest good
+    (one_more fresh now sure shown others count number (judged fresh newer) host service starts ends fixed trigger lasts author text (before ++ body ∷ rest) good after apt)
     apt.3 is
-all fresh now others count number newer (bodies.DelDowntime kind id ∷ before) body rest good after apt is = absurd apt
-all fresh now others count number newer (bodies.Passive host service on ∷ before) body rest good after apt is =
+all fresh now sure shown others count number newer (bodies.DelDowntime kind id ∷ before) body rest good after apt is = absurd apt
+all fresh now sure shown others count number newer (bodies.Passive host service on ∷ before) body rest good after apt is =
     let first : Body = bodies.Passive host service on in
-    all fresh now true count (number + 1) (applied now number first ∷ newer) before body rest good
-    (unchanged fresh now others count (judged fresh newer) (judgement_of fresh (judged fresh newer) (applied now number first)) (
-    ap (λ none. none ++ downtime_events fresh (judged fresh newer)) (quiet (is_accepted (outcome_at fresh (judged fresh newer) now first)) [] refl)
-    ) after) apt.1 is
-all fresh now others count number newer (bodies.ScheduleServices host starts ends fixed trigger lasts author text ∷ before) body rest good after apt is =
+    let before_it = judged fresh newer in
+    let judgement = judgement_of fresh before_it (applied now number first) in
+    let accepted = is_accepted judgement.outcome in
+    all fresh now sure shown true count (number + 1) (applied now number first ∷ newer) before body rest good
+    (unchanged fresh now shown others count before_it judgement
+    (ap (λ none. none ++ downtime_events fresh before_it) (quiet accepted [] refl))
+    (λ place.
+    ap (state_of place) (more_events fresh judgement before_it (object_event fresh judgement) refl)
+    ∙ switched place (object_events fresh before_it) accepted on (place_of fresh host service))
+    after) apt.1 is
+all fresh now sure shown others count number newer (bodies.ScheduleServices host starts ends fixed trigger lasts author text ∷ before) body rest good after apt is =
     absurd apt
-all fresh now others count number newer (bodies.Shutdown ∷ before) body rest good after apt is = absurd apt
+all fresh now sure shown others count number newer (bodies.Shutdown ∷ before) body rest good after apt is = absurd apt
 
-pub accepts_others : (fresh : List ObjectLine) (now : Moment) (commands : List Body) → IsFaultless fresh
-    → IsApt fresh now false 0 commands → AcceptsOthers fresh now commands
+-- no object has a result yet
+abbrev pub all_pending : ℕ → State
+all_pending place = Pending
+
+accepts : (fresh : List ObjectLine) (now : Moment) (sure : Bool) (commands before : List Body) (body : Body) (after : List Body)
+    → IsFaultless fresh → IsApt fresh now sure all_pending false 0 commands → commands ≡ before ++ body ∷ after
+    → (is_acknowledgement body ≡ true → sure ≡ true) → accepts_after fresh now before body ≡ true
 unfolding AreTimely
-accepts_others fresh now commands good apt before body after whole is =
-    let begun : IsAfter fresh now false 0 (judged fresh []) =
-    record { timely = tt; counted = refl; none = λ not_yet. refl; enabled = λ not_yet place. refl } in
+accepts fresh now sure commands before body after good apt whole is =
+    let begun : IsAfter fresh now all_pending false 0 (judged fresh []) =
+    record {
+      timely = tt;
+      counted = refl;
+      none = λ not_yet. refl;
+      enabled = λ not_yet place. refl;
+      states = λ place. refl;
+    } in
     let records : reverse (records_from now 1 before) ≡ history now 1 [] before =
     sym (append-nil (reverse (records_from now 1 before))) ∙ reversed now 1 [] before in
     ap (λ (newest : List Record). is_accepted (outcome_at fresh (judged fresh newest) now body)) records
-    ∙ all fresh now false 0 1 [] before body after good begun (subst (IsApt fresh now false 0) whole apt) is
+    ∙ all fresh now sure all_pending false 0 1 [] before body after good begun (subst (IsApt fresh now sure all_pending false 0) whole apt) is
+
+pub accepts_others : (fresh : List ObjectLine) (now : Moment) (commands : List Body) → IsFaultless fresh
+    → IsApt fresh now false all_pending false 0 commands → AcceptsOthers fresh now commands
+accepts_others fresh now commands good apt before body after whole is =
+    accepts fresh now false commands before body after good apt whole (λ same. sym is ∙ same)
+
+pub accepts_all : (fresh : List ObjectLine) (now : Moment) (commands : List Body) → IsFaultless fresh
+    → IsApt fresh now true all_pending false 0 commands → AcceptsAll fresh now commands
+accepts_all fresh now commands good apt before body after whole =
+    accepts fresh now true commands before body after good apt whole (λ same. refl)

@@ -8,3 +8,5 @@ pub mod LiveSteps
 pub mod AcceptSteps
 pub mod PlainSteps
 pub mod PlainRows
+pub mod KeptSteps
+pub mod AckSteps

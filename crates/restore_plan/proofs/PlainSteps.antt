@@ -9,6 +9,7 @@ use Rattle.gate_model.specs.declared.object.ObjectLine.{ObjectLine}
 use Rattle.gate_model.specs.declared.downtime.Plan.{Plan as Scheduled}
 use Rattle.gate_model.specs.declared.submission.Body.{Body}
 use Rattle.gate_model.specs.declared.submission.Body.TheVariants as bodies
+use Rattle.gate_model.specs.declared.state.State.{State}
 use Rattle.gate_model.specs.declared.status.CheckResult.{CheckResult}
 use Rattle.gate_model.specs.Table.{IsFaultless, place_of, object_of, object_kind, object_at}
 use Rattle.gate_model.specs.Meaning.{LiveEntry, downtimes_at}
@@ -27,7 +28,7 @@ use Rattle.restore_plan.specs.Plan.{result_in, other_in, results_from, results_o
 use Rattle.restore_plan.specs.Scheduling.{terms_in, sent_terms, AreSchedulable}
 use Rattle.restore_plan.specs.Acceptance.{AcceptsOthers}
 use Rattle.restore_plan.proofs.TermSteps.{renewed}
-use Rattle.restore_plan.proofs.AcceptSteps.{IsKnown, IsApt, accepts_others}
+use Rattle.restore_plan.proofs.AcceptSteps.{IsKnown, HasProblem, IsApt, state_by, all_pending, accepts_others}
 
 -- ---- results
 
@@ -58,6 +59,16 @@ IsPlain fresh (bodies.DelDowntime kind id) = ⊥
 IsPlain fresh (bodies.Passive host service on) = IsKnown fresh host service
 IsPlain fresh (bodies.ScheduleServices host starts ends fixed trigger lasts author text) = ⊥
 IsPlain fresh bodies.Shutdown = ⊥
+
+-- the state in which accepted results leave the object at this place
+abbrev pub shown_at : List ObjectLine → ℕ → State → List Body → State
+shown_at fresh place state [] = state
+shown_at fresh place state (body ∷ rest) = shown_at fresh place (state_by fresh place body state) rest
+
+-- an acknowledgement is of an object with a problem, where these are the states
+abbrev pub IsAcked : List ObjectLine → (ℕ → State) → Body → Type 0
+IsAcked fresh shown (bodies.Acknowledge host service sticky notify persistent author text) = HasProblem fresh shown host service
+IsAcked fresh shown _ = Unit {0}
 
 -- what is sent is so
 abbrev pub SendsOnly : (Body → Type 0) → Fate → Type 0
@@ -128,7 +139,7 @@ result_in_good fresh kept index (bodies.Passive host service on) = tt
 result_in_good fresh kept index (bodies.ScheduleServices host starts ends fixed trigger lasts author text) = tt
 result_in_good fresh kept index bodies.Shutdown = tt
 
-all_results : (fresh : List ObjectLine) (kept : ApplierView) (first : ℕ) (records : List Record)
+pub all_results : (fresh : List ObjectLine) (kept : ApplierView) (first : ℕ) (records : List Record)
     → AllByRecursion (SendsOnly (IsPlainResult fresh)) (results_from fresh kept first records)
 all_results fresh kept first [] = tt
 all_results fresh kept first (applied ∷ records) =
@@ -220,35 +231,36 @@ all_renewals fresh kept until sent (one ∷ rest) =
       all_renewals fresh kept until (with_id sent one.scheduled.id terms) rest,
     )
 
-all_entries : (fresh : List ObjectLine) (kept : ApplierView) (left : List Renewal)
-    → AllByRecursion (λ (one : Renewal). MaySendOnly (IsPlain fresh) (entry_fate kept one)) left
-    → AllByRecursion (SendsOnly (IsPlain fresh)) (filter_map (entry_fate kept) left)
-all_entries fresh kept [] all = tt
-all_entries fresh kept (one ∷ left) all = more (entry_fate kept one) refl all.0 (all_entries fresh kept left all.1)
+all_entries : (good : Body → Type 0) (kept : ApplierView) (left : List Renewal)
+    → AllByRecursion (λ (one : Renewal). MaySendOnly good (entry_fate kept one)) left
+    → AllByRecursion (SendsOnly good) (filter_map (entry_fate kept) left)
+all_entries good kept [] all = tt
+all_entries good kept (one ∷ left) all = more (entry_fate kept one) refl all.0 (all_entries good kept left all.1)
   where
-    more : (fate : Option Fate) → entry_fate kept one ≡ fate → MaySendOnly (IsPlain fresh) fate
-        → AllByRecursion (SendsOnly (IsPlain fresh)) (filter_map (entry_fate kept) left)
-        → AllByRecursion (SendsOnly (IsPlain fresh)) (filter_map (entry_fate kept) (one ∷ left))
-    more None is good rest =
+    more : (fate : Option Fate) → entry_fate kept one ≡ fate → MaySendOnly good fate
+        → AllByRecursion (SendsOnly good) (filter_map (entry_fate kept) left)
+        → AllByRecursion (SendsOnly good) (filter_map (entry_fate kept) (one ∷ left))
+    more None is sent rest =
         let same : filter_map (entry_fate kept) (one ∷ left) ≡ filter_map (entry_fate kept) left = rw is in
-        subst (AllByRecursion (SendsOnly (IsPlain fresh))) (sym same) rest
-    more (Some fate) is good rest =
+        subst (AllByRecursion (SendsOnly good)) (sym same) rest
+    more (Some fate) is sent rest =
         let same : filter_map (entry_fate kept) (one ∷ left) ≡ fate ∷ filter_map (entry_fate kept) left = rw is in
-        subst (AllByRecursion (SendsOnly (IsPlain fresh))) (sym same) (good, rest)
+        subst (AllByRecursion (SendsOnly good)) (sym same) (sent, rest)
 
-all_others : (fresh : List ObjectLine) (kept : ApplierView) (first : ℕ) (records : List Record) (left : List Renewal)
-    → AllByRecursion (λ (one : Renewal). MaySendOnly (IsPlain fresh) (entry_fate kept one)) left
-    → AllByRecursion (SendsOnly (IsPlain fresh)) (others_from fresh kept first records left)
-all_others fresh kept first [] left all = all_entries fresh kept left all
-all_others fresh kept first (applied ∷ records) left all =
+pub all_others : (good : Body → Type 0) (fresh : List ObjectLine) (kept : ApplierView) (first : ℕ) (records : List Record) (left : List Renewal)
+    → ((index : ℕ) (body : Body) → MaySendOnly good (other_in fresh kept index body))
+    → AllByRecursion (λ (one : Renewal). MaySendOnly good (entry_fate kept one)) left
+    → AllByRecursion (SendsOnly good) (others_from fresh kept first records left)
+all_others good fresh kept first [] left each all = all_entries good kept left all
+all_others good fresh kept first (applied ∷ records) left each all =
     let taken = taken_at first left in
     let own = other_in fresh kept first applied.item.body in
     let here = filter_map (entry_fate kept) (take taken left) in
     let rest = others_from fresh kept (first + 1) records (drop taken left) in
-    each_append (SendsOnly (IsPlain fresh)) (option_to_list own ++ here) rest
-    (each_append (SendsOnly (IsPlain fresh)) (option_to_list own) here (all_of_option (IsPlain fresh) own (plain_other fresh kept first applied.item.body))
-    (all_entries fresh kept (take taken left) (all_take (λ (one : Renewal). MaySendOnly (IsPlain fresh) (entry_fate kept one)) taken left all)))
-    (all_others fresh kept (first + 1) records (drop taken left) (all_drop (λ (one : Renewal). MaySendOnly (IsPlain fresh) (entry_fate kept one)) taken left all))
+    each_append (SendsOnly good) (option_to_list own ++ here) rest
+    (each_append (SendsOnly good) (option_to_list own) here (all_of_option good own (each first applied.item.body))
+    (all_entries good kept (take taken left) (all_take (λ (one : Renewal). MaySendOnly good (entry_fate kept one)) taken left all)))
+    (all_others good fresh kept (first + 1) records (drop taken left) each (all_drop (λ (one : Renewal). MaySendOnly good (entry_fate kept one)) taken left all))
 
 -- ---- all commands
 
@@ -263,66 +275,82 @@ terms_of_sent (Sent body ∷ fates) = more (terms_in body) refl (terms_of_sent f
     more None is same = rw is same
     more (Some terms) is same = rw is (ap (λ rest. terms ∷ rest) same)
 
-apt_others : (fresh : List ObjectLine) (now : Moment) (others : Bool) (count : ℕ) (commands : List Body)
-    → AllByRecursion (IsPlain fresh) commands → AreSchedulable now count (filter_map terms_in commands)
-    → IsApt fresh now others count commands
+apt_others : (fresh : List ObjectLine) (now : Moment) (sure : Bool) (shown : ℕ → State) (others : Bool) (count : ℕ) (commands : List Body)
+    → AllByRecursion (IsPlain fresh) commands → (sure ≡ true → AllByRecursion (IsAcked fresh shown) commands)
+    → AreSchedulable now count (filter_map terms_in commands) → IsApt fresh now sure shown others count commands
 unfolding IsPlain IsApt
-apt_others fresh now others count [] all good = tt
-apt_others fresh now others count (bodies.Result host service code output ∷ rest) all good = absurd all.0
-apt_others fresh now others count (bodies.AddComment host service persistent author text ∷ rest) all good =
-    (all.0, apt_others fresh now true count rest all.1 good)
-apt_others fresh now others count (bodies.DelComment kind id ∷ rest) all good = absurd all.0
-apt_others fresh now others count (bodies.DelAllComments host service ∷ rest) all good = absurd all.0
-apt_others fresh now others count (bodies.Acknowledge host service sticky notify persistent author text ∷ rest) all good =
-    apt_others fresh now true count rest all.1 good
-apt_others fresh now others count (bodies.RemoveAck host service ∷ rest) all good = absurd all.0
-apt_others fresh now others count (bodies.Schedule host service starts ends fixed trigger lasts author text ∷ rest) all good =
-    (all.0, good.0, good.1, apt_others fresh now true (count + 1) rest all.1 good.2)
-apt_others fresh now others count (bodies.DelDowntime kind id ∷ rest) all good = absurd all.0
-apt_others fresh now others count (bodies.Passive host service on ∷ rest) all good =
-    (all.0, apt_others fresh now true count rest all.1 good)
-apt_others fresh now others count (bodies.ScheduleServices host starts ends fixed trigger lasts author text ∷ rest) all good = absurd all.0
-apt_others fresh now others count (bodies.Shutdown ∷ rest) all good = absurd all.0
+apt_others fresh now sure shown others count [] all acked good = tt
+apt_others fresh now sure shown others count (bodies.Result host service code output ∷ rest) all acked good = absurd all.0
+apt_others fresh now sure shown others count (bodies.AddComment host service persistent author text ∷ rest) all acked good =
+    (all.0, apt_others fresh now sure shown true count rest all.1 (λ is. (acked is).1) good)
+apt_others fresh now sure shown others count (bodies.DelComment kind id ∷ rest) all acked good = absurd all.0
+apt_others fresh now sure shown others count (bodies.DelAllComments host service ∷ rest) all acked good = absurd all.0
+apt_others fresh now sure shown others count (bodies.Acknowledge host service sticky notify persistent author text ∷ rest) all acked good =
+    ((λ is. (acked is).0), apt_others fresh now sure shown true count rest all.1 (λ is. (acked is).1) good)
+apt_others fresh now sure shown others count (bodies.RemoveAck host service ∷ rest) all acked good = absurd all.0
+apt_others fresh now sure shown others count (bodies.Schedule host service starts ends fixed trigger lasts author text ∷ rest) all acked good =
+    (all.0, good.0, good.1, apt_others fresh now sure shown true (count + 1) rest all.1 (λ is. (acked is).1) good.2)
+apt_others fresh now sure shown others count (bodies.DelDowntime kind id ∷ rest) all acked good = absurd all.0
+apt_others fresh now sure shown others count (bodies.Passive host service on ∷ rest) all acked good =
+    (all.0, apt_others fresh now sure shown true count rest all.1 (λ is. (acked is).1) good)
+apt_others fresh now sure shown others count (bodies.ScheduleServices host starts ends fixed trigger lasts author text ∷ rest) all acked good =
+    absurd all.0
+apt_others fresh now sure shown others count (bodies.Shutdown ∷ rest) all acked good = absurd all.0
 
-apt_results : (fresh : List ObjectLine) (now : Moment) (results others : List Body) → AllByRecursion (IsPlainResult fresh) results
-    → IsApt fresh now false 0 others → IsApt fresh now false 0 (results ++ others)
+apt_results : (fresh : List ObjectLine) (now : Moment) (sure : Bool) (shown : ℕ → State) (results others : List Body)
+    → AllByRecursion (IsPlainResult fresh) results
+    → IsApt fresh now sure (λ place. shown_at fresh place (shown place) results) false 0 others
+    → IsApt fresh now sure shown false 0 (results ++ others)
 unfolding IsPlainResult IsApt
-apt_results fresh now [] others all apt = apt
-apt_results fresh now (bodies.Result host service code output ∷ rest) others all apt =
-    (refl, all.0, apt_results fresh now rest others all.1 apt)
-apt_results fresh now (bodies.AddComment host service persistent author text ∷ rest) others all apt = absurd all.0
-apt_results fresh now (bodies.DelComment kind id ∷ rest) others all apt = absurd all.0
-apt_results fresh now (bodies.DelAllComments host service ∷ rest) others all apt = absurd all.0
-apt_results fresh now (bodies.Acknowledge host service sticky notify persistent author text ∷ rest) others all apt = absurd all.0
-apt_results fresh now (bodies.RemoveAck host service ∷ rest) others all apt = absurd all.0
-apt_results fresh now (bodies.Schedule host service starts ends fixed trigger lasts author text ∷ rest) others all apt = absurd all.0
-apt_results fresh now (bodies.DelDowntime kind id ∷ rest) others all apt = absurd all.0
-apt_results fresh now (bodies.Passive host service on ∷ rest) others all apt = absurd all.0
-apt_results fresh now (bodies.ScheduleServices host starts ends fixed trigger lasts author text ∷ rest) others all apt = absurd all.0
-apt_results fresh now (bodies.Shutdown ∷ rest) others all apt = absurd all.0
+apt_results fresh now sure shown [] others all apt = apt
+apt_results fresh now sure shown (bodies.Result host service code output ∷ rest) others all apt = (
+  refl,
+  all.0,
+  apt_results fresh now sure (λ place. state_by fresh place (bodies.Result host service code output) (shown place)) rest others all.1 apt,
+)
+apt_results fresh now sure shown (bodies.AddComment host service persistent author text ∷ rest) others all apt = absurd all.0
+apt_results fresh now sure shown (bodies.DelComment kind id ∷ rest) others all apt = absurd all.0
+apt_results fresh now sure shown (bodies.DelAllComments host service ∷ rest) others all apt = absurd all.0
+apt_results fresh now sure shown (bodies.Acknowledge host service sticky notify persistent author text ∷ rest) others all apt = absurd all.0
+apt_results fresh now sure shown (bodies.RemoveAck host service ∷ rest) others all apt = absurd all.0
+apt_results fresh now sure shown (bodies.Schedule host service starts ends fixed trigger lasts author text ∷ rest) others all apt = absurd all.0
+apt_results fresh now sure shown (bodies.DelDowntime kind id ∷ rest) others all apt = absurd all.0
+apt_results fresh now sure shown (bodies.Passive host service on ∷ rest) others all apt = absurd all.0
+apt_results fresh now sure shown (bodies.ScheduleServices host starts ends fixed trigger lasts author text ∷ rest) others all apt = absurd all.0
+apt_results fresh now sure shown (bodies.Shutdown ∷ rest) others all apt = absurd all.0
+
+-- the states in which the results of a plan leave the objects
+abbrev pub shown_by : List ObjectLine → Plan → ℕ → State
+shown_by fresh plan place = shown_at fresh place (all_pending place) (filter_map sent_of plan.results.items)
 
 -- a plan of such fates
+pub plan_apt : (fresh : List ObjectLine) (until : Moment) (sure : Bool) (plan : Plan)
+    → AllByRecursion (SendsOnly (IsPlainResult fresh)) plan.results.items
+    → AllByRecursion (SendsOnly (IsPlain fresh)) plan.others.items
+    → (sure ≡ true → AllByRecursion (SendsOnly (IsAcked fresh (shown_by fresh plan))) plan.others.items)
+    → AreSchedulable until 0 (filter_map sent_terms plan.others.items)
+    → IsApt fresh until sure all_pending false 0 (commands_of plan)
+plan_apt fresh until sure plan results others acked schedulable =
+    let first = filter_map sent_of plan.results.items in
+    let second = filter_map sent_of plan.others.items in
+    let shown = shown_by fresh plan in
+    apt_results fresh until sure all_pending first second (all_bodies (IsPlainResult fresh) plan.results.items results) (
+    apt_others fresh until sure shown false 0 second (all_bodies (IsPlain fresh) plan.others.items others)
+    (λ is. all_bodies (IsAcked fresh shown) plan.others.items (acked is))
+    (subst (AreSchedulable until 0) (sym (terms_of_sent plan.others.items)) schedulable)
+    )
+
 pub plan_accepted : (fresh : List ObjectLine) (until : Moment) (plan : Plan) → IsFaultless fresh
     → AllByRecursion (SendsOnly (IsPlainResult fresh)) plan.results.items
     → AllByRecursion (SendsOnly (IsPlain fresh)) plan.others.items
     → AreSchedulable until 0 (filter_map sent_terms plan.others.items) → AcceptsOthers fresh until (commands_of plan)
 plan_accepted fresh until plan good results others schedulable =
-    let first = filter_map sent_of plan.results.items in
-    let second = filter_map sent_of plan.others.items in
-    let apt : IsApt fresh until false 0 second =
-    apt_others fresh until false 0 second (all_bodies (IsPlain fresh) plan.others.items others)
-    (subst (AreSchedulable until 0) (sym (terms_of_sent plan.others.items)) schedulable) in
-    accepts_others fresh until (first ++ second) good
-    (apt_results fresh until first second (all_bodies (IsPlainResult fresh) plan.results.items results) apt)
+    accepts_others fresh until (commands_of plan) good
+    (plan_apt fresh until false plan results others (λ same. absurd cc) schedulable)
 
-pub log_accepted : (fresh : List ObjectLine) (kept : ApplierView) (until : Moment) (plan : Plan) → IsFaultless fresh
-    → plan.results.items ≡ results_of fresh kept → plan.others.items ≡ others_of fresh kept until
-    → AreSchedulable until 0 (filter_map sent_terms plan.others.items) → AcceptsOthers fresh until (commands_of plan)
-log_accepted fresh kept until plan good results others schedulable =
-    plan_accepted fresh until plan good
-    (subst (AllByRecursion (SendsOnly (IsPlainResult fresh))) (sym results) (all_results fresh kept 0 kept.records))
-    (subst (AllByRecursion (SendsOnly (IsPlain fresh))) (sym others) (
-    all_others fresh kept 0 kept.records (renewals_of fresh kept until)
+-- what is sent of a log, but for acknowledgements
+pub log_plain : (fresh : List ObjectLine) (kept : ApplierView) (until : Moment)
+    → AllByRecursion (SendsOnly (IsPlain fresh)) (others_of fresh kept until)
+log_plain fresh kept until =
+    all_others (IsPlain fresh) fresh kept 0 kept.records (renewals_of fresh kept until) (plain_other fresh kept)
     (all_renewals fresh kept until [] (downtimes_at kept.table kept.records kept.moment))
-    ))
-    schedulable

@@ -1,4 +1,4 @@
--- What a gateway makes of commands that it applies all at one moment, one after another: `AcceptsOthers`.
+-- What a gateway makes of commands that it applies all at one moment, one after another: `AcceptsAll`, `AcceptsOthers`.
 use Rattle.std.specs.Prelude.{◌≡◌, Bool, true, false, List, ◌∷◌, ◌++◌}
 use Rattle.gate_model.specs.declared.record.Moment.{Moment}
 use Rattle.gate_model.specs.declared.object.ObjectLine.{ObjectLine}
@@ -16,7 +16,13 @@ is_acknowledgement _ = false
 abbrev pub accepts_after : List ObjectLine → Moment → List Body → Body → Bool
 accepts_after fresh now before body = is_accepted (outcome_after fresh (records_from now 1 before) now body)
 
--- it accepts each of these commands after those before it, but maybe acknowledgements
+-- it accepts each of these commands after those before it
+abbrev pub AcceptsAll : List ObjectLine → Moment → List Body → Type 0
+AcceptsAll fresh now commands =
+    (before : List Body) (body : Body) (after : List Body) → commands ≡ before ++ body ∷ after
+    → accepts_after fresh now before body ≡ true
+
+-- the same, but maybe of acknowledgements
 abbrev pub AcceptsOthers : List ObjectLine → Moment → List Body → Type 0
 AcceptsOthers fresh now commands =
     (before : List Body) (body : Body) (after : List Body) → commands ≡ before ++ body ∷ after

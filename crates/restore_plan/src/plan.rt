@@ -3,7 +3,7 @@
 ghost use Rattle.std.specs.Prelude.{◌≡◌, ◌≤◌, ◌++◌, length, take, drop, filter_map, IfOk, OnOk};
 ghost use Rattle.std.specs.Option.{option_to_list};
 ghost use Rattle.gate_model.specs.Table.{IsFaultless};
-ghost use Rattle.restore_plan.specs.Acceptance.{AcceptsOthers};
+ghost use Rattle.restore_plan.specs.Acceptance.{AcceptsAll};
 ghost use Rattle.restore_plan.specs.Entries.{renewals_of, entry_fate};
 ghost use Rattle.restore_plan.specs.Scheduling.{sent_terms, AreSchedulable};
 ghost use Rattle.restore_plan.specs.Plan.{result_in, other_in, results_from, taken_at, others_from, results_of, others_of, sent_of, commands_of};
@@ -213,9 +213,9 @@ pub fn plan_of(
     ensures schedulable { IfOk result (λ plan.
         AreSchedulable until 0 (filter_map sent_terms plan.others.items)) }
 
-    // At that moment, and one after another, none of it is refused but maybe an acknowledgement.
+    // At that moment, and one after another, none of it is refused.
     ensures accepted { IfOk result (λ plan. IsFaultless fresh.now
-        → AcceptsOthers fresh.now until (commands_of plan)) }
+        → AcceptsAll fresh.now until (commands_of plan)) }
 {
     let renewals = renewals_of(alloc, fresh, kept, until)?;
     let records = kept.records();

@@ -9,6 +9,8 @@ mod keeping;
 #[cfg(test)]
 mod lines;
 #[cfg(test)]
+mod logs;
+#[cfg(test)]
 mod reports;
 #[cfg(test)]
 mod restoring;

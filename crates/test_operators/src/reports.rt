@@ -42,6 +42,7 @@ fn figures(alloc: Global) -> Option<Figures> {
         gateway: "",
         moment: page.moment,
         since: page.moment,
+        host_is_out: false,
         row,
     }]))
 }

@@ -2,7 +2,7 @@ use Rattle.std.proofs.Common.{rules, ◌≡◌}
 use Rattle.restore_plan.specs.declared.plan.Plan.{Plan}
 use Rattle.restore_plan.specs.Plan.{results_of, others_of}
 use Rattle.restore_plan.proofs.LogSteps.{of_log}
-use Rattle.restore_plan.proofs.PlainSteps.{log_accepted}
+use Rattle.restore_plan.proofs.AckSteps.{log_accepted}
 use Rattle.restore_plan.proofs.plan.plan_of.Goals as goal
 
 pub returns-clause-accepted : goal.returns-clause-accepted

@@ -1,0 +1,4 @@
+pub mod CountSteps
+pub mod GroupSteps
+pub mod HostSteps
+pub mod LastSteps

@@ -1,0 +1,82 @@
+-- What the status 0 of `restore` means: `AreSent` and `IsRestored`, where a gateway shows some texts, and some results and
+-- some other commands were sent to it. Own rule.
+use Rattle.std.specs.Prelude.{◌≡◌, ◌⊎◌, ℕ, Bool, List, map}
+use Rattle.gate_model.specs.declared.object.ObjectLine.{ObjectLine}
+use Rattle.gate_model.specs.declared.record.Moment.{Moment}
+use Rattle.gate_model.specs.declared.submission.Body.{Body}
+use Rattle.gate_grammar.specs.declared.commands.Command.{Command}
+use Rattle.status_reading.specs.declared.page.StatusPage.{StatusPage}
+use Rattle.restore_plan.specs.Changed.{fates_on}
+use Rattle.operator_effects.specs.declared.watching.Next.{Next}
+use Rattle.operator_effects.specs.declared.watching.Next.TheVariants.{Page, Gone, Over}
+use Rattle.operator_ports.specs.Commands.{entered_at}
+use Rattle.operator_restore.specs.declared.prospect.Prospect.{Prospect}
+use Rattle.operator_restore.specs.Naming.{left_count}
+use Rattle.operator_restore.specs.Prospect.{sent_by, IsTextOf, IsLogProspect, IsPageProspect}
+use Rattle.operator_restore.specs.Back.{IsBackOn}
+
+-- what is read next is a text that the gateway shows, where it is a page
+abbrev pub IsShown : (List ℕ → Type 0) → Next → Type 0
+IsShown shows (Page text) = shows text.items
+IsShown shows Gone = Unit {0}
+IsShown shows Over = Unit {0}
+
+-- the gateway shows a page on which each row of this text is again, but where an object has a newer result
+pub record IsShownBack (shows : List ℕ → Type 0) (kept : List ℕ) : Type 0 where
+  pub page : StatusPage
+  pub is_page : IsTextOf kept page
+  pub text : List ℕ
+  pub shown : shows text
+  pub back : IsBackOn page text
+
+-- ---- what is planned
+
+-- this is what is sent of some log
+pub record IsOfLog (prospect : Prospect) : Type 0 where
+  pub fresh : List ObjectLine
+  pub configured : List ObjectLine
+  pub page : List ℕ
+  pub log : List ℕ
+  pub now : Moment
+  pub planned : IsLogProspect fresh configured page log now prospect
+
+-- of some page
+pub record IsOfPage (prospect : Prospect) : Type 0 where
+  pub fresh : List ObjectLine
+  pub text : List ℕ
+  pub old : Bool
+  pub now : Moment
+  pub planned : IsPageProspect fresh text old now prospect
+
+-- this is what is sent of some log or some page
+unfoldable pub IsPlanned : Prospect → Type 0
+IsPlanned prospect = IsOfLog prospect ⊎ IsOfPage prospect
+
+-- ---- what is sent
+
+-- the results of a plan were sent
+pub record AreSent (results : List Body → Type 0) : Type 0 where
+  pub prospect : Prospect
+  pub planned : IsPlanned prospect
+  pub sent : results prospect.results.items
+
+-- of these commands those were sent, entered at this moment, that a gateway over these objects is sent once it shows some
+-- page, where this one was foreseen; so many are left out
+pub record IsSentOn (shows : List ℕ → Type 0) (others : List Command → Type 0) (table : List ObjectLine) (entered : Moment) (foreseen : List ℕ) (commands : List Body) (left : ℕ)
+    : Type 0 where
+  pub page : StatusPage
+  pub is_page : IsTextOf foreseen page
+  pub text : List ℕ
+  pub shown : shows text
+  pub shown_page : StatusPage
+  pub is_shown : IsTextOf text shown_page
+  pub sent : others (map (entered_at entered) (sent_by (fates_on table page shown_page commands)))
+  pub count : left ≡ left_count (fates_on table page shown_page commands)
+
+-- nothing was to be named of what was kept, nothing else is left out, and the gateway shows each row of it again
+pub record IsRestored (shows : List ℕ → Type 0) (others : List Command → Type 0) (table : List ObjectLine) (entered : Moment) : Type 0 where
+  pub prospect : Prospect
+  pub planned : IsPlanned prospect
+  pub none_named : prospect.named ≡ 0
+  pub sent : IsSentOn shows others table entered prospect.shown.items prospect.others.items 0
+  pub back : IsShownBack shows prospect.kept.items

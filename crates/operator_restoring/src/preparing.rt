@@ -1,0 +1,132 @@
+//! What restoring sends, of the files that were kept.
+
+ghost use Rattle.std.specs.Prelude.{IfOk};
+ghost use Rattle.operator_restoring.specs.Restored.{IsPlanned};
+
+use crate::restore_fault::RestoreFault;
+use gate_model::{Moment, ObjectTable};
+use kept_files::{is_newer, read_file};
+use operator_commands::Options;
+use operator_restore::{Prospect, Tables, look_ahead, look_ahead_by_page};
+use operator_setup::{configuration, now};
+use std::alloc::Global;
+use std::fs::Files;
+use std::time::Clock;
+
+/// The paths of what was kept, and whether a page without a log may be old.
+#[derive(Clone, Copy)]
+pub struct KeptFiles<'a> {
+    pub page: &'a str,
+    pub log: Option<&'a str>,
+    pub old: bool,
+}
+
+// The objects of the configuration, which was read before.
+fn tables_of<F: Files>(
+    files: &F,
+    alloc: Global,
+    options: &Options,
+) -> Result<Tables, RestoreFault> {
+    let read = configuration(files, alloc, options);
+    match (read, configuration(files, alloc, options)) {
+        (Ok(fresh), Ok(of_log)) => Ok(Tables {
+            fresh: fresh.table,
+            of_log: of_log.table,
+        }),
+        _ => Err(RestoreFault::Unreadable),
+    }
+}
+
+// The kept log: that of the words, or else the one that `stop` kept beside the page, unless the page
+// is newer.
+fn log_text<F: Files>(
+    files: &F,
+    alloc: Global,
+    kept: KeptFiles<'_>,
+) -> Result<Option<Vec<u8>>, RestoreFault> {
+    if let Some(path) = kept.log {
+        return match read_file(files, alloc, path) {
+            Ok(text) => Ok(Some(text)),
+            Err(_) => Err(RestoreFault::Unreadable),
+        };
+    }
+    let page = kept.page;
+    let beside = format!(in alloc; "{page}.log")?;
+    if is_newer(files, page, beside.as_str()).unwrap_or(false) {
+        return Ok(None);
+    }
+    Ok(read_file(files, alloc, beside.as_str()).ok())
+}
+
+fn by_log(
+    alloc: Global,
+    tables: Tables,
+    page: &[u8],
+    printed: &[u8],
+    now: Moment,
+) -> Result<Prospect, RestoreFault>
+    ensures { IfOk result IsPlanned }
+{
+    let prospect = look_ahead(alloc, tables, page, printed, now)?;
+    Ok(prospect)
+}
+
+fn by_page(
+    alloc: Global,
+    fresh: ObjectTable,
+    text: &[u8],
+    old: bool,
+    now: Moment,
+) -> Result<Prospect, RestoreFault>
+    ensures { IfOk result IsPlanned }
+{
+    let prospect = look_ahead_by_page(alloc, fresh, text, old, now)?;
+    Ok(prospect)
+}
+
+/// What restoring would send.
+pub fn prospect_of<F: Files>(
+    files: &F,
+    alloc: Global,
+    options: &Options,
+    kept: KeptFiles<'_>,
+    now: Moment,
+) -> Result<Prospect, RestoreFault>
+    ensures { IfOk result IsPlanned }
+{
+    let tables = tables_of(files, alloc, options)?;
+    let text = read_file(files, alloc, kept.page);
+    match (log_text(files, alloc, kept)?, text) {
+        (Some(printed), Ok(text)) => {
+            by_log(alloc, tables, text.as_slice(), printed.as_slice(), now)
+        }
+        (Some(printed), Err(_)) => by_log(alloc, tables, b"", printed.as_slice(), now),
+        (None, Ok(text)) => by_page(alloc, tables.fresh, text.as_slice(), kept.old, now),
+        (None, Err(_)) => Err(RestoreFault::Unreadable),
+    }
+}
+
+/// What is sent after the results, planned anew where the time is over by which it was to be sent.
+/// Appends the lines of what is named then.
+pub fn in_time<R: Clock + Files>(
+    rt: &R,
+    alloc: Global,
+    options: &Options,
+    kept: KeptFiles<'_>,
+    prospect: Prospect,
+    lines: &mut Vec<u8>,
+) -> Result<Prospect, RestoreFault>
+    ensures { IfOk result (λ found. IsPlanned prospect → IsPlanned found) }
+{
+    let Ok(now) = now(rt) else {
+        return Err(RestoreFault::NoClock);
+    };
+    if now.0 < prospect.until.0 {
+        return Ok(prospect);
+    }
+    let anew = prospect_of(rt, alloc, options, kept, now)?;
+    if anew.named > prospect.named {
+        lines.extend_from_slice(anew.lines.as_slice())?;
+    }
+    Ok(anew)
+}

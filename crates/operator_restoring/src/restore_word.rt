@@ -1,0 +1,246 @@
+//! The word `restore`: its files, its addresses, and what it prints.
+
+ghost use Rattle.std.specs.Prelude.{◌≡◌, ◌≤◌, ◌⊎◌, true, IfOk};
+ghost use Rattle.operator_restoring.specs.Restored.{IsPlanned, AreSent, IsRestored};
+
+use crate::gateway::Gateway;
+use crate::live::{LiveGateway, Target};
+use crate::preparing::{KeptFiles, in_time, prospect_of};
+use crate::restore_fault::RestoreFault;
+use crate::sending::{lines_of, send_others};
+use gate_config::Config;
+use gate_model::{Moment, ObjectTable, Text};
+use gate_reader::Sink;
+use operator_commands::{Options, Task};
+use operator_restore::Prospect;
+use operator_setup::{
+    ControlFault, address_or, configuration, now, path_in, path_of, places_for, print,
+};
+use std::alloc::Global;
+use std::fs;
+use std::fs::Files;
+use std::net::{Net, TcpListener, TcpStream};
+use std::time::Clock;
+
+/// What is restored.
+#[derive(Drop)]
+pub struct Order<'a> {
+    pub options: &'a Options,
+    pub kept: KeptFiles<'a>,
+    /// The objects of the gateway.
+    pub table: &'a ObjectTable,
+    /// When the commands were entered.
+    pub entered: Moment,
+    /// Whether they are printed alone.
+    pub dry_run: bool,
+}
+
+// Sends all, and compares. Appends the lines of what is missing, and returns how much is named in all.
+fn carry_out<F: Files + Clock, G: Gateway>(
+    rt: &F,
+    alloc: Global,
+    order: &Order<'_>,
+    gateway: &mut G,
+    prospect: Prospect,
+    lines: &mut Vec<u8>,
+) -> Result<usize, RestoreFault>
+    ensures { IfOk result (λ count. IsPlanned prospect → count ≡ 0 → AreSent G.has_results
+        × IsRestored G.shows G.has_others order.now.table.now order.now.entered) }
+{
+    gateway.send_results(alloc, prospect.results.as_slice())?;
+    let prospect = in_time(rt, alloc, order.options, order.kept, prospect, lines)?;
+    let count = send_others(alloc, gateway, order.table, order.entered, prospect, lines)?;
+    Ok(count)
+}
+
+// What a log says is restored once: after a crash the page is newer than it.
+fn put_aside<F: Files>(files: &F, alloc: Global, page: &str) -> Result<(), ControlFault> {
+    let from = format!(in alloc; "{page}.log")?;
+    let to = format!(in alloc; "{page}.log.restored")?;
+    let _missing = fs::rename(files, from.as_str(), to.as_str());
+    Ok(())
+}
+
+// Prints why restoring ended early, and returns the exit status.
+fn report<E: Sink>(alloc: Global, fault: RestoreFault, errors: &mut E) -> Result<u8, ControlFault>
+    ensures { IfOk result (λ status. 2 ≤ status) }
+{
+    let text = format!(in alloc; "nscagatectl: {fault}\n")?;
+    print(errors, text.as_bytes())?;
+    Ok(fault.status())
+}
+
+// Prints what would be sent, and returns the exit status.
+fn print_lines<W: Sink>(
+    alloc: Global,
+    prospect: Prospect,
+    entered: Moment,
+    output: &mut W,
+) -> Result<u8, ControlFault> {
+    let status = if prospect.named == 0 { 0 } else { 1 };
+    let lines = lines_of(alloc, prospect, entered)?;
+    print(output, lines.as_slice())?;
+    Ok(status)
+}
+
+// Prints that all is restored, where nothing is named, and returns the exit status.
+fn finish<F: Files, W: Sink>(
+    files: &F,
+    alloc: Global,
+    page: &str,
+    count: usize,
+    output: &mut W,
+) -> Result<u8, ControlFault>
+    ensures { IfOk result (λ status. status ≡ 0 → count ≡ 0) }
+{
+    if count > 0 {
+        return Ok(1);
+    }
+    put_aside(files, alloc, page)?;
+    print(output, b"restored: each row is shown again\n")?;
+    Ok(0)
+}
+
+// Sends all, prints what is missing, and returns the exit status.
+fn send_all<F: Files + Clock, G: Gateway, W: Sink, E: Sink>(
+    rt: &F,
+    alloc: Global,
+    order: &Order<'_>,
+    gateway: &mut G,
+    prospect: Prospect,
+    output: &mut W,
+    errors: &mut E,
+) -> Result<u8, ControlFault>
+    ensures { IfOk result (λ status. IsPlanned prospect → status ≡ 0 → AreSent G.has_results
+        × IsRestored G.shows G.has_others order.now.table.now order.now.entered) }
+{
+    print(output, prospect.source.as_slice())?;
+    let mut lines = Vec::new(alloc);
+    let ended = carry_out(rt, alloc, order, gateway, prospect, &mut lines);
+    print(errors, lines.as_slice())?;
+    match ended {
+        Ok(count) => {
+            let status = finish(rt, alloc, order.kept.page, count, output)?;
+            Ok(status)
+        }
+        Err(fault) => {
+            let reported = report(alloc, fault, errors)?;
+            Ok(reported)
+        }
+    }
+}
+
+// Prints what is named, and sends all, unless it is a dry run; returns the exit status.
+fn restore_by<F: Files + Clock, G: Gateway, W: Sink, E: Sink>(
+    rt: &F,
+    alloc: Global,
+    order: &Order<'_>,
+    gateway: &mut G,
+    prospect: Prospect,
+    output: &mut W,
+    errors: &mut E,
+) -> Result<u8, ControlFault>
+    ensures { IfOk result (λ status. IsPlanned prospect → status ≡ 0
+        → (order.now.dry_run ≡ true) ⊎ (AreSent G.has_results
+        × IsRestored G.shows G.has_others order.now.table.now order.now.entered)) }
+{
+    print(errors, prospect.lines.as_slice())?;
+    let dry_run = order.dry_run;
+    if dry_run {
+        let printed = print_lines(alloc, prospect, order.entered, output)?;
+        return Ok(printed);
+    }
+    let status = send_all(rt, alloc, order, gateway, prospect, output, errors)?;
+    Ok(status)
+}
+
+/// Brings a fresh gateway to what a kept status page and a kept log page show, and names what isn't
+/// shown again. Returns the exit status: 0 where each row is shown again, or a newer result of its
+/// object.
+pub fn restore_to<F: Files + Clock, G: Gateway, W: Sink, E: Sink>(
+    rt: &F,
+    alloc: Global,
+    order: &Order<'_>,
+    gateway: &mut G,
+    output: &mut W,
+    errors: &mut E,
+) -> Result<u8, ControlFault>
+    ensures { IfOk result (λ status. status ≡ 0
+        → (order.now.dry_run ≡ true) ⊎ (AreSent G.has_results
+        × IsRestored G.shows G.has_others order.now.table.now order.now.entered)) }
+{
+    match prospect_of(rt, alloc, order.options, order.kept, order.entered) {
+        Ok(prospect) => {
+            let status = restore_by(rt, alloc, order, gateway, prospect, output, errors)?;
+            Ok(status)
+        }
+        Err(fault) => {
+            let reported = report(alloc, fault, errors)?;
+            Ok(reported)
+        }
+    }
+}
+
+// Where the gateway of a configuration is.
+fn target_of<'a, F: Files>(
+    files: &F,
+    alloc: Global,
+    options: &Options,
+    agents: &Option<Text>,
+    pid: &'a Option<Text>,
+    config: &'a Config,
+) -> Result<Target<'a>, ControlFault> {
+    let (places, pid) = (places_for(files, alloc, options)?, path_of(pid)?);
+    Ok(Target {
+        agents: address_or(agents, config.agents.socket)?,
+        places,
+        workers: config.workers,
+        items: config.limits.items,
+        table: &config.table,
+        pid,
+    })
+}
+
+/// Restores to the gateway that the words name. Returns the exit status. The task is `Restore`.
+pub fn restore<
+    R: Net<Listener = TcpListener, Stream = TcpStream> + Clock + Files,
+    W: Sink,
+    E: Sink,
+>(
+    rt: &R,
+    alloc: Global,
+    options: &Options,
+    task: &Task,
+    output: &mut W,
+    errors: &mut E,
+) -> Result<u8, ControlFault> {
+    let Task::Restore {
+        page,
+        log,
+        agents,
+        old,
+        dry_run,
+        pid,
+    } = task
+    else {
+        return Err(ControlFault::BadWords);
+    };
+    let kept = KeptFiles {
+        page: path_in(page)?,
+        log: path_of(log)?,
+        old: *old,
+    };
+    let config = configuration(rt, alloc, options)?;
+    let order = Order {
+        options,
+        kept,
+        table: &config.table,
+        entered: now(rt)?,
+        dry_run: *dry_run,
+    };
+    let target = target_of(rt, alloc, options, agents, pid, &config)?;
+    match LiveGateway::new(rt, target) {
+        Ok(mut gateway) => restore_to(rt, alloc, &order, &mut gateway, output, errors),
+        Err(fault) => report(alloc, fault, errors),
+    }
+}

@@ -1,0 +1,142 @@
+//! What is sent to a gateway, and what it shows then.
+
+ghost use Rattle.std.specs.Prelude.{◌≡◌, IfOk};
+ghost use Rattle.operator_restoring.specs.Restored.{IsPlanned, IsSentOn, IsRestored};
+
+use crate::gateway::Gateway;
+use crate::missing::compare_pages;
+use crate::restore_fault::RestoreFault;
+use gate_grammar::{Command, writable, write_body, write_line};
+use gate_model::{Body, Moment, ObjectTable, push_escaped};
+use operator_effects::Next;
+use operator_ports::entered_at;
+use operator_restore::{Prospect, left_count, pending_on, push_left, sent_by};
+use restore_plan::fates_on;
+use status_reading::{StatusPage, read_status_page};
+use std::alloc::{AllocError, Global};
+
+// ---- commands
+
+// Appends the line of a command, where one can hold it, and otherwise its text with escapes: a packet
+// holds an LF.
+fn push_line(alloc: Global, out: &mut Vec<u8>, command: &Command) -> Result<(), AllocError> {
+    if writable(command) {
+        out.extend_from_slice(write_line(alloc, command)?.as_slice())?;
+    } else {
+        push_escaped(out, write_body(alloc, &command.body)?.as_slice())?;
+    }
+    out.extend_from_slice(b"\n")
+}
+
+fn push_lines(
+    alloc: Global,
+    out: &mut Vec<u8>,
+    entered: Moment,
+    bodies: Vec<Body>,
+) -> Result<(), AllocError> {
+    for command in &entered_at(alloc, entered, bodies)? {
+        push_line(alloc, out, command)?;
+    }
+    Ok(())
+}
+
+/// The lines of all that is sent.
+pub fn lines_of(alloc: Global, prospect: Prospect, entered: Moment) -> Result<Vec<u8>, AllocError> {
+    let Prospect {
+        results,
+        others,
+        ..
+    } = prospect;
+    let mut lines = Vec::new(alloc);
+    push_lines(alloc, &mut lines, entered, results)?;
+    push_lines(alloc, &mut lines, entered, others)?;
+    Ok(lines)
+}
+
+// ---- what is no result
+
+// The page that shows results where the foreseen one does, or the last one within the time.
+fn await_results<G: Gateway>(
+    alloc: Global,
+    gateway: &mut G,
+    foreseen: &StatusPage<'_>,
+) -> Result<Vec<u8>, RestoreFault>
+    ensures { IfOk result (λ text. G.shows text.items) }
+{
+    gateway.begin()?;
+    let mut last = None;
+    for _turn in 0..u64::MAX {
+        match gateway.next(alloc) {
+            Next::Page(text) => {
+                let pending = pending_on(&read_status_page(alloc, text.as_slice())?);
+                if pending <= pending_on(foreseen) {
+                    return Ok(text);
+                }
+                last = Some(text);
+            }
+            Next::Gone => {}
+            Next::Over => break,
+        }
+    }
+    last.ok_or(RestoreFault::NoPage)
+}
+
+// Sends what is no result to a gateway over these objects that shows the results, but for what its
+// page leaves no place for: appends the lines that name that, and returns how much it is.
+fn send_on<G: Gateway>(
+    alloc: Global,
+    gateway: &mut G,
+    table: &ObjectTable,
+    entered: Moment,
+    shown: &[u8],
+    others: Vec<Body>,
+    lines: &mut Vec<u8>,
+) -> Result<usize, RestoreFault>
+    ensures { IfOk result (IsSentOn G.shows G.has_others table.now entered shown.now others.items) }
+{
+    let will_show = read_status_page(alloc, shown)?;
+    let text = await_results(alloc, gateway, &will_show)?;
+    let shows = read_status_page(alloc, text.as_slice())?;
+    let fates = fates_on(alloc, table, &will_show, &shows, others)?;
+    push_left(alloc, lines, fates.as_slice())?;
+    let left = left_count(fates.as_slice());
+    let bodies = sent_by(alloc, fates)?;
+    let commands = entered_at(alloc, entered, bodies)?;
+    gateway.send_others(alloc, commands.as_slice(), lines)?;
+    Ok(left)
+}
+
+/// Sends what is no result to a gateway over these objects that shows the results, and compares what
+/// it shows then with what was kept. Appends the lines that name what is left out or missing now, and
+/// returns how much is named in all.
+pub fn send_others<G: Gateway>(
+    alloc: Global,
+    gateway: &mut G,
+    table: &ObjectTable,
+    entered: Moment,
+    prospect: Prospect,
+    lines: &mut Vec<u8>,
+) -> Result<usize, RestoreFault>
+    ensures { IfOk result (λ count. IsPlanned prospect → count ≡ 0
+        → IsRestored G.shows G.has_others table.now entered) }
+{
+    let Prospect {
+        others,
+        kept,
+        shown,
+        foreseen,
+        named,
+        ..
+    } = prospect;
+    let left = send_on(
+        alloc,
+        gateway,
+        table,
+        entered,
+        shown.as_slice(),
+        others,
+        lines,
+    )?;
+    let rows = compare_pages(alloc, gateway, kept.as_slice(), &foreseen, left, lines)?;
+    Ok(named.saturating_add(left).saturating_add(rows))
+}
