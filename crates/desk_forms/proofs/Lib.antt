@@ -1,3 +1,4 @@
 pub mod FieldSteps
 pub mod OfferSteps
 pub mod RequestSteps
+pub mod MomentSteps

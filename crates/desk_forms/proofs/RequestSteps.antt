@@ -1,7 +1,8 @@
 -- A value that follows from others is missing where one of them is.
 use Rattle.std.proofs.Common.{◌≡◌, Option, Some, ap, ◌∙◌, inl, inr}
 use Rattle.desk_forms.specs.declared.requests.FormFault.{FormFault}
-use Rattle.desk_forms.specs.Requests.{◌>>=◌, IsMissing}
+use Rattle.desk_forms.specs.Moments.{◌>>=◌}
+use Rattle.desk_forms.specs.Requests.{IsMissing}
 
 module _ {A B : Type 0} (value : Option A) (next : A → Option B) (given : FormFault) where
   pub missing_first : IsMissing value given → IsMissing (value >>= next) given

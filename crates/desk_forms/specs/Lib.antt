@@ -1,7 +1,9 @@
 pub mod Fields
+pub mod Moments
 pub mod Requests
 pub mod Offers
 pub mod Sender
 pub mod Admitted
 pub mod Commands
+pub mod Marks
 pub mod inner

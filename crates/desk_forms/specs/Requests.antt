@@ -1,6 +1,6 @@
 -- The request of a form on a page: `request_of`, by its fields. None stands for a request that there is not. Own rules:
 -- the names of the fields and of the actions.
-use Rattle.std.specs.Prelude.{◌≡◌, ◌⊎◌, ℕ, Bool, false, ◌==◌, ◌&&◌, if◌then◌else◌, List, [], ◌∷◌, length, find, Option, Some, None, option_map, option_and_then, is_some, unwrap_or, codes}
+use Rattle.std.specs.Prelude.{◌≡◌, ◌⊎◌, ℕ, Bool, false, ◌==◌, ◌&&◌, if◌then◌else◌, List, [], ◌∷◌, length, find, Option, Some, None, option_map, is_some, unwrap_or, codes}
 use Rattle.std.specs.List.{list_any}
 use Rattle.std.specs.Str.{bytes_eq}
 use Rattle.gate_grammar.specs.Numbers.{number_of}
@@ -17,11 +17,7 @@ use Rattle.desk_forms.specs.declared.requests.Action.TheVariants.{Acknowledge, U
 use Rattle.desk_forms.specs.declared.requests.FormFault.{FormFault}
 use Rattle.desk_forms.specs.declared.requests.FormFault.TheVariants as fault
 use Rattle.desk_forms.specs.Fields.{given}
-
-infixl 10 ◌>>=◌
--- what follows from a value that is there
-abbrev pub ◌>>=◌ : {A B : Type 0} → Option A → (A → Option B) → Option B
-o >>= f = option_and_then f o
+use Rattle.desk_forms.specs.Moments.{◌>>=◌, time_of}
 
 -- there is no such value, or memory ran out
 abbrev pub IsMissing : {A : Type 0} → Option A → FormFault → Type 0
@@ -66,8 +62,8 @@ remark_in fields = option_map (λ text. record { text = text; author = None }) (
 abbrev pub window_in : List Field → Window
 window_in fields = record {
   lasts = given (codes "for") fields;
-  until = given (codes "until") fields;
-  from = given (codes "from") fields;
+  until = option_map time_of (given (codes "until") fields);
+  from = option_map time_of (given (codes "from") fields);
   flexible = given (codes "flexible") fields;
   trigger = None;
 }
@@ -123,6 +119,8 @@ request_of page fields = do
 abbrev pub status_of : FormFault → ℕ
 status_of fault.NoAction = 400
 status_of fault.NoText = 400
+status_of fault.NoMarks = 400
+status_of fault.TooManyMarks = 400
 status_of (fault.Request cause) = 400
 status_of fault.NoObject = 404
 status_of fault.NoEntry = 404

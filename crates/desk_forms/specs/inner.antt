@@ -1,3 +1,4 @@
 -- For proofs and private functions alone.
 pub mod Reading
 pub mod Commands
+pub mod Texts

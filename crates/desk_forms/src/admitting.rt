@@ -10,7 +10,7 @@ use bytes::Bytes;
 use desk_guard::{Admitted, Guard, Refusal, SentForms};
 use gate_model::Text;
 use http::Request;
-use std::alloc::Global;
+use std::alloc::{AllocError, Global};
 use std::marker::Model;
 use thiserror::Error;
 
@@ -42,6 +42,19 @@ impl AdmittedForm {
         ensures { result.now ≡ self.now.fields }
     {
         self.fields.as_slice()
+    }
+
+    /// The form of the same request with these fields. The only error is out of memory.
+    pub(crate) fn with_fields(
+        &self,
+        alloc: Global,
+        fields: Vec<Field>,
+    ) -> Result<AdmittedForm, AllocError>
+        ensures { IfOk result (λ form.
+            form ≡ record { user = self.now.user; fields = fields.items }) }
+    {
+        let admitted = self.admitted.again(alloc)?;
+        Ok(AdmittedForm { admitted, fields })
     }
 }
 

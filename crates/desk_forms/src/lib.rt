@@ -6,10 +6,13 @@ mod admitting;
 mod commands;
 mod fields;
 mod lookup;
+mod marks;
+mod moments;
 mod requests;
 
 pub use admitting::{AdmitFault, AdmittedForm, admit_form};
 pub use commands::command_on;
 pub use fields::{Field, FieldsFault, read_fields};
 pub use lookup::{given, value_or_empty};
+pub use marks::{after_byte, before_byte, form_for, read_marks};
 pub use requests::{FormFault, request_of};

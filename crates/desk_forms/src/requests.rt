@@ -3,11 +3,15 @@
 ghost use Rattle.std.specs.Prelude.{◌≡◌, ◌∷◌, [], Some, IfOk, IfErr, codes, map, find, option_map};
 ghost use Rattle.std.specs.Str.{bytes_eq};
 ghost use Rattle.status_reading.specs.Rows.{object_view, comment_view, downtime_view, page_view};
+ghost use Rattle.desk_forms.specs.Fields.{given};
+ghost use Rattle.desk_forms.specs.Moments.{time_of};
 ghost use Rattle.desk_forms.specs.Requests.{action_of, is_row, object_of, object_on, remark_in, window_in, shows_comment, shows_downtime, request_for, request_of, status_of, IsMissing};
 ghost use Rattle.desk_forms.specs.Offers.{IsOn, IsOffered};
+ghost use Rattle.desk_forms.specs.inner.Texts.{text_of};
 
 use crate::fields::Field;
 use crate::lookup::{is_checked, text_in, value_or_empty};
+use crate::moments::time_of;
 use gate_grammar::read_number;
 use gate_model::Text;
 use operator_commands::{Object, Remark, Request, RequestFault, Texts, Window};
@@ -30,12 +34,35 @@ pub enum FormFault {
     /// The page shows no comment or downtime entry of this id.
     #[error("the page doesn't show this entry")]
     NoEntry,
+    /// It marks no object.
+    #[error("the form marks no object")]
+    NoMarks,
+    /// It marks more than 256 objects.
+    #[error("the form marks more than 256 objects")]
+    TooManyMarks,
     /// A time, a span or a setting is none.
-    #[error("{0}")]
+    #[error("{text}", text = text_of(*.0))]
     Request(RequestFault),
     /// Memory ran out.
     #[error("out of memory")]
     OutOfMemory,
+}
+
+// What a fault of a request is in the words of a form.
+fn text_of(fault: RequestFault) -> &'static str
+    ensures { result.now ≡ text_of fault }
+{
+    match fault {
+        RequestFault::BadSetting => "passive checks are on or off",
+        RequestFault::ServicesOfService => "only a host has services",
+        RequestFault::BadTime => "a time is as 2026-11-23T20:15 in UTC, or in seconds since 1970",
+        RequestFault::BadSpan => "a span is a number with s, m, h or d, as 90m",
+        RequestFault::NoEnd => "downtime ends after a span or at a moment: give one of them",
+        // No form has these.
+        RequestFault::BadState | RequestFault::BadId | RequestFault::NoCommand => {
+            "the form asks for no command"
+        }
+    }
 }
 
 impl From<AllocError> for FormFault {
@@ -64,7 +91,11 @@ impl FormFault {
         ensures { result ≡ status_of self }
     {
         match self {
-            FormFault::NoAction | FormFault::NoText | FormFault::Request(_) => 400,
+            FormFault::NoAction
+            | FormFault::NoText
+            | FormFault::NoMarks
+            | FormFault::TooManyMarks
+            | FormFault::Request(_) => 400,
             FormFault::NoObject | FormFault::NoEntry => 404,
             FormFault::OutOfMemory => 503,
         }
@@ -156,12 +187,21 @@ fn remark_in(alloc: Global, fields: &[Field]) -> Result<Remark, FormFault>
     }
 }
 
+fn time_in(alloc: Global, fields: &[Field], name: &str) -> Result<Option<Text>, AllocError>
+    ensures { IfOk result (λ time. time ≡ option_map time_of (given name.now fields.now)) }
+{
+    match text_in(alloc, fields, name)? {
+        Some(text) => Ok(Some(time_of(alloc, text)?)),
+        None => Ok(None),
+    }
+}
+
 fn window_in(alloc: Global, fields: &[Field]) -> Result<Window, AllocError>
     ensures { IfOk result (λ window. window ≡ window_in fields.now) }
 {
     let lasts = text_in(alloc, fields, "for")?;
-    let until = text_in(alloc, fields, "until")?;
-    let from = text_in(alloc, fields, "from")?;
+    let until = time_in(alloc, fields, "until")?;
+    let from = time_in(alloc, fields, "from")?;
     let flexible = text_in(alloc, fields, "flexible")?;
     Ok(Window {
         lasts,

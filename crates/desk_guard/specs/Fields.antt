@@ -1,9 +1,11 @@
--- The header fields of a request that the tests look at (`values_of`), and what two of them say of where it comes from:
--- Origin (RFC 6454, section 7) and Sec-Fetch-Site (Fetch Metadata Request Headers, section 2.3).
-use Rattle.std.specs.Prelude.{ℕ, Bool, false, if◌then◌else◌, List, [], ◌∷◌, map, take, drop, Option, Some, None, option_and_then, codes}
+-- The header fields of a request that the tests look at (`values_of`), and what three of them say of where it goes to and
+-- comes from: Host (RFC 9110, section 7.2), Origin (RFC 6454, section 7) and Sec-Fetch-Site (Fetch Metadata Request
+-- Headers, section 2.3).
+use Rattle.std.specs.Prelude.{ℕ, Bool, true, false, ◌&&◌, ◌==◌, if◌then◌else◌, List, [], ◌∷◌, length, map, take, drop, Option, Some, None, option_and_then, codes}
+use Rattle.std.specs.Char.{is_ascii_digit}
 use Rattle.std.specs.List.{list_all}
 use Rattle.std.specs.Option.{option_map_or}
-use Rattle.std.specs.Str.{bytes_eq}
+use Rattle.std.specs.Str.{bytes_eq, str_eq_ignore_ascii_case}
 use Rattle.http.specs.declared.request.Request.{Request}
 use Rattle.http.specs.Request.{head_of}
 use Rattle.http_header.specs.FieldValue.{FieldValue}
@@ -18,6 +20,15 @@ values_of name request = map (λ (value : FieldValue). value.bytes) (get_all (he
 abbrev pub only : List (List ℕ) → Option (List ℕ)
 only (value ∷ []) = Some value
 only values = None
+
+-- nothing, or a port: a colon (58) and digits
+abbrev pub is_port : List ℕ → Bool
+is_port [] = true
+is_port (byte ∷ digits) = byte == 58 && list_all is_ascii_digit digits
+
+-- a value of Host is this host, in any case, with a port or without one
+abbrev pub is_host_of : List ℕ → List ℕ → Bool
+is_host_of host value = str_eq_ignore_ascii_case host (take (length host) value) && is_port (drop (length host) value)
 
 -- the host, with its port, of an origin of HTTP
 abbrev pub host_in : List ℕ → Option (List ℕ)

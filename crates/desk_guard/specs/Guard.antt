@@ -12,11 +12,15 @@ use Rattle.desk_guard.specs.declared.refusal.Refusal.{Refusal}
 use Rattle.desk_guard.specs.declared.refusal.Refusal.TheVariants.{WrongMethod, WrongHost, OtherSite, WrongKind, NoUser, UnknownUser, OldToken}
 use Rattle.desk_guard.specs.Token.{is_current}
 use Rattle.desk_guard.specs.Sent.{form_tests}
-use Rattle.desk_guard.specs.Fields.{values_of, only, is_own_origin, is_same_origin}
+use Rattle.desk_guard.specs.Fields.{values_of, only, is_host_of, is_own_origin, is_same_origin}
 
 -- whether a text is one of these
 abbrev pub is_one_of : List (Bor (List ℕ)) → List ℕ → Bool
 is_one_of known text = list_any (λ one. bytes_eq one.now text) known
+
+-- whether a value of Host is one of these hosts, with a port or without one
+abbrev pub is_served : List (Bor (List ℕ)) → List ℕ → Bool
+is_served hosts value = list_any (λ host. is_host_of host.now value) hosts
 
 -- the host that a request is sent to, where Host is there once
 abbrev pub host_of : Request (List ℕ) → Option (List ℕ)
@@ -34,7 +38,7 @@ is_form kind = bytes_eq kind (codes "application/x-www-form-urlencoded")
 abbrev pub site_tests : List (Bor (List ℕ)) → Request (List ℕ) → List (Bool × Refusal)
 site_tests hosts request =
     (bytes_eq (head_of request).method (codes "POST"), WrongMethod)
-    ∷ (option_map_or (is_one_of hosts) (host_of request) false, WrongHost)
+    ∷ (option_map_or (is_served hosts) (host_of request) false, WrongHost)
     ∷ (is_own_origin (unwrap_or (host_of request) []) (values_of (codes "origin") request), OtherSite)
     ∷ (is_same_origin (values_of (codes "sec-fetch-site") request), OtherSite)
     ∷ (option_map_or is_form (only (values_of (codes "content-type") request)) false, WrongKind)

@@ -1,5 +1,5 @@
 -- The forms that were sent in the last ten minutes (`recent`), and the tests of a form among them (`form_tests`). Own
--- rules: 600 seconds, 65,536 forms, and that a form is known by the SHA-256 digest of its bytes.
+-- rules: 600 seconds, 131,072 forms, and that a form is known by the SHA-256 digest of its bytes.
 use Rattle.std.specs.Prelude.{ℕ, ◌+◌, Bool, not, nat_lt, List, [], ◌∷◌, length, filter}
 use Rattle.std.specs.List.{list_any}
 use Rattle.std.specs.Str.{bytes_eq}
@@ -20,9 +20,9 @@ recent now sent = filter (is_recent now) sent
 abbrev pub is_among : List ℕ → List SentForm → Bool
 is_among digest sent = list_any (λ form. bytes_eq form.digest digest) sent
 
--- the tests of a form: it was not sent in the last ten minutes, and fewer than 65,536 forms were
+-- the tests of a form: it was not sent in the last ten minutes, and fewer than 131,072 forms were
 abbrev pub form_tests : List ℕ → ℕ → List SentForm → List (Bool × Refusal)
 form_tests form now sent =
     (not (is_among (sha256 form) (recent now sent)), Repeated)
-    ∷ (nat_lt (length (recent now sent)) 65536, TooMany)
+    ∷ (nat_lt (length (recent now sent)) 131072, TooMany)
     ∷ []

@@ -1,9 +1,10 @@
 //! The header fields of a request that the tests look at.
 
 ghost use Rattle.std.specs.Prelude.{◌≡◌, ◌==◌, codes, option_map};
+ghost use Rattle.std.specs.Char.{is_ascii_digit};
 ghost use Rattle.std.specs.List.{list_all};
 ghost use Rattle.std.specs.Str.{bytes_eq};
-ghost use Rattle.desk_guard.specs.Fields.{values_of, only, host_in, is_own_origin, is_same_origin};
+ghost use Rattle.desk_guard.specs.Fields.{values_of, only, is_port, is_host_of, host_in, is_own_origin, is_same_origin};
 
 use bytes::Bytes;
 use http::Request;
@@ -17,6 +18,31 @@ pub fn only_value<'a>(request: &'a Request<Bytes>, name: &str) -> Option<&'a [u8
     match values.next() {
         None => Some(first.as_bytes()),
         Some(_) => None,
+    }
+}
+
+fn is_number(text: &[u8]) -> bool
+    ensures { result ≡ list_all is_ascii_digit text.now }
+{
+    text.iter().all(|byte| byte.is_ascii_digit())
+}
+
+fn is_port(text: &[u8]) -> bool
+    ensures { result ≡ is_port text.now }
+{
+    match text.split_first() {
+        Some((byte, rest)) => *byte == b':' && is_number(rest),
+        None => true,
+    }
+}
+
+/// Whether a value of Host is this host, in any case, with a port or without one.
+pub fn is_host_of(host: &[u8], value: &[u8]) -> bool
+    ensures { result ≡ is_host_of host.now value.now }
+{
+    match value.split_at_checked(host.len()) {
+        Some((name, port)) => host.eq_ignore_ascii_case(name) && is_port(port),
+        None => false,
     }
 }
 

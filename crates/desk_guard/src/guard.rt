@@ -7,9 +7,9 @@ ghost use Rattle.desk_guard.specs.Token.{token_of};
 ghost use Rattle.desk_guard.specs.Sent.{recent, form_tests};
 ghost use Rattle.desk_guard.specs.Fields.{values_of, only};
 ghost use Rattle.desk_guard.specs.Tests.{first_failed, Refuses};
-ghost use Rattle.desk_guard.specs.Guard.{is_one_of, is_form, user_of, host_of, site_tests, user_tests, token_tests, tests_of};
+ghost use Rattle.desk_guard.specs.Guard.{is_one_of, is_served, is_form, user_of, host_of, site_tests, user_tests, token_tests, tests_of};
 
-use crate::fields::{is_own_origin, is_same_origin, only_value};
+use crate::fields::{is_host_of, is_own_origin, is_same_origin, only_value};
 use crate::refusal::Refusal;
 use crate::sent::SentForms;
 use crate::token::{is_current, token_of};
@@ -22,7 +22,7 @@ use std::marker::Model;
 /// What the tests of requests need.
 #[derive(Drop)]
 pub struct Guard<'a> {
-    /// The values of Host that are served: a name, and a port where browsers send one.
+    /// The hosts that are served: names or addresses, those of IPv6 in brackets, each with any port.
     pub hosts: Vec<&'a str>,
     /// The header field by which the proxy names the user.
     pub user_header: &'a str,
@@ -32,7 +32,8 @@ pub struct Guard<'a> {
     pub key: [u8; 64],
 }
 
-/// A request that may send its commands, which contracts see as its user. No other code makes one.
+/// A request that may send its commands, which contracts see as its user. `admit` alone makes one, and
+/// `again` the same once more.
 #[derive(Debug, Drop)]
 pub struct Admitted {
     user: Text,
@@ -53,12 +54,20 @@ impl Admitted {
     {
         &self.user
     }
+
+    /// The same request once more, for a part of its form. The only error is out of memory.
+    pub fn again(&self, alloc: Global) -> Result<Admitted, AllocError>
+        ensures { IfOk result (λ again. again ≡ self.now) }
+    {
+        let user = Text::copied(alloc, self.user.bytes())?;
+        Ok(Admitted { user })
+    }
 }
 
-fn is_one_of(known: &[&str], text: &[u8]) -> bool
-    ensures { result ≡ is_one_of known.now text.now }
+fn is_served(hosts: &[&str], value: &[u8]) -> bool
+    ensures { result ≡ is_served hosts.now value.now }
 {
-    known.iter().any(|one| one.as_bytes() == text)
+    hosts.iter().any(|host| is_host_of(host.as_bytes(), value))
 }
 
 fn is_user(users: &[&[u8]], user: &[u8]) -> bool
@@ -96,7 +105,7 @@ impl<'a> Guard<'a> {
         let Some(host) = only_value(request, "host") else {
             return Err(Refusal::WrongHost);
         };
-        if !is_one_of(self.hosts.as_slice(), host) {
+        if !is_served(self.hosts.as_slice(), host) {
             return Err(Refusal::WrongHost);
         }
         if !is_own_origin(request, host) || !is_same_origin(request) {

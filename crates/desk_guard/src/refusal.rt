@@ -32,7 +32,7 @@ pub enum Refusal {
     /// The same form was sent in the last ten minutes.
     #[error("this form was sent already")]
     Repeated,
-    /// In the last ten minutes 65,536 forms were sent.
+    /// In the last ten minutes 131,072 forms were sent.
     #[error("too many commands: try again in a minute")]
     TooMany,
     /// Memory ran out.

@@ -10,7 +10,7 @@ use std::alloc::Global;
 use std::marker::Model;
 
 // How many forms are kept.
-const MOST_FORMS: usize = 65536;
+const MOST_FORMS: usize = 131072;
 
 // For how many seconds a form is kept.
 const KEPT: u64 = 600;
@@ -69,7 +69,7 @@ impl SentForms {
 
     /// Takes in a form that is to be sent. Those older than ten minutes are forgotten.
     ///
-    /// `Repeated`: the same form, byte for byte, was sent in the last ten minutes. `TooMany`: 65,536
+    /// `Repeated`: the same form, byte for byte, was sent in the last ten minutes. `TooMany`: 131,072
     /// forms were. `OutOfMemory` may be returned in place of any other answer.
     pub(crate) fn take(&mut self, form: &[u8], now: u32) -> Result<(), Refusal>
         ensures taken { OnOk result (self.new

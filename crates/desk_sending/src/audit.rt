@@ -1,10 +1,8 @@
 ghost use Rattle.std.specs.Prelude.{◌≡◌, ◌∷◌, [], ◌++◌, false, IfOk, OnOk};
-ghost use Rattle.form_urlencoded.specs.Form.{byte_serialize};
 ghost use Rattle.gate_grammar.specs.Spelling.{holds};
 ghost use Rattle.gate_model.specs.Escaping.{escaped};
-ghost use Rattle.desk_sending.specs.Audit.{audit_text, location_of};
+ghost use Rattle.desk_sending.specs.Audit.{audit_text};
 
-use form_urlencoded::byte_serialize;
 use gate_model::{push_escaped, push_number};
 use std::alloc::{AllocError, Global};
 
@@ -46,27 +44,5 @@ pub(crate) fn audit_line(alloc: Global, sent: Sent<'_>) -> Result<Vec<u8>, Alloc
     push_field(&mut out, sent.line)?;
     push_field(&mut out, sent.answer)?;
     out.push(b'\n')?;
-    Ok(out)
-}
-
-fn push_serialized(out: &mut Vec<u8>, text: &[u8]) -> Result<(), AllocError>
-    ensures { OnOk result (out.new.items ≡ out.old.items ++ byte_serialize text.now) }
-{
-    for piece in byte_serialize(text) {
-        out.extend_from_slice(piece.as_bytes())?;
-    }
-    Ok(())
-}
-
-/// The page of an object, as Location has it (RFC 9110, section 10.2.2): no byte of a name ends the
-/// header field. The only error is out of memory.
-pub fn location_of(alloc: Global, host: &[u8], service: &[u8]) -> Result<Vec<u8>, AllocError>
-    ensures { IfOk result (λ location. location.items ≡ location_of host.now service.now) }
-{
-    let mut out = Vec::new(alloc);
-    out.extend_from_slice(b"/object?host=")?;
-    push_serialized(&mut out, host)?;
-    out.extend_from_slice(b"&service=")?;
-    push_serialized(&mut out, service)?;
     Ok(out)
 }

@@ -6,6 +6,5 @@ mod audit;
 mod orders;
 mod sending;
 
-pub use audit::location_of;
 pub use orders::{Objection, Order, is_asked, order_on, push_objection};
 pub use sending::{audit_of, push_answer, send_order};

@@ -2,7 +2,8 @@
 -- the status page spells it, and the action of its button. Own rules: the fields, as desk_forms reads them.
 use Rattle.std.specs.Prelude.{ℕ, List, [], ◌∷◌, ◌++◌, codes}
 use Rattle.desk_view.specs.declared.forms.FormOf.{FormOf}
-use Rattle.desk_view.specs.Parts.{PartView, Markup, Text, Number}
+use Rattle.desk_view.specs.Parts.{PartView}
+use Rattle.status_view.specs.Layout.{Markup, Text, Number}
 
 -- a form of this action, up to its own fields
 unfoldable pub open_form : FormOf → List ℕ → List PartView

@@ -1,3 +1,4 @@
 pub mod Parts
 pub mod Forms
 pub mod Page
+pub mod Marks

@@ -1,7 +1,7 @@
 //! The forms of an object's page.
 
 ghost use Rattle.std.specs.Prelude.{◌≡◌, ◌++◌, OnOk};
-ghost use Rattle.desk_view.specs.Parts.{bytes_of};
+ghost use Rattle.status_view.specs.Filling.{html_bytes};
 ghost use Rattle.desk_view.specs.Forms.{open_form, form, entry_fields, entry_form};
 
 use crate::parts::{Part, put};
@@ -23,7 +23,7 @@ pub struct FormOf<'a> {
 
 #[tactic(auto, unfolding(crate::specs::Forms::open_form))]
 fn open_form(html: &mut Html, of: FormOf<'_>, action: &'static str) -> Result<(), AllocError>
-    ensures { OnOk result (html.new ≡ html.old ++ bytes_of (open_form of.entry action.now)) }
+    ensures { OnOk result (html.new ≡ html.old ++ html_bytes (open_form of.entry action.now)) }
 {
     put(
         html,
@@ -53,7 +53,7 @@ pub(crate) fn put_form(
     action: &'static str,
     fields: &'static str,
 ) -> Result<(), AllocError>
-    ensures { OnOk result (html.new ≡ html.old ++ bytes_of (form of.entry action.now fields.now)) }
+    ensures { OnOk result (html.new ≡ html.old ++ html_bytes (form of.entry action.now fields.now)) }
 {
     open_form(html, of, action)?;
     put(html, &[Part::Markup(fields)])
@@ -67,7 +67,7 @@ fn put_entry_fields(
     button: &'static str,
 ) -> Result<(), AllocError>
     ensures { OnOk result (html.new ≡ html.old
-        ++ bytes_of (entry_fields gateway.now id button.now)) }
+        ++ html_bytes (entry_fields gateway.now id button.now)) }
 {
     put(
         html,
@@ -93,7 +93,7 @@ pub(crate) fn put_entry_form(
     button: &'static str,
 ) -> Result<(), AllocError>
     ensures { OnOk result (html.new ≡ html.old
-        ++ bytes_of (entry_form of.entry action.now gateway.now id button.now)) }
+        ++ html_bytes (entry_form of.entry action.now gateway.now id button.now)) }
 {
     open_form(html, of, action)?;
     put_entry_fields(html, gateway, id, button)

@@ -1,14 +1,15 @@
 ghost use Rattle.std.specs.Prelude.{◌≡◌, ◌++◌, IfOk, OnOk, map};
 ghost use Rattle.status_reading.specs.Rows.{object_view, comment_view, downtime_view};
 ghost use Rattle.std.specs.List.{flat_map};
-ghost use Rattle.desk_view.specs.Parts.{bytes_of};
-ghost use Rattle.desk_view.specs.Page.{is_of, shows, again_part, note_parts, state_parts, said_parts, comment_parts, downtime_parts, state_row, comment_row, downtime_row, states_parts, comments_parts, downtimes_parts, gateway_parts, head_parts, forms_parts, page_parts};
+ghost use Rattle.status_view.specs.Filling.{html_bytes};
+ghost use Rattle.desk_view.specs.Page.{is_of, shows, again_part, note_opening, colon_after, note_parts, said_parts, comment_parts, downtime_parts, state_row, comment_row, downtime_row, states_parts, comments_parts, downtimes_parts, gateway_parts, head_parts, forms_parts, page_parts};
 
 use crate::fields::{ACKNOWLEDGE, COMMENT, DOWNTIME, PASSIVE, UNACKNOWLEDGE};
 use crate::forms::{FormOf, put_entry_form, put_form};
 use crate::parts::{Part, put};
+use crate::states::put_state;
 use html_text::Html;
-use status_reading::{ShownComment, ShownDowntime, ShownObject, StatusPage, state_name};
+use status_reading::{ShownComment, ShownDowntime, ShownObject, StatusPage};
 use std::alloc::{AllocError, Global};
 
 /// The page of a gateway, with the gateway's name.
@@ -21,8 +22,11 @@ pub struct ShownAt<'a, 't> {
 /// What became of a command at a gateway.
 #[derive(Clone, Copy)]
 pub struct Note<'a> {
+    /// Empty where it is of none.
     pub gateway: &'a str,
     pub text: &'a [u8],
+    /// Whether it failed; otherwise it is under way or done.
+    pub is_alarm: bool,
 }
 
 /// What the page of an object shows.
@@ -45,30 +49,9 @@ fn is_of(of: FormOf<'_>, host: &[u8], service: &[u8]) -> bool
     host == of.host && service == of.service
 }
 
-#[tactic(auto, unfolding(crate::specs::Page::state_parts))]
-fn put_state<'x>(html: &mut Html, gateway: &'x str, row: &ShownObject<'x>) -> Result<(), AllocError>
-    ensures { OnOk result (html.new ≡ html.old
-        ++ bytes_of (state_parts gateway.now (object_view row.now))) }
-{
-    put(
-        html,
-        &[
-            Part::Markup("<p class=\"state\">"),
-            Part::Text(gateway.as_bytes()),
-            Part::Markup(": "),
-            Part::Markup(state_name(row.state)),
-            Part::Markup(", in "),
-            Part::Number(u64::from(row.depth)),
-            Part::Markup(" downtime</p><pre>"),
-            Part::Text(row.output),
-            Part::Markup("</pre>\n"),
-        ],
-    )
-}
-
 #[tactic(auto, unfolding(crate::specs::Page::said_parts))]
 fn put_said<'x>(html: &mut Html, author: &'x [u8], text: &'x [u8]) -> Result<(), AllocError>
-    ensures { OnOk result (html.new ≡ html.old ++ bytes_of (said_parts author.now text.now)) }
+    ensures { OnOk result (html.new ≡ html.old ++ html_bytes (said_parts author.now text.now)) }
 {
     put(
         html,
@@ -88,7 +71,7 @@ fn put_comment(
     row: &ShownComment<'_>,
 ) -> Result<(), AllocError>
     ensures { OnOk result (html.new ≡ html.old
-        ++ bytes_of (comment_parts of.entry gateway.now (comment_view row.now))) }
+        ++ html_bytes (comment_parts of.entry gateway.now (comment_view row.now))) }
 {
     put_said(html, row.author, row.text)?;
     put_entry_form(html, of, "uncomment", gateway, row.id, "Delete comment")
@@ -101,7 +84,7 @@ fn put_downtime(
     row: &ShownDowntime<'_>,
 ) -> Result<(), AllocError>
     ensures { OnOk result (html.new ≡ html.old
-        ++ bytes_of (downtime_parts of.entry gateway.now (downtime_view row.now))) }
+        ++ html_bytes (downtime_parts of.entry gateway.now (downtime_view row.now))) }
 {
     put_said(html, row.author, row.text)?;
     put_entry_form(html, of, "cancel", gateway, row.id, "Cancel downtime")
@@ -112,13 +95,14 @@ fn put_state_row<'x>(
     html: &mut Html,
     of: FormOf<'_>,
     gateway: &'x str,
+    moment: u32,
     row: &ShownObject<'x>,
 ) -> Result<(), AllocError>
     ensures { OnOk result (html.new ≡ html.old
-        ++ bytes_of (state_row of.entry gateway.now (object_view row.now))) }
+        ++ html_bytes (state_row of.entry gateway.now moment (object_view row.now))) }
 {
     if is_of(of, row.host, row.service) {
-        put_state(html, gateway, row)
+        put_state(html, gateway, moment, row)
     } else {
         Ok(())
     }
@@ -129,13 +113,14 @@ fn put_states<'x>(
     html: &mut Html,
     of: FormOf<'_>,
     gateway: &'x str,
+    moment: u32,
     rows: &[ShownObject<'x>],
 ) -> Result<(), AllocError>
     ensures { OnOk result (html.new ≡ html.old
-        ++ bytes_of (states_parts of.entry gateway.now (map object_view rows.now))) }
+        ++ html_bytes (states_parts of.entry gateway.now moment (map object_view rows.now))) }
 {
     for row in rows {
-        put_state_row(html, of, gateway, row)?;
+        put_state_row(html, of, gateway, moment, row)?;
     }
     Ok(())
 }
@@ -148,7 +133,7 @@ fn put_comment_row(
     row: &ShownComment<'_>,
 ) -> Result<(), AllocError>
     ensures { OnOk result (html.new ≡ html.old
-        ++ bytes_of (comment_row of.entry gateway.now (comment_view row.now))) }
+        ++ html_bytes (comment_row of.entry gateway.now (comment_view row.now))) }
 {
     if is_of(of, row.host, row.service) {
         put_comment(html, of, gateway, row)
@@ -165,7 +150,7 @@ fn put_comments(
     rows: &[ShownComment<'_>],
 ) -> Result<(), AllocError>
     ensures { OnOk result (html.new ≡ html.old
-        ++ bytes_of (comments_parts of.entry gateway.now (map comment_view rows.now))) }
+        ++ html_bytes (comments_parts of.entry gateway.now (map comment_view rows.now))) }
 {
     for row in rows {
         put_comment_row(html, of, gateway, row)?;
@@ -181,7 +166,7 @@ fn put_downtime_row(
     row: &ShownDowntime<'_>,
 ) -> Result<(), AllocError>
     ensures { OnOk result (html.new ≡ html.old
-        ++ bytes_of (downtime_row of.entry gateway.now (downtime_view row.now))) }
+        ++ html_bytes (downtime_row of.entry gateway.now (downtime_view row.now))) }
 {
     if is_of(of, row.host, row.service) {
         put_downtime(html, of, gateway, row)
@@ -198,7 +183,7 @@ fn put_downtimes(
     rows: &[ShownDowntime<'_>],
 ) -> Result<(), AllocError>
     ensures { OnOk result (html.new ≡ html.old
-        ++ bytes_of (downtimes_parts of.entry gateway.now (map downtime_view rows.now))) }
+        ++ html_bytes (downtimes_parts of.entry gateway.now (map downtime_view rows.now))) }
 {
     for row in rows {
         put_downtime_row(html, of, gateway, row)?;
@@ -207,16 +192,18 @@ fn put_downtimes(
 }
 
 fn put_gateway(html: &mut Html, of: FormOf<'_>, shown: ShownAt<'_, '_>) -> Result<(), AllocError>
-    ensures { OnOk result (html.new ≡ html.old ++ bytes_of (gateway_parts of.entry shown.entry)) }
+    ensures { OnOk result (html.new ≡ html.old ++ html_bytes (gateway_parts of.entry shown.entry)) }
 {
-    put_states(html, of, shown.name, shown.page.objects.as_slice())?;
+    let page = shown.page;
+    put_states(html, of, shown.name, page.moment, page.objects.as_slice())?;
     put(html, &[Part::Markup("<ul>\n")])?;
-    put_comments(html, of, shown.name, shown.page.comments.as_slice())?;
-    put_downtimes(html, of, shown.name, shown.page.downtimes.as_slice())?;
+    put_comments(html, of, shown.name, page.comments.as_slice())?;
+    put_downtimes(html, of, shown.name, page.downtimes.as_slice())?;
     put(html, &[Part::Markup("</ul>\n")])
 }
 
-fn again_part(again: bool) -> &'static str
+/// A browser loads the page again after two seconds, or it doesn't.
+pub(crate) fn again_part(again: bool) -> &'static str
     ensures { result.now ≡ again_part again }
 {
     if again {
@@ -226,25 +213,42 @@ fn again_part(again: bool) -> &'static str
     }
 }
 
+fn note_opening(is_alarm: bool) -> &'static str
+    ensures { result.now ≡ note_opening is_alarm }
+{
+    if is_alarm {
+        "<p class=\"alarm\" role=\"alert\">"
+    } else {
+        "<p class=\"soft\" role=\"status\">"
+    }
+}
+
+fn colon_after(gateway: &str) -> &'static str
+    ensures { result.now ≡ colon_after gateway.now }
+{
+    if gateway.is_empty() { "" } else { ": " }
+}
+
 #[tactic(auto, unfolding(crate::specs::Page::note_parts))]
 fn put_note(html: &mut Html, note: Note<'_>) -> Result<(), AllocError>
-    ensures { OnOk result (html.new ≡ html.old ++ bytes_of (note_parts note.entry)) }
+    ensures { OnOk result (html.new ≡ html.old ++ html_bytes (note_parts note.entry)) }
 {
     put(
         html,
         &[
-            Part::Markup("<p class=\"alarm\">"),
+            Part::Markup(note_opening(note.is_alarm)),
             Part::Text(note.gateway.as_bytes()),
-            Part::Markup(": "),
+            Part::Markup(colon_after(note.gateway)),
             Part::Text(note.text),
             Part::Markup("</p>\n"),
         ],
     )
 }
 
+/// Appends what became of commands. The only error is out of memory.
 #[tactic(auto, using(crate::proofs::PutSteps::bytes_more))]
-fn put_notes(html: &mut Html, notes: &[Note<'_>]) -> Result<(), AllocError>
-    ensures { OnOk result (html.new ≡ html.old ++ bytes_of (flat_map note_parts notes.now)) }
+pub(crate) fn put_notes(html: &mut Html, notes: &[Note<'_>]) -> Result<(), AllocError>
+    ensures { OnOk result (html.new ≡ html.old ++ html_bytes (flat_map note_parts notes.now)) }
 {
     for note in notes {
         put_note(html, *note)?;
@@ -254,7 +258,7 @@ fn put_notes(html: &mut Html, notes: &[Note<'_>]) -> Result<(), AllocError>
 
 #[tactic(auto, unfolding(crate::specs::Page::head_parts))]
 fn put_head(html: &mut Html, page: DeskPage<'_, '_>) -> Result<(), AllocError>
-    ensures { OnOk result (html.new ≡ html.old ++ bytes_of (head_parts page.entry)) }
+    ensures { OnOk result (html.new ≡ html.old ++ html_bytes (head_parts page.entry)) }
 {
     put(
         html,
@@ -269,7 +273,7 @@ fn put_head(html: &mut Html, page: DeskPage<'_, '_>) -> Result<(), AllocError>
             Part::Text(page.title.as_bytes()),
             Part::Markup("</a>, as "),
             Part::Text(page.user),
-            Part::Markup("</p><h1>"),
+            Part::Markup(", <a href=\"/marks\">several objects</a></p><h1>"),
             Part::Text(page.of.host),
             Part::Markup(" "),
             Part::Text(page.of.service),
@@ -279,7 +283,7 @@ fn put_head(html: &mut Html, page: DeskPage<'_, '_>) -> Result<(), AllocError>
 }
 
 fn put_forms(html: &mut Html, of: FormOf<'_>) -> Result<(), AllocError>
-    ensures { OnOk result (html.new ≡ html.old ++ bytes_of (forms_parts of.entry)) }
+    ensures { OnOk result (html.new ≡ html.old ++ html_bytes (forms_parts of.entry)) }
 {
     put_form(html, of, "acknowledge", ACKNOWLEDGE)?;
     put_form(html, of, "unacknowledge", UNACKNOWLEDGE)?;
@@ -303,7 +307,7 @@ pub fn shows(rows: &[ShownObject<'_>], host: &[u8], service: &[u8]) -> bool
 
 /// The page of an object, with its forms. The only error is out of memory.
 pub fn desk_page(alloc: Global, page: DeskPage<'_, '_>) -> Result<Html, AllocError>
-    ensures { IfOk result (λ html. html ≡ bytes_of (page_parts page.entry)) }
+    ensures { IfOk result (λ html. html ≡ html_bytes (page_parts page.entry)) }
 {
     let mut html = Html::new(alloc);
     put_head(&mut html, page)?;

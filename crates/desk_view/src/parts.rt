@@ -1,5 +1,6 @@
 ghost use Rattle.std.specs.Prelude.{◌≡◌, ◌++◌, OnOk, map};
-ghost use Rattle.desk_view.specs.Parts.{part_view, part_bytes, bytes_of};
+ghost use Rattle.desk_view.specs.Parts.{part_view};
+ghost use Rattle.status_view.specs.Filling.{piece_bytes, html_bytes};
 
 use html_text::Html;
 use std::alloc::AllocError;
@@ -13,7 +14,7 @@ pub enum Part<'a> {
 }
 
 fn put_one(html: &mut Html, part: &Part<'_>) -> Result<(), AllocError>
-    ensures { OnOk result (html.new ≡ html.old ++ part_bytes (part_view part.now)) }
+    ensures { OnOk result (html.new ≡ html.old ++ piece_bytes (part_view part.now)) }
 {
     match part {
         Part::Markup(markup) => html.markup(*markup),
@@ -24,7 +25,7 @@ fn put_one(html: &mut Html, part: &Part<'_>) -> Result<(), AllocError>
 
 /// Appends some parts. The only error is out of memory.
 pub(crate) fn put(html: &mut Html, parts: &[Part<'_>]) -> Result<(), AllocError>
-    ensures { OnOk result (html.new ≡ html.old ++ bytes_of (map part_view parts.now)) }
+    ensures { OnOk result (html.new ≡ html.old ++ html_bytes (map part_view parts.now)) }
 {
     for part in parts {
         put_one(html, part)?;

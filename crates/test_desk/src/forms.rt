@@ -38,7 +38,7 @@ fn line(alloc: Global, fields: &str) -> Option<Vec<u8>> {
 }
 
 #[rattlefmt::skip]
-const CASES: [(&str, &str); 19] = [
+const CASES: [(&str, &str); 23] = [
     // ---- commands
     ("action=acknowledge&host=web1&service=a+b%5C%5Cc&text=on+it%3B+100%25&sticky=on",
         "ACKNOWLEDGE_SVC_PROBLEM;web1;a b\\c;2;1;0;ann;on it; 100%"),
@@ -51,6 +51,11 @@ const CASES: [(&str, &str); 19] = [
         "SCHEDULE_HOST_DOWNTIME;web1;1000;8200;1;0;0;ann;work"),
     ("action=downtime&host=web1&text=work&for=1d&flexible=30m&services=on",
         "SCHEDULE_HOST_SVC_DOWNTIME;web1;1000;87400;0;0;1800;ann;work"),
+    // The seconds of the dates are those of GNU date.
+    ("action=downtime&host=web1&text=work&from=2024-02-29T23%3A59&until=2106-02-07T06%3A28",
+        "SCHEDULE_HOST_DOWNTIME;web1;1709251140;4294967280;1;0;0;ann;work"),
+    ("action=downtime&host=web1&text=work&from=4000000000&until=4000000600",
+        "SCHEDULE_HOST_DOWNTIME;web1;4000000000;4000000600;1;0;0;ann;work"),
     ("action=cancel&id=5", "DEL_HOST_DOWNTIME;5"),
     ("action=passive&host=web1&setting=off", "DISABLE_PASSIVE_HOST_CHECKS;web1"),
     // ---- faults
@@ -60,7 +65,11 @@ const CASES: [(&str, &str); 19] = [
     ("action=shutdown&host=web1", "the form names no action"),
     ("action=uncomment&id=4", "the page doesn't show this entry"),
     ("action=cancel&id=3", "the page doesn't show this entry"),
-    ("action=passive&host=web1&setting=maybe", "passive is on or off"),
+    ("action=passive&host=web1&setting=maybe", "passive checks are on or off"),
+    ("action=downtime&host=web1&text=work&until=2023-02-29T00%3A00",
+        "a time is as 2026-11-23T20:15 in UTC, or in seconds since 1970"),
+    ("action=downtime&host=web1&text=work&for=2h&until=2000",
+        "downtime ends after a span or at a moment: give one of them"),
     ("action=comment&host=web1&text=a&text=b", "the form has a field twice"),
     ("action=comment&host=web1&text=gr%FCn", "the form is not UTF-8"),
     ("token=&action=unacknowledge&host=web1", "the form has a field twice"),

@@ -45,7 +45,7 @@ pub fn guard<'a>(alloc: Global) -> Option<Guard<'a>> {
         *byte = index as u8;
     }
     Some(Guard {
-        hosts: vec![in alloc; "desk.example", "localhost:8081"].ok()?,
+        hosts: vec![in alloc; "desk.example", "[::1]"].ok()?,
         user_header: "X-Remote-User",
         users: vec![in alloc; b"ann".as_slice(), b"carol".as_slice()].ok()?,
         key,
@@ -89,8 +89,28 @@ fn requests_are_refused_by_their_first_fault(rt: HostRuntime) {
     let cases = [
         GOOD,
         Asked {
+            host: "Desk.example:8443",
+            origin: "https://Desk.example:8443",
+            ..GOOD
+        },
+        Asked {
+            host: "[::1]:8443",
+            origin: "https://[::1]:8443",
+            ..GOOD
+        },
+        Asked {
             host: "evil.example",
             refusal: Some(Refusal::WrongHost),
+            ..GOOD
+        },
+        Asked {
+            host: "[::1]evil",
+            refusal: Some(Refusal::WrongHost),
+            ..GOOD
+        },
+        Asked {
+            host: "desk.example:8443",
+            refusal: Some(Refusal::OtherSite),
             ..GOOD
         },
         Asked {

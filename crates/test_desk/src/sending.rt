@@ -1,5 +1,5 @@
 use crate::forms::form_of;
-use desk_sending::{Order, audit_of, is_asked, location_of, order_on, push_objection, send_order};
+use desk_sending::{Order, audit_of, is_asked, order_on, push_objection, send_order};
 use gate_model::Moment;
 use status_reading::read_status_page;
 use std::alloc::Global;
@@ -59,13 +59,5 @@ fn what_would_be_refused_is_said(rt: HostRuntime) {
     assert!(rt;
         said.is_some_and(|text| text.as_slice()
             == b"web1: there is no problem to acknowledge".as_slice())
-    );
-}
-
-#[test]
-fn an_object_has_a_page(rt: HostRuntime) {
-    let location = location_of(rt.alloc(), b"web 1", b"a&b");
-    assert!(rt;
-        location.is_ok_and(|text| text.as_slice() == b"/object?host=web+1&service=a%26b".as_slice())
     );
 }

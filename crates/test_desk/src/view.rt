@@ -5,7 +5,7 @@ use std::str::from_utf8;
 use std::test::*;
 
 const PAGE: &str =
-    "status 1000\nobject;<db>;;UP;900;fresh;-;1;fine\nobject;db;;UP;900;fresh;-;0;other\n\
+    "status 1000\nobject;<db>;;DOWN;700;stale;sticky;1;bad\nobject;db;;UP;900;fresh;-;0;other\n\
     comment;3;<db>;;user;0;900;a&b;it's\n\
     downtime;5;<db>;;fixed;0;900;1200;300;900;ann;work\n";
 
@@ -26,10 +26,18 @@ fn page(alloc: Global) -> Option<Vec<u8>> {
             service: b"",
         },
         again: true,
-        notes: &[Note {
-            gateway: "<west>",
-            text: b"not sent",
-        }],
+        notes: &[
+            Note {
+                gateway: "<west>",
+                text: b"not sent",
+                is_alarm: true,
+            },
+            Note {
+                gateway: "east",
+                text: b"queued 7",
+                is_alarm: false,
+            },
+        ],
         gateways: &gateways,
     };
     Some(desk_page(alloc, page).ok()?.into_bytes())
@@ -40,8 +48,11 @@ fn a_page_has_a_form_for_each_action(rt: HostRuntime) {
     let html = page(rt.alloc());
     for expected in [
         "<meta http-equiv=\"refresh\" content=\"2\">",
-        "<p class=\"alarm\">&lt;west&gt;: not sent</p>",
-        "east: UP, in 1 downtime</p><pre>fine</pre>",
+        "<p class=\"alarm\" role=\"alert\">&lt;west&gt;: not sent</p>",
+        "<p class=\"soft\" role=\"status\">east: queued 7</p>",
+        "<p class=\"state\">east: DOWN <span class=\"badge stale\">stale</span> \
+<span class=\"badge\">acknowledged, sticky</span> <span class=\"badge\">downtime 1</span>, \
+last result 5 min ago</p><pre>bad</pre>",
         "name=\"token\" value=\"abc\"><input type=\"hidden\" name=\"page\" value=\"7\">",
         "name=\"host\" value=\"&lt;db&gt;\"><input type=\"hidden\" name=\"service\" value=\"\">",
         "<li>a&amp;b: it&#39;s<form",

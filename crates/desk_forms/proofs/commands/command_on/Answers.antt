@@ -1,4 +1,4 @@
-use Rattle.std.proofs.Common.{◌≡◌, List, ap, sym, subst, ◌∙◌, map, Some, [], ◌∷◌}
+use Rattle.std.proofs.Common.{List, ap, sym, subst, ◌∙◌, map, Some}
 use Rattle.std.specs.List.{AllByRecursion}
 use Rattle.gate_model.specs.declared.submission.Body.{Body}
 use Rattle.status_reading.specs.Rows.{page_view}

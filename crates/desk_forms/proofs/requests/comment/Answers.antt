@@ -5,7 +5,8 @@ use Rattle.operator_commands.specs.declared.request.Object.{Object}
 use Rattle.operator_commands.specs.declared.request.Remark.{Remark}
 use Rattle.operator_commands.specs.declared.request.Request.{Request}
 use Rattle.operator_commands.specs.declared.request.Request.TheVariants as request
-use Rattle.desk_forms.specs.Requests.{◌>>=◌, object_on, remark_in, is_checked}
+use Rattle.desk_forms.specs.Moments.{◌>>=◌}
+use Rattle.desk_forms.specs.Requests.{object_on, remark_in, is_checked}
 use Rattle.desk_forms.proofs.RequestSteps.{missing_first, missing_next}
 use Rattle.desk_forms.proofs.requests.comment.Goals as goal
 

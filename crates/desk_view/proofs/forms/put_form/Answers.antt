@@ -1,5 +1,5 @@
 use Rattle.std.proofs.Common.{[], ◌∷◌}
-use Rattle.desk_view.specs.Parts.{Markup}
+use Rattle.status_view.specs.Layout.{Markup}
 use Rattle.desk_view.specs.Forms.{open_form}
 use Rattle.desk_view.proofs.PutSteps.{last}
 use Rattle.desk_view.proofs.forms.put_form.Goals as goal

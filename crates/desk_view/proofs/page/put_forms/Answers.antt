@@ -1,6 +1,7 @@
 use Rattle.std.proofs.Common.{List, [], ◌∷◌, ◌++◌, codes}
 use Rattle.desk_view.specs.declared.fields.TheConstants.{ACKNOWLEDGE, UNACKNOWLEDGE, COMMENT, DOWNTIME, PASSIVE}
-use Rattle.desk_view.specs.Parts.{PartView, Markup}
+use Rattle.desk_view.specs.Parts.{PartView}
+use Rattle.status_view.specs.Layout.{Markup}
 use Rattle.desk_view.specs.Forms.{form}
 use Rattle.desk_view.proofs.PutSteps.{joined, last}
 use Rattle.desk_view.proofs.page.put_forms.Goals as goal

@@ -1,6 +1,7 @@
 use Rattle.std.proofs.Common.{List, [], ◌∷◌, ◌++◌, map, codes}
 use Rattle.status_reading.specs.Rows.{object_view, comment_view, downtime_view}
-use Rattle.desk_view.specs.Parts.{PartView, Markup}
+use Rattle.desk_view.specs.Parts.{PartView}
+use Rattle.status_view.specs.Layout.{Markup}
 use Rattle.desk_view.specs.Page.{states_parts, comments_parts, downtimes_parts}
 use Rattle.desk_view.proofs.PutSteps.{joined, last}
 use Rattle.desk_view.proofs.page.put_gateway.Goals as goal
@@ -10,7 +11,7 @@ returns c =
     let html = c.args.html.now in
     let name = c.args.shown.name.now in
     let page = c.args.shown.page.now in
-    let states = states_parts c.args.of name (map object_view page.objects.items) in
+    let states = states_parts c.args.of name page.moment (map object_view page.objects.items) in
     let start : List PartView = Markup (codes "<ul>\n") ∷ [] in
     let comments = comments_parts c.args.of name (map comment_view page.comments.items) in
     let downtimes = downtimes_parts c.args.of name (map downtime_view page.downtimes.items) in

@@ -1,0 +1,4 @@
+pub mod Labels
+pub mod Outbox
+pub mod Showing
+pub mod inner

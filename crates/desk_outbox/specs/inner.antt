@@ -1,0 +1,2 @@
+-- For proofs and private functions alone.
+pub mod Rows

@@ -1,0 +1,267 @@
+ghost use Rattle.std.specs.Prelude.{◌≡◌, IfOk, OnOk, true, false, length, map, string_bytes, codes};
+ghost use Rattle.clap.specs.Walk.{texts};
+ghost use Rattle.clap.specs.Words.{new_app, app_of, rule_of, found_of, rows_of};
+ghost use Rattle.desk_words.specs.Words.{option_of, list_of, unnamed, program, value_of, values_of, IsLoopbackText, have_ports, Sets, AskFor};
+
+use crate::operators::{have_ports, users_in};
+use clap::error::ErrorKind;
+use clap::{Arg, ArgAction, ArgMatches, Command, Error};
+use page_watching::{Place, PlacesFault, address_in, every_in, places_in};
+use status_serving::refresh_in;
+use std::alloc::{AllocError, Global};
+use std::net::SocketAddr;
+
+/// What the program is run with.
+#[derive(Drop)]
+pub struct Settings<'a> {
+    /// An address of loopback.
+    pub listen: SocketAddr,
+    pub places: Vec<Place<'a>>,
+    /// The operators' ports of the gateways, each by its gateway's name.
+    pub operators: Vec<Place<'a>>,
+    pub title: &'a str,
+    /// The seconds after which a browser asks again; 0: it doesn't.
+    pub refresh: u32,
+    /// The seconds between two fetches of a gateway's page.
+    pub every: u32,
+    /// The names of hosts under which browsers reach it.
+    pub hosts: Vec<&'a str>,
+    /// The header field by which the proxy names the user.
+    pub user_header: &'a str,
+    /// The users who may send commands.
+    pub users: Vec<&'a [u8]>,
+}
+
+/// A value that its option can't have.
+#[derive(Clone, Copy, Debug, PartialEq, Eq)]
+pub enum BadValue {
+    /// `--listen` is no IP address and port.
+    Listen,
+    /// `--listen` is no address of loopback.
+    NotLoopback,
+    /// `--refresh` is not 0 or 2 to 3600.
+    Refresh,
+    /// `--every` is not 1 to 30.
+    Every,
+    /// A `--gateway` or an `--operators` has an empty name, or no IP address and port.
+    Gateway,
+    /// Two of `--gateway`, or of `--operators`, have one name.
+    SameName,
+    /// There is no `--gateway`.
+    NoGateway,
+    /// `--operators` don't name the gateways.
+    Operators,
+    /// There is no `--users`.
+    NoUsers,
+}
+
+/// Why the words are no settings.
+#[derive(Debug, Drop)]
+pub enum WordsFault {
+    /// clap refuses them, or they ask for help: its message.
+    Refused(Error),
+    /// An option can't have this value.
+    Bad(BadValue),
+    /// Memory ran out.
+    OutOfMemory,
+}
+
+impl From<AllocError> for WordsFault {
+    ghost use Rattle.desk_words.specs.declared.words.WordsFault.TheVariants.{OutOfMemory};
+
+    ghost from_gives = { λ _ fault. fault ≡ OutOfMemory };
+
+    fn from(_: AllocError) -> WordsFault {
+        WordsFault::OutOfMemory
+    }
+}
+
+impl From<PlacesFault> for WordsFault {
+    fn from(fault: PlacesFault) -> WordsFault {
+        match fault {
+            PlacesFault::BadPlace => WordsFault::Bad(BadValue::Gateway),
+            PlacesFault::SameName => WordsFault::Bad(BadValue::SameName),
+            PlacesFault::OutOfMemory => WordsFault::OutOfMemory,
+        }
+    }
+}
+
+// `--NAME VALUE`.
+fn option<'a>(alloc: Global, name: &'a str, help: &'a str) -> Arg<'a>
+    ensures rule { rule_of result ≡ option_of name.entry.now }
+    ensures local { result.global ≡ false }
+{
+    Arg::new(alloc, name)
+        .long(name)
+        .action(ArgAction::Set)
+        .help(help)
+}
+
+// `--NAME VALUE`, which may be there more than once.
+fn list<'a>(alloc: Global, name: &'a str, help: &'a str) -> Arg<'a>
+    ensures rule { rule_of result ≡ list_of name.entry.now }
+    ensures local { result.global ≡ false }
+{
+    Arg::new(alloc, name)
+        .long(name)
+        .action(ArgAction::Append)
+        .help(help)
+}
+
+fn unnamed<'a>(alloc: Global) -> Command<'a>
+    ensures { app_of result ≡ unnamed (new_app (codes "statusdesk")) }
+{
+    Command::new(alloc, "statusdesk").no_binary_name(true).about(
+        "Shows the status pages of gateways, with forms that send an operator's commands",
+    )
+}
+
+fn command_line<'a>(alloc: Global) -> Result<Command<'a>, AllocError>
+    ensures { IfOk result (λ command. app_of command ≡ program) }
+{
+    unnamed(alloc)
+        .arg(option(
+            alloc,
+            "listen",
+            "Where the proxy connects, on loopback [default: 127.0.0.1:8081]",
+        ))?
+        .arg(list(
+            alloc,
+            "gateway",
+            "The pages port of a gateway, as [NAME=]ADDRESS:PORT; once for each",
+        ))?
+        .arg(list(
+            alloc,
+            "operators",
+            "The operators' port of a gateway, as NAME=ADDRESS:PORT; once for each",
+        ))?
+        .arg(list(
+            alloc,
+            "host",
+            "A name under which browsers reach it; once for each",
+        ))?
+        .arg(option(
+            alloc,
+            "user-header",
+            "The header field by which the proxy names the user [default: X-Remote-User]",
+        ))?
+        .arg(option(alloc, "users", "Who may send commands, as NAME,NAME"))?
+        .arg(option(alloc, "title", "The title of the page [default: nscagate]"))?
+        .arg(option(
+            alloc,
+            "refresh",
+            "The seconds after which a browser asks again: 0 (never), or 2 to 3600 [default: 30]",
+        ))?
+        .arg(option(
+            alloc,
+            "every",
+            "The seconds between two fetches of a page: 1 to 30 [default: 5]",
+        ))
+}
+
+// The value of an option, or its default.
+fn value_of<'a>(matches: &ArgMatches<'a>, name: &str, default: &'a str) -> &'a str
+    ensures { result.now ≡ value_of name.now default.entry.now (rows_of (found_of matches.now)) }
+{
+    match matches.get_str(name) {
+        Some(value) => value,
+        None => default,
+    }
+}
+
+// The values of an option.
+fn values_of<'a>(
+    alloc: Global,
+    matches: &ArgMatches<'a>,
+    name: &str,
+) -> Result<Vec<&'a str>, AllocError>
+    ensures { IfOk result (λ values.
+        texts values.items ≡ values_of name.now (rows_of (found_of matches.now))) }
+{
+    match matches.get_strs(name) {
+        Some(values) => Vec::from_slice(alloc, values),
+        None => Ok(Vec::new(alloc)),
+    }
+}
+
+fn listen_in(text: &str) -> Result<SocketAddr, WordsFault>
+    ensures { IfOk result (IsLoopbackText text.now) }
+{
+    match address_in(text) {
+        Some(address) if address.ip().is_loopback() => Ok(address),
+        Some(_) => Err(WordsFault::Bad(BadValue::NotLoopback)),
+        None => Err(WordsFault::Bad(BadValue::Listen)),
+    }
+}
+
+fn check_ports(places: &[Place<'_>], ports: &[Place<'_>]) -> Result<(), WordsFault>
+    ensures ports { OnOk result (have_ports places.now ports.now ≡ true) }
+    ensures no_more { OnOk result (length ports.now ≡ length places.now) }
+{
+    if ports.len() == places.len() && have_ports(places, ports) {
+        Ok(())
+    } else {
+        Err(WordsFault::Bad(BadValue::Operators))
+    }
+}
+
+fn settings_in<'a>(alloc: Global, matches: &ArgMatches<'a>) -> Result<Settings<'a>, WordsFault>
+    ensures { IfOk result (Sets (rows_of (found_of matches.now))) }
+{
+    let listen = listen_in(value_of(matches, "listen", "127.0.0.1:8081"))?;
+    let gateways = values_of(alloc, matches, "gateway")?;
+    let named = gateways.as_slice();
+    if named.is_empty() {
+        return Err(WordsFault::Bad(BadValue::NoGateway));
+    }
+    let Some(refresh) = refresh_in(value_of(matches, "refresh", "30")) else {
+        return Err(WordsFault::Bad(BadValue::Refresh));
+    };
+    let Some(every) = every_in(value_of(matches, "every", "5")) else {
+        return Err(WordsFault::Bad(BadValue::Every));
+    };
+    let users = value_of(matches, "users", "");
+    if users.is_empty() {
+        return Err(WordsFault::Bad(BadValue::NoUsers));
+    }
+    let users = users_in(alloc, users.as_bytes())?;
+    let places = places_in(alloc, named)?;
+    let ports = values_of(alloc, matches, "operators")?;
+    let operators = places_in(alloc, ports.as_slice())?;
+    check_ports(places.as_slice(), operators.as_slice())?;
+    Ok(Settings {
+        listen,
+        places,
+        operators,
+        title: value_of(matches, "title", "nscagate"),
+        refresh,
+        every,
+        hosts: values_of(alloc, matches, "host")?,
+        user_header: value_of(matches, "user-header", "X-Remote-User"),
+        users,
+    })
+}
+
+// The fault of words that clap refuses.
+fn fault_of(error: Error) -> WordsFault {
+    match error.kind() {
+        ErrorKind::OutOfMemory => WordsFault::OutOfMemory,
+        _ => WordsFault::Refused(error),
+    }
+}
+
+/// Reads the words after the program's name, in any spelling that `clap` reads.
+///
+/// `Refused`: clap refuses them, or they ask for help. `Bad`: this value. `OutOfMemory` may be
+/// returned in place of any answer.
+pub fn read_words<'a>(alloc: Global, words: &'a [String]) -> Result<Settings<'a>, WordsFault>
+    ensures { IfOk result (AskFor (map string_bytes words.entry.now)) }
+{
+    let Ok(command) = command_line(alloc) else {
+        return Err(WordsFault::OutOfMemory);
+    };
+    match command.try_get_matches_from(words) {
+        Ok(matches) => settings_in(alloc, &matches),
+        Err(error) => Err(fault_of(error)),
+    }
+}

@@ -1,0 +1,6 @@
+pub mod CommandSteps
+pub mod FaultSteps
+pub mod MarkSteps
+pub mod NoteSteps
+pub mod ResponseSteps
+pub mod ServiceSteps

@@ -1,0 +1,15 @@
+use Rattle.std.proofs.Common.{◌≡◌, true, rules}
+use Rattle.status_reading.specs.Rows.{page_view}
+use Rattle.desk_sending.specs.Orders.{is_asked}
+use Rattle.statusdesk.specs.Kept.{IsKeptOf}
+use Rattle.statusdesk.proofs.CommandSteps.{done_of}
+use Rattle.statusdesk.proofs.commanding.carry_out.Goals as goal
+
+pub returns-in-Ok : goal.returns-in-Ok
+returns-in-Ok g c =
+    let seen = c.args.at.now in
+    let page = page_view c.in-Some.known.now.page in
+    let asked : is_asked seen.place.name.now c.args.form.now.fields ≡ true = search rules in
+    let kept : IsKeptOf seen page = c.in-Some.ensures in
+    done_of c.args.now c.args.form.now seen c.in-Ok.order page c.post_order.result asked kept c.in-Ok.ensures.order
+    c.post_order.ensures

@@ -1,0 +1,9 @@
+use Rattle.std.proofs.Common.{List, drop, ◌++◌}
+use Rattle.statusdesk.specs.declared.commanding.Done.{Done}
+use Rattle.statusdesk.specs.Commanding.{AreDone}
+use Rattle.statusdesk.proofs.commanding.carry_out_all.Given as goal
+
+abbrev pub invariant-loop-at : goal.invariant-loop-at
+invariant-loop-at g l =
+    (more : List Done) → AreDone l.now l.form (drop l.at-index l.pages) more
+    → AreDone l.now l.form l.pages (l.all.items ++ more)

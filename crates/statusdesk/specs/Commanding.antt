@@ -1,0 +1,123 @@
+-- What is answered to a request for `/command` (`IsCommandAnswer`): it is refused, or its form is admitted, and each order
+-- that an outbox takes in is the form's on the page that is kept of that gateway. Own rules.
+use Rattle.std.specs.Prelude.{◌≡◌, ◌⊎◌, ℕ, Bool, true, false, List, [], ◌∷◌, ◌++◌, map, Option, Some, None, Result, Ok, Err, codes, ⊤}
+use Rattle.std.specs.Fmt.{decimal}
+use Rattle.std.specs.List.{list_any}
+use Rattle.http.specs.declared.request.Request.{Request}
+use Rattle.http.specs.Request.{body_of}
+use Rattle.http_server.specs.declared.response.Response.{Response}
+use Rattle.status_reading.specs.Rows.{PageView}
+use Rattle.status_view.specs.Links.{object_link}
+use Rattle.page_watching.specs.declared.watching.Seen.{Seen}
+use Rattle.page_watching.specs.Watching.{seen_place}
+use Rattle.web_answers.specs.Answers.{IsSent}
+use Rattle.desk_guard.specs.declared.guard.Guard.{Guard}
+use Rattle.desk_guard.specs.declared.sent.SentForm.{SentForm}
+use Rattle.desk_guard.specs.declared.refusal.Refusal.TheVariants.{Repeated}
+use Rattle.desk_forms.specs.declared.fields.Field.{Field}
+use Rattle.desk_forms.specs.declared.admitting.AdmitFault.{AdmitFault}
+use Rattle.desk_forms.specs.declared.admitting.AdmitFault.TheVariants as admit
+use Rattle.desk_forms.specs.Fields.{fields_of}
+use Rattle.desk_forms.specs.Sender.{Sender}
+use Rattle.desk_forms.specs.Admitted as admitted
+use Rattle.desk_forms.specs.Admitted.{IsAdmitted, IsRefused}
+use Rattle.desk_forms.specs.Requests as requests
+use Rattle.desk_sending.specs.declared.orders.Objection.TheVariants as objection
+use Rattle.desk_sending.specs.Orders.{is_asked, IsObjection}
+use Rattle.desk_outbox.specs.Labels.{host_in, service_in, IsLabelledOf}
+use Rattle.statusdesk.specs.declared.commanding.Done.{Done}
+use Rattle.statusdesk.specs.declared.commanding.Done.TheVariants.{NotAsked, Objected, Untaken, Taken}
+use Rattle.statusdesk.specs.Responses.{IsRefusedWith, IsSentTo}
+use Rattle.statusdesk.specs.Kept.{IsKeptOf}
+use Rattle.statusdesk.specs.Objects.{DeskView, IsObjectPage}
+
+-- what became of a form at a gateway: what its outbox has taken in is the form's order on the page that is kept of it, by the
+-- form's user; and an objection is to the form on that page
+abbrev pub IsDone : ℕ → Sender → Seen → Done → Type 0
+IsDone clock form seen NotAsked = ⊤
+IsDone clock form seen (Objected why) =
+    (why ≡ objection.OutOfMemory)
+    ⊎ ((page : PageView) × IsKeptOf seen page × IsObjection page (record { 0 = clock }) form why)
+IsDone clock form seen (Untaken fault) = ⊤
+IsDone clock form seen (Taken receipt) =
+    (is_asked seen.place.name.now form.fields ≡ true)
+    × ((page : PageView) × IsKeptOf seen page × IsLabelledOf page (record { 0 = clock }) form receipt)
+
+-- the same of each of these gateways
+abbrev pub AreDone : ℕ → Sender → List Seen → List Done → Type 0
+AreDone clock form [] [] = ⊤
+AreDone clock form (seen ∷ gateways) (done ∷ all) = IsDone clock form seen done × AreDone clock form gateways all
+AreDone clock form gateways all = ⊥
+
+-- ---- the answer
+
+-- the code for what became of it at a gateway that didn't take it: the fault's, Conflict or Service Unavailable
+abbrev pub code_of : Done → Option ℕ
+code_of NotAsked = None
+code_of (Taken receipt) = None
+code_of (Untaken fault) = Some 503
+code_of (Objected (objection.Form fault)) = Some (requests.status_of fault)
+code_of (Objected (objection.Refused body outcome)) = Some 409
+code_of (Objected (objection.Unwritable body)) = Some 409
+code_of (Objected objection.OutOfMemory) = Some 503
+
+-- that of the first
+abbrev pub first_code : List Done → Option ℕ
+first_code [] = None
+first_code (done ∷ all) = elim (code_of done) [ Some code ↦ Some code | None ↦ first_code all ]
+
+abbrev pub is_taken : Done → Bool
+is_taken (Taken receipt) = true
+is_taken other = false
+
+-- the page of the object that a form names, and the same after a command of this clock
+abbrev pub link_of : List Field → List ℕ
+link_of fields = object_link (host_in fields) (service_in fields)
+
+abbrev pub location_after : ℕ → List Field → List ℕ
+location_after clock fields = link_of fields ++ codes "&at=" ++ decimal clock
+
+-- the object's page says what became of it
+pub record IsNoted (desk : DeskView) (clock code : ℕ) (form : Sender) (response : Response) : Type 0 where
+  pub notes : List (List ℕ × List ℕ × Bool)
+  pub body : List ℕ
+  pub page : IsObjectPage desk clock form.user (host_in form.fields) (service_in form.fields) notes false body
+  pub sent : IsSent code (codes "text/html; charset=utf-8") body response
+
+abbrev pub IsTakenAnswer : ℕ → Sender → Bool → Response → Type 0
+IsTakenAnswer clock form true response = IsSentTo (location_after clock form.fields) response
+IsTakenAnswer clock form false response = IsRefusedWith 404 response
+
+-- the way to the object's page where each gateway that the form is for has taken it; that page where one hasn't; or a refusal
+-- where it is for none
+abbrev pub Reports : DeskView → ℕ → Sender → List Done → Option ℕ → Response → Type 0
+Reports desk clock form all (Some code) response = IsNoted desk clock code form response
+Reports desk clock form all None response = IsTakenAnswer clock form (list_any is_taken all) response
+
+-- the form was carried out at the gateways
+pub record IsCommanded (desk : DeskView) (clock : ℕ) (form : Sender) (response : Response) : Type 0 where
+  pub seen : List Seen
+  pub all : List Done
+  pub at : map seen_place seen ≡ desk.places
+  pub each : AreDone clock form seen all
+  pub reported : Reports desk clock form all (first_code all) response
+
+-- the answer to a form that isn't admitted; for one that was sent before it is the way to this page
+abbrev pub IsFaultAnswer : List ℕ → AdmitFault → Response → Type 0
+IsFaultAnswer page (admit.Refused Repeated) response = IsSentTo page response
+IsFaultAnswer page fault response = IsRefusedWith (admitted.status_of fault) response
+
+-- the form of a request that is admitted, or why it isn't, where these forms were sent before
+abbrev pub IsTested : Guard → ℕ → Request (List ℕ) → Result Sender AdmitFault → Type 0
+IsTested guard clock request (Ok form) = (sent : List SentForm) × IsAdmitted guard sent request clock form
+IsTested guard clock request (Err fault) = (sent : List SentForm) × IsRefused guard sent request clock fault
+
+-- what is answered to the form that a request is admitted with, or to why it isn't: nothing is sent then
+abbrev pub IsAnswerTo : DeskView → ℕ → Request (List ℕ) → Result Sender AdmitFault → Response → Type 0
+IsAnswerTo desk clock request (Ok form) response = IsCommanded desk clock form response
+IsAnswerTo desk clock request (Err fault) response = IsFaultAnswer (link_of (fields_of (body_of request))) fault response
+
+abbrev pub IsCommandAnswer : DeskView → ℕ → Request (List ℕ) → Response → Type 0
+IsCommandAnswer desk clock request response =
+    (tested : Result Sender AdmitFault) × IsTested desk.guard clock request tested
+    × IsAnswerTo desk clock request tested response

@@ -1,0 +1,10 @@
+pub mod Fault
+pub mod Responses
+pub mod Notes
+pub mod Kept
+pub mod Objects
+pub mod Commanding
+pub mod Marks
+pub mod Marking
+pub mod Service
+pub mod inner

@@ -1,0 +1,3 @@
+-- For proofs and private functions alone.
+pub mod Carrying
+pub mod Repeating

@@ -1,0 +1,111 @@
+//! The page of an object.
+ghost use Rattle.std.specs.Prelude.{◌≡◌, map, IfOk, IfSome};
+ghost use Rattle.status_reading.specs.Rows.{page_view};
+ghost use Rattle.statusdesk.specs.Notes.{note_view};
+ghost use Rattle.statusdesk.specs.Kept.{IsKeptOf};
+ghost use Rattle.statusdesk.specs.Objects.{desk_view, IsObjectPage};
+
+use crate::pages::ReadPage;
+use crate::service::Desk;
+use desk_view::{DeskPage, FormOf, Note, ShownAt, desk_page, shows};
+use page_watching::Seen;
+use status_reading::{ReadFault, StatusPage, read_status_page};
+use std::alloc::{AllocError, Global};
+use std::sync::atomic::Ordering;
+
+/// A gateway whose page shows an object.
+#[derive(Drop)]
+pub struct Known<'t> {
+    pub name: &'t str,
+    pub page: StatusPage<'t>,
+}
+
+/// An object, as the status page spells it.
+#[derive(Clone, Copy)]
+pub struct Named<'a> {
+    pub host: &'a [u8],
+    pub service: &'a [u8],
+}
+
+/// The page that is kept of a gateway, if one is.
+pub fn page_of<'t>(alloc: Global, seen: &'t Seen<'t>) -> Result<Option<Known<'t>>, AllocError>
+    ensures { IfOk result (λ found. IfSome found (λ known. IsKeptOf seen.now (page_view known.page))) }
+{
+    let Some(kept) = &seen.memory.last else {
+        return Ok(None);
+    };
+    match read_status_page(alloc, kept.page.text.text.as_slice()) {
+        Ok(page) => Ok(Some(Known {
+            name: seen.place.name,
+            page,
+        })),
+        Err(ReadFault::OutOfMemory) => Err(AllocError),
+        Err(ReadFault::NoStatus | ReadFault::BadLine(_) | ReadFault::BadRow(..)) => Ok(None),
+    }
+}
+
+/// The pages that are kept of the gateways, each read once.
+pub fn pages_of<'t>(alloc: Global, seen: &'t [Seen<'t>]) -> Result<Vec<ReadPage<'t>>, AllocError>
+    ensures { IfOk result (λ pages. pages.items ≡ seen.entry.now) }
+{
+    let mut pages = Vec::with_capacity(alloc, seen.len())?;
+    for one in seen {
+        pages.push(ReadPage::new(alloc, one)?)?;
+    }
+    Ok(pages)
+}
+
+/// The gateways that show an object.
+pub fn known_of<'t>(
+    alloc: Global,
+    seen: &'t [Seen<'_>],
+    named: Named<'_>,
+) -> Result<Vec<Known<'t>>, AllocError> {
+    let mut all = Vec::new(alloc);
+    for one in seen {
+        match page_of(alloc, one)? {
+            Some(known) if shows(known.page.objects.as_slice(), named.host, named.service) =>
+                all.push(known)?,
+            _ => {}
+        }
+    }
+    Ok(all)
+}
+
+/// The page of an object for a user, with these notes.
+pub fn object_body<R>(
+    desk: &Desk<'_, R>,
+    now: u32,
+    user: &[u8],
+    named: Named<'_>,
+    known: &[Known<'_>],
+    notes: &[Note<'_>],
+    again: bool,
+) -> Result<Vec<u8>, AllocError>
+    ensures { IfOk result (λ body. IsObjectPage (desk_view desk.now) now user.now
+        named.entry.host.now named.entry.service.now (map note_view notes.now) again body.items) }
+{
+    let alloc = desk.site.alloc;
+    let mut gateways = Vec::with_capacity(alloc, known.len())?;
+    for one in known {
+        gateways.push(ShownAt {
+            name: one.name,
+            page: &one.page,
+        })?;
+    }
+    let token = desk.guard.token(alloc, user, now)?;
+    let page = DeskPage {
+        title: desk.site.heading.title,
+        user,
+        of: FormOf {
+            token: token.as_str(),
+            page: desk.pages.fetch_add(1, Ordering::SeqCst),
+            host: named.host,
+            service: named.service,
+        },
+        again,
+        notes,
+        gateways: gateways.as_slice(),
+    };
+    Ok(desk_page(alloc, page)?.into_bytes())
+}
