@@ -56,7 +56,7 @@ def ask(port, path):
 
 def pages(program):
     process, port = start(program, status_page(16384))
-    for path in ['/', '/?state=problems', '/status.json', '/metrics']:
+    for path in ['/', '/?output=LOAD&page=2', '/?state=problems', '/status.json', '/metrics']:
         ask(port, path)
         best = 10.0
         for _ in range(8):

@@ -23,7 +23,6 @@ TIME_LIMIT = 20  # seconds, for one console block
 
 # What documents name in backticks and this tree hasn't, and whose it is.
 EXCEPTIONS = {
-    "Note::again": "the kit's crate once_cell",
     "data_packet": "NSCA", "init_packet_struct": "NSCA", "send_nsca.cfg": "NSCA", "--single": "NSCA", "--legacy-2-7-mode": "NSCA",
     "/etc/nftables.conf": "nftables", "cubic": "Linux", "netbase": "Debian", "tokio": "its own crate",
 }
@@ -32,14 +31,14 @@ FOREIGN_PROGRAMS = {"rt", "send_nsca"}
 # Commands that can't run here, and why: a block that has one of them is skipped. So is one of root, with the prompt '# '.
 SKIPPED_COMMANDS = [
     (r"\bserve --config (?!nothing)", "a daemon on its ports"),
-    (r"\bsend_nsca\b|\bnc -|\bcurl\b|\bnscagate-(check|stop|restore)\b|\bnscagatectl (?!--)|\bstatusweb --gateway", "a gateway"),
+    (r"\bsend_nsca\b|\bnc -|\bcurl\b|\bnscagate-(check|stop|restore)\b|\bnscagatectl (?!--)|\bstatus(web|desk) --gateway", "a gateway"),
     (r"^\./package\b|\bgit\b", "the history of this tree"),
     (r"\bbenchmarks/", "a machine with nothing else to do"),
     (r"\brt \w|^\./check\b", "the prover"),
 ]
 
 # The programs, and the crate that reads the words of each.
-PROGRAMS = {"nscagate": "gate_words", "nscagatectl": "operator_words", "statusweb": "statusweb"}
+PROGRAMS = {"nscagate": "gate_words", "nscagatectl": "operator_words", "statusweb": "statusweb", "statusdesk": "desk_words"}
 HELPERS = ("nscagate-stop", "nscagate-restore", "nscagate-check", "nscagate-watch")
 
 
@@ -132,9 +131,10 @@ def options_of_programs():
         found[name] = set(re.findall(r"--[a-z][a-z0-9-]*", read(path)))
     for name, crate in PROGRAMS.items():
         text = "".join(read(path) for path in glob.glob(f"crates/{crate}/src/*.rt"))
-        found[name] = {f"--{option}" for option in re.findall(r'\b(?:option|flag|long)\(\s*(?:alloc,\s*)?"([a-z-]+)"', text)}
+        found[name] = {f"--{option}" for option in re.findall(r'\b(?:option|list|flag|long)\(\s*(?:alloc,\s*)?"([a-z-]+)"', text)}
     found["nscagatectl"].update(("--help", "--version"))
-    found["statusweb"].add("--help")
+    for name in ("statusweb", "statusdesk"):
+        found[name].add("--help")
     return found
 
 
@@ -170,7 +170,8 @@ def has_installed_path(tree, name):
     """A path of a machine that has the package, or of a web server: its last name or all of it is written somewhere."""
     name = name.rstrip("/")
     base = os.path.basename(name)
-    texts = [path for path in tree.paths if path.startswith(("packaging/", "examples/", "crates/statusweb/src/"))]
+    folders = ("packaging/", "examples/", "crates/statusweb/src/", "crates/statusdesk/src/")
+    texts = [path for path in tree.paths if path.startswith(folders)]
     return not base or base in tree.words or has_path(tree, base) or any(
         name in read(path) for path in ["package", *texts] if os.path.isfile(path))
 

@@ -115,7 +115,7 @@ def play_texts(operator):
 
 def play_words(operator, program):
     for words in ([], ["ack"], ["ack", "web1"], ["acknowledge", "web1"], ["cancel"], ["status", "--quickly"], ["test-config"],
-                  ["watch", "x"]):
+                  ["watch", "x"], ["log"]):
         status, output, errors = run(program, *words)
         check(f"bad words {words}", (status, output, errors != ""), (2, "", True))
     for words in (["--help"], ["ack", "--help"], ["--version"]):
@@ -275,8 +275,8 @@ def unknown(text):
     return 3, f"NSCAGATE UNKNOWN - {text}\n", ""
 
 
-COUNTS = "3 objects, 2 problems, 1 unhandled, 0 stale"
-FIGURES = "'{0} problems'=2 '{0} unhandled'=1 '{0} stale'=0"
+COUNTS = "3 objects, 2 problems, 0 unhandled, 0 stale"
+FIGURES = "'{0} problems'=2 '{0} unhandled'=0 '{0} stale'=0"
 
 
 def play_checks(operator, program, daemon, folder):
@@ -365,6 +365,100 @@ def play_tests_of_configurations(program, folder):
             check(f"the daemon's fault {found}", run(sys.argv[1], "serve", "--config", path)[0], 2)
     check("no configuration to test", run(program, "test-config", path + ".none"),
           (2, "", "nscagatectl: the configuration can't be read\n"))
+
+
+ADDRESSES = "agents 127.0.0.1:5667\noperators 127.0.0.1:5668\npages 127.0.0.1:5669\n"
+DAY = """log 6
+[100] 1:1 PROCESS_HOST_CHECK_RESULT;web1;0;up -> Accepted
+[101] 1:2 PROCESS_SERVICE_CHECK_RESULT;web2;HTTP;0;caf\xe9 \\x07 \\\\ -> NoSuchHost
+[102] 2:1 PROCESS_HOST_CHECK_RESULT;web1;0;up -> PassiveDisabled
+[103] 1:3 PROCESS_HOST_CHECK_RESULT;web3;0;up -> NoSuchHost
+[104] 1:4 PROCESS_HOST_CHECK_RESULT;web2;2;caf\xe9 \\x07 \\\\ -> NoSuchHost
+[105] 3:1 DEL_HOST_COMMENT;17 -> NoSuchComment
+"""
+
+
+def play_logs(program, folder, printed):
+    """What a daemon's log page comes to, also since a moment and as JSON; and files that have none."""
+    path = os.path.join(folder, "day")
+
+    def log(text, *words):
+        with open(path, "w", encoding="latin-1") as file:
+            file.write(text)
+        return run(program, "log", path, *words)
+
+    records = printed.splitlines()[1:]
+    refused = [line for line in records if not line.endswith(" -> Accepted")]
+    status, output, errors = log(ADDRESSES + printed)
+    counts, rows = output.splitlines()[:3], output.splitlines()[3:]
+    check("a daemon's log", (status, counts, errors),
+          (0, [f"records {len(records)}", f"Accepted {len(records) - len(refused)}", f"PassiveDisabled {len(refused)}"], ""))
+    check("its refusals", (sum(int(row.split()[0]) for row in rows), {row.split(" ", 1)[1] for row in rows} <= set(refused)),
+          (len(refused), True))
+    lines = DAY.splitlines(keepends=True)
+    check("refusals by reason and host", log(ADDRESSES + DAY),
+          (0, "records 6\nAccepted 1\nNoSuchHost 3\nPassiveDisabled 1\nNoSuchComment 1\n"
+           + "2 " + lines[5] + "1 " + lines[4] + "1 " + lines[3] + "1 " + lines[6], ""))
+    check("since a moment", log(DAY, "--since=104"), (0, "records 2\nNoSuchHost 1\nNoSuchComment 1\n1 " + lines[5] + "1 " + lines[6], ""))
+    check("since a later moment", log(DAY, "--since=106"), (0, "records 0\n", ""))
+    check("the last of two runs", log(ADDRESSES + DAY + ADDRESSES + "log 0\n"), (0, "records 0\n", ""))
+    status, output, errors = log(DAY, "--json", "--since", "101")
+    counts, *refusals = [json.loads(line) for line in output.splitlines()]
+    check("its counts in JSON", (status, {name: count for name, count in counts.items() if count}, len(counts), errors),
+          (0, {"records": 5, "NoSuchHost": 3, "PassiveDisabled": 1, "NoSuchComment": 1}, 14, ""))
+    check("its refusals in JSON", [tuple(one.values())[:-1] for one in refusals],
+          [("NoSuchHost", "web2", 2, 104, 1, 4), ("NoSuchHost", "web3", 1, 103, 1, 3), ("PassiveDisabled", "web1", 1, 102, 2, 1),
+           ("NoSuchComment", None, 1, 105, 3, 1)])
+    check("the members of a refusal", list(refusals[0]), ["outcome", "host", "count", "moment", "client", "number", "command"])
+    check("a command in JSON", refusals[0]["command"].encode("latin-1").decode(),
+          "PROCESS_HOST_CHECK_RESULT;web2;2;caf\ufffd \x07 \\")
+    for name, text, cause in (("a foreign file", "220 mail\r\n", "there is no log page in it"),
+                              ("a page of no number", "log x\n", "there is no log page in it"),
+                              ("an empty file", "", "there is no log page in it"),
+                              ("a line that is cut off", DAY[:-5], "its log page: line 7 is missing or cut off"),
+                              ("a line that is missing", DAY[:-len(lines[6])], "its log page: line 7 is missing or cut off"),
+                              ("a foreign line", DAY.replace(" -> Accepted", ""), "its log page: line 2 is no line of a log page"),
+                              ("one line too many", DAY + "x\n", "its log page: line 8 is one too many")):
+        check(name, log(text), (2, "", f"nscagatectl: {path}: {cause}\n"))
+    check("a moment that is none", log(DAY, "--since=noon"), (2, "", "nscagatectl: a time is in seconds since 1970\n"))
+    with open("/dev/full", "wb") as full:
+        ran = subprocess.run([program, "log", path], stdout=full, stderr=subprocess.PIPE, timeout=TIME_LIMIT, check=False)
+    check("a summary and a full output", (ran.returncode, ran.stderr), (3, b"nscagatectl: the output can't be written\n"))
+    os.remove(path)
+    check("no file", run(program, "log", path), (2, "", f"nscagatectl: {path}: it can't be read\n"))
+
+
+def play_a_daily_mail(program, folder):
+    """What examples/daily-mail prints of the logs of a day's runs."""
+    logs, commands = os.path.join(folder, "logs"), os.path.join(folder, "commands")
+    os.mkdir(logs)
+    os.mkdir(commands)
+    os.symlink(program, os.path.join(commands, "nscagatectl"))
+
+    def mail():
+        words = ["sh", "examples/daily-mail/refused.sh", logs]
+        ran = subprocess.run(words, stdin=subprocess.DEVNULL, capture_output=True, timeout=TIME_LIMIT, check=False,
+                             env={"PATH": commands + ":" + os.environ["PATH"]})
+        return ran.stdout.decode("latin-1"), ran.stderr.decode("latin-1")
+
+    def write(name, text, days=0):
+        path = os.path.join(logs, name)
+        with open(path, "w", encoding="latin-1") as file:
+            file.write(text)
+        os.utime(path, (time.time() - days * 86400,) * 2)
+        return path
+
+    accepted = "log 1\n" + DAY.splitlines()[1] + "\n"
+    check("no log", mail(), ("", ""))
+    write("log-20261127-040000", ADDRESSES + accepted)
+    write("log-20261126-040000", DAY, days=2)
+    write("log-20261127-050000.gz", DAY)
+    write("log", DAY)
+    check("nothing was refused", mail(), ("", ""))
+    path = write("log-20261127-060000", ADDRESSES + DAY)
+    check("what was refused", mail(), (f"{path}:\n" + run(program, "log", path)[1], ""))
+    write("log-20261127-060000", DAY[:-5])
+    check("a log that is cut off", mail(), ("", f"nscagatectl: {path}: its log page: line 7 is missing or cut off\n"))
 
 
 def play_watching(program, folder):
@@ -534,6 +628,8 @@ def main():
         check("the daemon's end", (status, errors), (0, ""))
         check("what was refused by its page was not sent",
               sorted(set(re.findall(r"-> (\w+)$", output, re.MULTILINE))), ["Accepted", "PassiveDisabled"])
+        play_logs(program, folder, output)
+        play_a_daily_mail(os.path.abspath(program), folder)
         play_a_full_log(program, folder)
         play_tests_of_configurations(program, folder)
         play_watching(program, folder)

@@ -1,5 +1,5 @@
-"""A gateway after stunnel, sshd and nginx, with the files of examples/: python3 security_test.py NSCAGATE STATUSWEB EXAMPLES.
-Ends with a line 'N passed, M failed'."""
+"""A gateway after stunnel, sshd and nginx, with the files of examples/: python3 security_test.py NSCAGATE STATUSWEB STATUSDESK
+EXAMPLES. Ends with a line 'N passed, M failed'."""
 import base64
 import getpass
 import gzip
@@ -14,8 +14,10 @@ import subprocess
 import sys
 import tempfile
 import time
+import urllib.parse
 
 from daemon_clients import CONFIGURATION, TIME_LIMIT, Daemon, check, end_tests, free_port, read_all, read_exactly
+from desk_clients import hidden_fields
 
 ENDED = []  # processes to end
 
@@ -194,37 +196,25 @@ PasswordAuthentication no
     check("a command over ssh", (status != 0, "a shell" in printed), (True, False))
 
 
-def get(port, path, user=None, certificate_file=None, method="GET"):
-    """The status of a request, its text, where it leads, and how it is compressed; over TLS where a certificate is given."""
-    headers = {"Accept-Encoding": "gzip"}
-    if user:
-        headers["Authorization"] = "Basic " + base64.b64encode(user.encode()).decode()
-    if certificate_file:
-        context = ssl.create_default_context(cafile=certificate_file)
-        client = http.client.HTTPSConnection("status.example.com", port, timeout=10, context=context)
-        client._create_connection = lambda address, *rest: socket.create_connection(("127.0.0.1", port), 10)
-    else:
-        client = http.client.HTTPConnection("127.0.0.1", port, timeout=10)
-    client.request(method, path, headers=headers)
-    answer = client.getresponse()
-    body, coding = answer.read(), answer.getheader("content-encoding")
-    if coding == "gzip":
-        body = gzip.decompress(body)
-    return answer.status, body.decode("utf-8", "replace"), answer.getheader("location"), coding
+class Site:
+    """A web program after nginx, by this file of examples/, whose certificate and users have this name."""
 
-
-def test_pages(daemon, statusweb, folder, examples):
-    certificate(folder, "status", "status.example.com")
-    web, secure, plain = free_port(), free_port(), free_port()
-    users = run("openssl", "passwd", "-apr1", "good word")[1].strip()
-    write(folder, "status.users", f"ann:{users}\n")
-    site = replaced(read(f"{examples}/nginx.conf"), ("listen 443 ssl;", f"listen 127.0.0.1:{secure} ssl;"),
-                    ("listen 80;", f"listen 127.0.0.1:{plain};"), ("    listen [::]:443 ssl;\n", ""),
-                    ("    listen [::]:80;\n", ""), ("/etc/nginx/", folder + "/"), ("127.0.0.1:8080", f"127.0.0.1:{web}"))
-    user = "user root;\n" if os.geteuid() == 0 else ""
-    path = write(folder, "nginx.conf", f"""\
-{user}pid {folder}/nginx.pid;
-error_log {folder}/nginx.error;
+    def __init__(self, folder, example, name, users, program, *words):
+        self.host = name + ".example.com"
+        self.pem = f"{folder}/{name}.pem"
+        certificate(folder, name, self.host)
+        write(folder, name + ".users", "".join(
+            f"{user}:{run('openssl', 'passwd', '-apr1', password)[1].strip()}\n" for user, password in users))
+        web, self.secure, self.plain = free_port(), free_port(), free_port()
+        site = replaced(read(example), ("listen 443 ssl;", f"listen 127.0.0.1:{self.secure} ssl;"),
+                        ("listen 80;", f"listen 127.0.0.1:{self.plain};"), ("    listen [::]:443 ssl;\n", ""),
+                        ("    listen [::]:80;\n", ""), ("/etc/nginx/", folder + "/"))
+        site, count = re.subn(r"(?<=proxy_pass http://127\.0\.0\.1:)\d+", str(web), site)
+        check(f"the file of {name} leads to a program", count, 1)
+        user = "user root;\n" if os.geteuid() == 0 else ""
+        path = write(folder, name + ".conf", f"""\
+{user}pid {folder}/{name}.pid;
+error_log {folder}/{name}.error;
 daemon off;
 events {{}}
 http {{
@@ -236,26 +226,84 @@ uwsgi_temp_path {folder};
 scgi_temp_path {folder};
 {site}}}
 """)
-    check("nginx takes the file", run("nginx", "-t", "-q", "-c", path), (0, ""))
-    begin(folder, "statusweb", statusweb, "--listen", f"127.0.0.1:{web}", "--gateway",
-          f"east=127.0.0.1:{daemon.ports['pages']}")
-    begin(folder, "nginx", "nginx", "-c", path)
-    check("statusweb and nginx serve", (listens(web), listens(secure)), (True, True))
-    pem = f"{folder}/status.pem"
-    check("without a password", get(secure, "/", None, pem)[0], 401)
-    check("metrics without a password", get(secure, "/metrics", None, pem)[0], 401)
-    check("a wrong password", get(secure, "/", "ann:bad word", pem)[0], 401)
+        check(f"nginx takes the file of {name}", run("nginx", "-t", "-q", "-c", path), (0, ""))
+        begin(folder, name + ".program", program, "--listen", f"127.0.0.1:{web}",
+              *[word.replace("PORT", str(self.secure)) for word in words])
+        begin(folder, name + ".nginx", "nginx", "-c", path)
+        check(f"{name} and nginx serve", (listens(web), listens(self.secure)), (True, True))
+
+    def ask(self, path, user=None, method="GET", body=None, secure=True, pem=None, **fields):
+        """The status of a request, its text, where it leads, and how it is compressed."""
+        fields = {"Accept-Encoding": "gzip", **{name.replace("_", "-"): value for name, value in fields.items()}}
+        if user:
+            fields["Authorization"] = "Basic " + base64.b64encode(user.encode()).decode()
+        if secure:
+            context = ssl.create_default_context(cafile=pem or self.pem)
+            client = http.client.HTTPSConnection(self.host, self.secure, timeout=10, context=context)
+            client._create_connection = lambda address, *rest: socket.create_connection(("127.0.0.1", self.secure), 10)
+        else:
+            client = http.client.HTTPConnection("127.0.0.1", self.plain, timeout=10)
+        client.request(method, path, body, headers=fields)
+        answer = client.getresponse()
+        text, coding = answer.read(), answer.getheader("content-encoding")
+        if coding == "gzip":
+            text = gzip.decompress(text)
+        return answer.status, text.decode("utf-8", "replace"), answer.getheader("location"), coding
+
+    def check_doors(self, folder):
+        """Nobody comes in without TLS, the right server and a password."""
+        for path in ("/", "/metrics", "/object?host=web1", "/command"):
+            check(f"{self.host}{path} without a password", self.ask(path)[0], 401)
+        check(f"{self.host}: a wrong password", self.ask("/", "ann:bad word")[0], 401)
+        check(f"{self.host}: without TLS", self.ask("/", "ann:good word", secure=False)[::2], (301, "https://127.0.0.1/"))
+        certificate(folder, "other", self.host)
+        try:
+            found = self.ask("/", "ann:good word", pem=f"{folder}/other.pem")
+        except OSError as error:
+            found = type(error).__name__
+        check(f"{self.host}: a server with another certificate", found, "SSLCertVerificationError")
+
+
+def test_pages(daemon, statusweb, folder, examples):
+    site = Site(folder, f"{examples}/nginx.conf", "status", [("ann", "good word")], statusweb,
+                "--gateway", f"east=127.0.0.1:{daemon.ports['pages']}")
+    site.check_doors(folder)
     for path in ("/", "/status.json"):
-        status, text, _, coding = get(secure, path, "ann:good word", pem)
+        status, text, _, coding = site.ask(path, "ann:good word")
         check(f"{path} with the password, compressed", (status, "web1" in text, coding), (200, True, "gzip"))
-    check("another method", get(secure, "/", "ann:good word", pem, "POST")[0], 403)
-    check("without TLS", get(plain, "/", "ann:good word")[::2], (301, "https://127.0.0.1/"))
-    certificate(folder, "other", "status.example.com")
-    try:
-        found = get(secure, "/", "ann:good word", f"{folder}/other.pem")
-    except OSError as error:
-        found = type(error).__name__
-    check("a server with another certificate", found, "SSLCertVerificationError")
+    check("another method", site.ask("/", "ann:good word", "POST")[0], 403)
+
+
+def test_forms(daemon, statusdesk, folder, examples):
+    site = Site(folder, f"{examples}/nginx-desk.conf", "desk", [("ann", "good word"), ("bob", "bob's"), ("carol", "carol's")],
+                statusdesk, "--gateway", f"east=127.0.0.1:{daemon.ports['pages']}", "--operators",
+                f"east=127.0.0.1:{daemon.ports['operators']}", "--users", "ann,bob",
+                "--host", "desk.example.com", "--host", "desk.example.com:PORT")
+    site.check_doors(folder)
+    passwords = {"ann": "ann:good word", "bob": "bob:bob's", "carol": "carol:carol's"}
+    daemon.page_with("web1")
+    named = urllib.parse.urlencode({"host": "web1", "service": ""})
+
+    def page(user, **fields):
+        return site.ask("/object?" + named, passwords[user], **fields)
+
+    def post(user, form, **fields):
+        fields = {"Origin": f"https://{site.host}:{site.secure}", "Content_Type": "application/x-www-form-urlencoded", **fields}
+        return site.ask("/command", passwords[user], "POST", urllib.parse.urlencode(form), **fields)[0]
+
+    check("who may send commands", [page(user)[0] for user in passwords], [200, 200, 403])
+    check("the status page is for all with a password", site.ask("/", passwords["carol"])[0], 200)
+    status, text, _, coding = page("ann", X_Remote_User="bob")
+    check("a page of the password's user, not compressed", (status, ", as ann" in text, coding), (200, True, None))
+    form = {**hidden_fields(text), "action": "comment", "text": "over nginx"}
+    check("a form of a foreign page", post("ann", form, Origin="https://evil.example"), 403)
+    check("a form with the token of another", post("bob", form), 403)
+    check("the same, with a user of the browser's own", post("bob", form, X_Remote_User="ann"), 403)
+    check("a form of a megabyte", post("ann", {**form, "more": "x" * (1 << 20)}), 413)
+    check("another method", site.ask("/", passwords["ann"], "PUT")[0], 403)
+    check("none of these sent anything", "over nginx" in daemon.page(), False)
+    check("a form", post("ann", form), 303)
+    check("its comment, on the daemon's page", ";ann;over nginx" in daemon.page_with(";ann;over nginx"), True)
 
 
 def missing_of(*tools):
@@ -263,11 +311,12 @@ def missing_of(*tools):
 
 
 def main():
-    nscagate, statusweb, examples = (os.path.abspath(word) for word in sys.argv[1:4])
+    nscagate, statusweb, statusdesk, examples = (os.path.abspath(word) for word in sys.argv[1:])
     check(f"{nscagate} is built", os.access(nscagate, os.X_OK), True)
     parts = (("agents over stunnel", ("stunnel4", "openssl", "send_nsca"), test_agents, ()),
              ("operators over ssh", ("sshd", "ssh", "ssh-keygen"), test_operators, ()),
-             ("pages after nginx", ("nginx", "openssl"), test_pages, (statusweb,)))
+             ("pages after nginx", ("nginx", "openssl"), test_pages, (statusweb,)),
+             ("forms after nginx", ("nginx", "openssl"), test_forms, (statusdesk,)))
     with tempfile.TemporaryDirectory() as folder:
         os.chdir(folder)
         daemon = Daemon(nscagate, folder, CONFIGURATION)
@@ -278,8 +327,9 @@ def main():
                 if missing:
                     print(f"{name} ... skipped: {missing} is not installed")
                 else:
-                    os.mkdir(os.path.join(folder, tools[0]))
-                    part(daemon, *more, os.path.join(folder, tools[0]), examples)
+                    part_folder = os.path.join(folder, name.replace(" ", "-"))
+                    os.mkdir(part_folder)
+                    part(daemon, *more, part_folder, examples)
         finally:
             for process in reversed(ENDED):
                 process.send_signal(signal.SIGTERM)

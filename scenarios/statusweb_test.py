@@ -1,6 +1,7 @@
 """Tests of the program statusweb over gateways that this file plays."""
 import concurrent.futures
 import email.utils
+import hashlib
 import html
 import html.parser
 import http.client
@@ -20,6 +21,8 @@ import threading
 import time
 import urllib.parse
 import xml.etree.ElementTree
+
+from played_gateways import Port, shows
 
 PROGRAM = sys.argv[1]
 passed = failed = 0
@@ -52,40 +55,6 @@ def free_port():
             except OSError:
                 continue
             return port
-
-
-class Gateway:
-    """Serves what `answer(connection)` writes, a thread for each connection; counts connections."""
-
-    def __init__(self, answer):
-        self.count = 0
-        self.listener = socket.socket()
-        self.listener.bind(('127.0.0.1', 0))
-        self.listener.listen(64)
-        self.port = self.listener.getsockname()[1]
-        self.answer = answer
-        threading.Thread(target=self.run, daemon=True).start()
-
-    def run(self):
-        while True:
-            try:
-                connection, _ = self.listener.accept()
-            except OSError:
-                return
-            self.count += 1
-            threading.Thread(target=self.serve, args=(connection,), daemon=True).start()
-
-    def serve(self, connection):
-        try:
-            self.answer(connection)
-        except OSError:
-            pass
-        connection.close()
-
-
-def shows(text):
-    """A gateway whose page is this text, or what this function returns."""
-    return Gateway(lambda connection: connection.sendall(text() if callable(text) else text))
 
 
 def endless(connection):
@@ -266,11 +235,11 @@ def test_faults(now):
     good = shows(east(now))
     cut = shows(east(now)[:-20])
     http_one = shows(b'HTTP/1.1 400 Bad Request\r\n\r\n')
-    mute = Gateway(lambda connection: time.sleep(60))
+    mute = Port(lambda connection: time.sleep(60))
     still = shows(east(now - 120))
     closing = shows(lambda: east(now) + b'closing;%d\n' % now)
-    with Web(('good', good.port), ('down', free_port()), ('mute', mute.port), ('endless', Gateway(endless).port),
-             ('dripping', Gateway(dripping).port), ('cut', cut.port), ('http', http_one.port),
+    with Web(('good', good.port), ('down', free_port()), ('mute', mute.port), ('endless', Port(endless).port),
+             ('dripping', Port(dripping).port), ('cut', cut.port), ('http', http_one.port),
              ('empty', shows(b'').port), ('still', still.port), ('closing', closing.port)) as web:
         began = time.time()
         page, read, metrics = at_once(lambda: web.text('/'), web.json, lambda: web.text('/metrics'))
@@ -472,14 +441,91 @@ def test_tiles(now):
     with Web(('east', shows(page).port)) as web:
         text = web.text('/?host=a&refresh=0').decode()
         tiles = re.findall('<a class="tile [^>]* href="([^"]*)"><b>([0-9]+)</b> ([a-z]+)', text)
-        wanted = dict(unhandled=5, stale=2, pending=2, objects=9, down=1, unreachable=1, up=1, critical=1, warning=1,
+        wanted = dict(unhandled=2, stale=2, pending=2, objects=9, down=1, unreachable=1, up=1, critical=1, warning=1,
                       unknown=1, ok=1)
         test('the tiles', {name: int(number) for _, number, name in tiles} == wanted, tiles)
         for link, number, name in tiles:
             shown = web.text(html.unescape(link))
             test(f'the tile {name}', f'</h2>{number} of 9 shown' in shown.decode() and b'http-equiv' not in shown, shown[:2000])
-        test('the title counts what needs attention', '<title>(6) nscagate' in text, text[:400])
-        test('the rows that do not are dimmed', text.count('<tr class="') == 5 and text.count(' handled"') == 1, text)
+        test('the title counts what needs attention', '<title>(3) nscagate' in text, text[:400])
+        test('the rows that do not are dimmed', text.count('<tr class="') == 5 and text.count(' handled"') == 4, text)
+
+
+# What a query selects of the two gateways below, in the order of the list.
+QUERIES = {
+    '': 'db web1/HTTP web2/ssh web2 web1/disk web1',
+    'host=WEB': 'web1/HTTP web2/ssh web2 web1/disk web1',
+    'host=eb2': 'web2/ssh web2',
+    'service=http': 'web1/HTTP',
+    'service=s': 'web2/ssh web1/disk',
+    'output=disk+full': 'web2/ssh',
+    'gateway=west': 'db web2/ssh web2',
+    'gateway=wes': '',
+    'gateway=WEST': '',
+    'acknowledged=yes': 'web1/HTTP',
+    'acknowledged=NO&state=problems': 'db web2/ssh',
+    'downtime=Yes': 'web1/HTTP',
+    'downtime=no&host=web1': 'web1/disk web1',
+    'acknowledged=maybe&downtime=': 'db web1/HTTP web2/ssh web2 web1/disk web1',
+    'service=HTTP&output=full': '',
+    'state=warning&service=SSH&gateway=west&acknowledged=no&downtime=no': 'web2/ssh',
+}
+
+
+def shown_in(page):
+    """The objects of a page's list, each as the link of its row names it."""
+    links = re.findall(r'<td class="name"><a href="/object\?host=([^&]*)&amp;service=([^"]*)"', page.decode())
+    return [host + ('/' + service if service else '') for host, service in links]
+
+
+def test_filters(now):
+    """A query selects by names, output, gateway and marks, in any case, on the page and for scripts."""
+    head = b'status %d\n' % now
+    one = head + (b'object;web1;;UP;%d;fresh;-;0;up\n' % now
+                  + b'object;web1;HTTP;CRITICAL;%d;fresh;normal;1;refused\n' % now
+                  + b'object;web1;disk;OK;%d;fresh;-;0;9 %% full\n' % now
+                  + b'downtime;1;web1;HTTP;fixed;0;%d;%d;0;%d;ann;x\n' % (now - 9, now + 99, now - 9))
+    two = head + (b'object;web2;;UP;%d;fresh;-;0;up\n' % now + b'object;web2;ssh;WARNING;%d;fresh;-;0;Disk FULL\n' % now
+                  + b'object;db;;DOWN;%d;fresh;-;0;down\n' % now)
+    with Web(('east', shows(one).port), ('west', shows(two).port)) as web:
+        for query, wanted in QUERIES.items():
+            page = web.text('/?' + query)
+            test(f'the page of {query}', sorted(shown_in(page)) == sorted(wanted.split()), shown_in(page))
+            found = [row['host'] + ('/' + row['service'] if row['service'] else '')
+                     for row in web.json('/status.json?' + query)['objects']]
+            test(f'the same for scripts of {query}', found == shown_in(page), found)
+        folded = [b'<details open>' in web.text('/?' + query)
+                  for query in ['', 'host=a&state=up', 'service=a', 'output=a', 'gateway=a', 'acknowledged=no', 'downtime=yes']]
+        test('filters that select are not folded', folded == [False] * 2 + [True] * 5, folded)
+        text = web.text('/?service=%22%3E%3Cb%3E&acknowledged=no').decode()
+        test('the form keeps what is asked', ' name="service" value="&quot;&gt;&lt;b&gt;"' in text
+             and '<select name="acknowledged"><option>any</option><option>yes</option><option selected>no</option>' in text, text)
+
+
+def test_rows(now):
+    """A list of more than 500 objects has pages, whose links keep the query."""
+    names = [f'host{number:04d}{service}' for number in range(401) for service in ['', '/a', '/b']][:1201]
+    page = f'status {now}\n' + ''.join(
+        f'object;{name.replace("/", ";")};OK;{now};fresh;-;0;x\n' if '/' in name else f'object;{name};;UP;{now};fresh;-;0;x\n'
+        for name in names)
+    with Web(('east', shows(page.encode()).port)) as web:
+        text = web.text('/?host=HOST&refresh=7&downtime=no').decode()
+        test('a page has 500 rows', shown_in(text.encode()) == names[:500] and '</h2>500 of 1201 shown<' in text, text[:2000])
+        links = re.search('<nav class="pages" aria-label="Rows">1201 selected, page (.*)</nav>', text).group(1)
+        others = [html.unescape(link) for link in re.findall('<a href="([^"]*)">', links)]
+        test('the pages are links', re.sub('<a href="[^"]*">', '<a>', links)
+             == '<b aria-current="page">1</b> <a>2</a> <a>3</a>', links)
+        pages = [web.text(link) for link in others]
+        test('they show the rest', [name for other in pages for name in shown_in(other)] == names[500:], others)
+        test('they keep the query', all(b'content="7"' in other and b'value="HOST"' in other
+                                        and b'<b aria-current="page">%d</b>' % number in other
+                                        for number, other in enumerate(pages, 2)), others)
+        test('500 rows are one page', b'class="pages"' not in web.text('/?host=host00')
+             and len(shown_in(web.text('/?host=host00'))) == 300)
+        for query, wanted in [('page=0', 500), ('page=1', 500), ('page=x', 500), ('page=3', 201), ('page=4', 0), ('page=4294967295', 0)]:
+            found = shown_in(web.text('/?' + query))
+            test(f'the rows of {query}', len(found) == wanted, len(found))
+        test('scripts have all in one', len(web.json('/status.json?page=2')['objects']) == 1201)
 
 
 def test_slow_browsers(now):
@@ -648,13 +694,53 @@ def test_requests(now):
                       for answer in (whole, head)]
             test(f'HEAD {path} has the status and the fields of GET, and no body', whole.status == head.status == 200
                  and fields[0] == fields[1] and body == b'', (fields, body))
-        for name, sent, line in [
-                ('HTTP/1.0', b'GET / HTTP/1.0\r\n\r\n', b'HTTP/1.0 200'),
-                ('no host', b'GET / HTTP/1.1\r\n\r\n', b'HTTP/1.1 400'),
-                ('no HTTP', b'status please\r\n\r\n', b'HTTP/1.1 400'),
-                ('a long head', b'GET / HTTP/1.1\r\nA: ' + b'b' * 20000 + b'\r\n\r\n', b'HTTP/1.1 431')]:
-            answer = exchange(web, sent)
-            test(f'a request: {name}', answer.startswith(line), answer[:200])
+        answer = exchange(web, b'GET / HTTP/1.0\r\n\r\n')
+        test('a request of HTTP/1.0', answer.startswith(b'HTTP/1.0 200'), answer[:200])
+        guards = {
+            'connection': 'close', 'content-length': '0', 'cache-control': 'no-store', 'content-security-policy': policy,
+            'x-content-type-options': 'nosniff', 'referrer-policy': 'no-referrer'}
+        for sent, line in [
+                (b'GET / HTTP/1.1\r\n', '400 Bad Request'), (b'status please\r\n', '400 Bad Request'),
+                (b'POST / HTTP/1.1\r\nHost: h\r\nContent-Length: 16385\r\n', '413 Payload Too Large'),
+                (b'GET /' + b'a' * 17000 + b' HTTP/1.1\r\nHost: h\r\n', '414 URI Too Long'),
+                (b'GET / HTTP/1.1\r\nA: ' + b'b' * 20000 + b'\r\n', '431 Request Header Fields Too Large'),
+                (b'POST / HTTP/1.1\r\nHost: h\r\nTransfer-Encoding: gzip, chunked\r\n', '501 Not Implemented')]:
+            first, *lines = exchange(web, sent + b'\r\n').decode().split('\r\n')
+            fields = dict(field.split(': ', 1) for field in lines[:-2])
+            date = email.utils.parsedate_to_datetime(fields.pop('date', 'Thu, 01 Jan 1970 00:00:00 GMT')).timestamp()
+            test(f'a refusal has the fields of every answer: {line}', first == f'HTTP/1.1 {line}' and fields == guards
+                 and lines[-2:] == ['', ''] and abs(date - time.time()) < 5, (first, lines))
+        long = exchange(web, b'POST / HTTP/1.1\r\nHost: h\r\nExpect: 100-continue\r\nTransfer-Encoding: chunked\r\n\r\n'
+                        b'5000\r\n' + b'x' * 0x5000 + b'\r\n0\r\n\r\n').split(b'\r\n')
+        test('a refusal after 100 Continue', long[:3] == [b'HTTP/1.1 100 Continue', b'', b'HTTP/1.1 413 Payload Too Large']
+             and long.count(b'referrer-policy: no-referrer') == 1 and long[-2:] == [b'', b''], long)
+
+
+def test_style(now):
+    with Web(('east', shows(east(now)).port)) as web:
+        response, style = web.ask('/style.css')
+        tag = '"' + hashlib.sha256(style).hexdigest() + '"'
+        test('the style has its tag', response.getheader('etag') == tag, response.getheaders())
+        for value, status in [(tag, 304), ('W/' + tag, 304), (f'"a", {tag}', 304), ('*', 304), (tag.upper(), 200),
+                              (tag[1:-1], 200), ('"a"', 200), (tag[:-2] + '"', 200), ('', 200)]:
+            answer = exchange(web, b'GET /style.css HTTP/1.1\r\nHost: localhost\r\nIf-None-Match: '
+                              + value.encode() + b'\r\n\r\n')
+            head, _, body = answer.partition(b'\r\n\r\n')
+            test(f'If-None-Match: {value[:12]} is {status}', head.startswith(b'HTTP/1.1 %d ' % status)
+                 and body == (style if status == 200 else b'') and f'etag: {tag}'.encode() in head
+                 and b'cache-control: max-age=300' in head and b'nosniff' in head and b'date: ' in head, head)
+
+
+def test_missing_objects(now):
+    with Web(('east', shows(east(now)).port), ('gone', free_port())) as web:
+        for query, status in [('host=web1&service=HTTP', 200), ('host=web1&service=', 200), ('host=web1', 200),
+                              ('host=web1&service=http', 404), ('host=web&service=', 404), ('service=HTTP', 404), ('', 404)]:
+            answer, page = web.ask('/object?' + query)
+            head, _ = web.ask('/object?' + query, 'HEAD')
+            test(f'/object?{query} is {status}', answer.status == head.status == status
+                 and (b'No page of a gateway shows this object.' in page) == (status == 404), page[:900])
+    with Web(('gone', free_port())) as web:
+        test('without a page of any gateway an object is 503', web.ask('/object?host=web1')[0].status == 503)
 
 
 def test_words():
@@ -715,7 +801,7 @@ def samples_of(text):
         if line.startswith('# '):
             continue
         name, labels, number = re.fullmatch(r'([a-z_]+)(?:\{(.*)\})? ([0-9]+)', line).groups()
-        pairs = re.findall(r'([a-z]+)="((?:[^"\\]|\\.)*)"', labels or '')
+        pairs = re.findall(r'([a-z_]+)="((?:[^"\\]|\\.)*)"', labels or '')
         meant = {'\\n': '\n', '\\"': '"', '\\\\': '\\'}
         key = name, tuple((label, re.sub(r'\\.', lambda found: meant[found[0]], value)) for label, value in pairs)
         assert key not in found and ','.join(f'{label}="{value}"' for label, value in pairs) == (labels or ''), line
@@ -815,7 +901,7 @@ def test_browser(now):
         log = run.stderr.decode('utf-8', 'replace')
         test('a browser reports nothing on its console', 'CONSOLE' not in log and 'Content Security' not in log, log)
         rows = [row for row in Tags(run.stdout).rows if row]
-        test('the problem stands first in a browser', bool(rows) and rows[0][0] == 'CRITICAL', rows[:2])
+        test('the problem stands first in a browser', bool(rows) and rows[0][0] == 'DOWN', rows[:2])
 
 
 def main():
@@ -831,7 +917,8 @@ def main():
     now = int(time.time())
     at_once(*[lambda check=check: run(check) for check in [test_words, test_pages, test_names]], *[
         lambda check=check: run(check, now) for check in [
-            test_texts, test_faults, test_old, test_since, test_changes, test_tiles, test_sharing, test_descriptors, test_ends, test_requests, test_browser]])
+            test_texts, test_faults, test_old, test_since, test_changes, test_tiles, test_filters, test_rows, test_sharing, test_descriptors, test_ends, test_requests, test_style,
+            test_missing_objects, test_browser]])
     # What takes the processors for itself.
     run(test_idle_browsers, int(time.time()))
     run(test_slow_browsers, int(time.time()))
