@@ -1,5 +1,5 @@
--- What the query of a URL asks for, of its pairs of names and values: which objects (`asked_in`), which page of them
--- (`page_asked`), and when a browser asks again (`refresh_asked`). Own rules.
+-- What the query of a URL asks for, of its pairs of names and values: which objects (`asked_in`), in which order
+-- (`sort_asked`), which page of them (`page_asked`), and when a browser asks again (`refresh_asked`). Own rules.
 use Rattle.std.specs.Prelude.{ℕ, ◌^◌, Bool, true, false, ◌==◌, ◌&&◌, nat_lt, min, max, if◌then◌else◌, List, [], length, map, filter, Option, Some, None, unwrap_or, codes, string_bytes}
 use Rattle.std.specs.List.{last_or}
 use Rattle.std.specs.Option.{option_map_or}
@@ -12,6 +12,8 @@ use Rattle.gate_model.specs.declared.state.State.TheVariants.{Pending, Ok, Warni
 use Rattle.status_merge.specs.declared.query.Query.{Query}
 use Rattle.status_merge.specs.declared.query.Choice.{Choice}
 use Rattle.status_merge.specs.declared.query.Choice.TheVariants.{All, Problems, Unhandled, Stale, In}
+use Rattle.status_merge.specs.declared.query.Sort.{Sort}
+use Rattle.status_merge.specs.declared.query.Sort.TheVariants.{Worst, Host, Since, Last}
 
 -- ---- words
 
@@ -71,6 +73,21 @@ abbrev pub mark_word : Option Bool → List ℕ
 mark_word None = codes "any"
 mark_word (Some true) = codes "yes"
 mark_word (Some false) = codes "no"
+
+-- the word of an order
+abbrev pub sort_word : Sort → List ℕ
+sort_word Worst = codes "worst"
+sort_word Host = codes "host"
+sort_word Since = codes "since"
+sort_word Last = codes "last"
+
+-- the order of a word, in any case; another word asks for that by rank
+abbrev pub sort_of : List ℕ → Sort
+sort_of word =
+    if str_eq_ignore_ascii_case word (codes "host") then Host
+    else if str_eq_ignore_ascii_case word (codes "since") then Since
+    else if str_eq_ignore_ascii_case word (codes "last") then Last
+    else Worst
 
 -- ---- numbers
 
@@ -134,7 +151,10 @@ asked_in pairs = record {
   downtime = option_map_or mark_of (value_of (codes "downtime") pairs) None;
 }
 
--- the number of the page, and the seconds, each with its default
+-- the order, the number of the page, and the seconds, each with its default
+abbrev pub sort_asked : List (List ℕ × List ℕ) → Sort
+sort_asked pairs = option_map_or sort_of (value_of (codes "sort") pairs) Worst
+
 abbrev pub page_asked : List (List ℕ × List ℕ) → ℕ
 page_asked pairs = option_map_or page_of (value_of (codes "page") pairs) 1
 

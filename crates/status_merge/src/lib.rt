@@ -1,5 +1,5 @@
 //! The status pages of several gateways as one list of objects, comments and downtime entries:
-//! merged, counted, and chosen by the query of a request.
+//! merged, counted, and chosen and put into order by the query of a request.
 #![tactic(auto)]
 
 mod counts;
@@ -10,6 +10,7 @@ mod merging;
 mod query;
 mod ranks;
 mod selecting;
+mod sorting;
 
 pub use counts::{Counts, count};
 pub use entries::{
@@ -18,6 +19,7 @@ pub use entries::{
 };
 pub use gateway::{Gateway, MergedObject, Old};
 pub use merging::{age_of, merge};
-pub use query::{Choice, Query, choice_name, mark_name, read_query};
+pub use query::{Choice, Query, Sort, choice_name, mark_name, read_query, sort_name};
 pub use ranks::{is_made, is_unhandled, rank};
 pub use selecting::{page_rows, select};
+pub use sorting::sort_rows;

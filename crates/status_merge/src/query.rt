@@ -2,7 +2,8 @@ ghost use Rattle.std.specs.Prelude.{◌≡◌, IfOk, OnOk, codes, if◌then◌el
 ghost use Rattle.std.specs.Str.{bytes_eq};
 ghost use Rattle.form_urlencoded.specs.Form.{raw_pairs};
 ghost use Rattle.status_merge.specs.declared.query.Choice.TheVariants.{All};
-ghost use Rattle.status_merge.specs.Asking.{choice_word, choice_of, state_of, mark_word, mark_of, number_of, in_range, refresh_of, page_of, asked_in, asked_by, only, page_asked, refresh_asked};
+ghost use Rattle.status_merge.specs.declared.query.Sort.TheVariants.{Worst};
+ghost use Rattle.status_merge.specs.Asking.{choice_word, choice_of, state_of, mark_word, mark_of, sort_word, sort_of, number_of, in_range, refresh_of, page_of, asked_in, asked_by, only, sort_asked, page_asked, refresh_asked};
 
 use form_urlencoded::parse;
 use status_reading::State;
@@ -19,6 +20,19 @@ pub enum Choice {
     In(State),
 }
 
+/// In which order objects are shown. Those of which neither is first are by rank.
+#[derive(Clone, Copy, Debug, PartialEq, Eq)]
+pub enum Sort {
+    /// By rank, the most urgent first.
+    Worst,
+    /// By the bytes of the host's name.
+    Host,
+    /// By the moment since when they have their state, the latest first.
+    Since,
+    /// By the moment of the last result, the earliest first, after those without one.
+    Last,
+}
+
 /// What a request asks to see: the objects of which all of this holds.
 #[derive(Debug, Drop)]
 pub struct Query {
@@ -33,6 +47,8 @@ pub struct Query {
     /// Whether it is acknowledged, and whether it is in downtime.
     pub acknowledged: Option<bool>,
     pub downtime: Option<bool>,
+    /// The order of the list of a page for browsers.
+    pub sort: Sort,
     /// The number of the page of 500 objects, from 1.
     pub page: u32,
     /// The seconds after which the browser asks again; 0: it doesn't.
@@ -40,9 +56,10 @@ pub struct Query {
 }
 
 impl Query {
-    /// The first page of all objects.
+    /// The first page of all objects, the most urgent first.
     pub fn new(alloc: Global, refresh: u32) -> Query
         ensures asked { asked_by result ≡ only All }
+        ensures sort { result.sort ≡ Worst }
         ensures page { result.page ≡ 1 }
         ensures refresh { result.refresh ≡ refresh }
     {
@@ -54,6 +71,7 @@ impl Query {
             gateway: String::new(alloc),
             acknowledged: None,
             downtime: None,
+            sort: Sort::Worst,
             page: 1,
             refresh,
         }
@@ -90,6 +108,19 @@ pub fn mark_name(mark: Option<bool>) -> &'static str
         None => "any",
         Some(true) => "yes",
         Some(false) => "no",
+    }
+}
+
+/// The word of an order in a query, which is read as this order.
+pub fn sort_name(sort: Sort) -> &'static str
+    ensures word { result.now ≡ sort_word sort }
+    ensures read { sort_of result.now ≡ sort }
+{
+    match sort {
+        Sort::Worst => "worst",
+        Sort::Host => "host",
+        Sort::Since => "since",
+        Sort::Last => "last",
     }
 }
 
@@ -160,6 +191,20 @@ fn mark_of(word: &str) -> Option<bool>
     }
 }
 
+fn sort_of(word: &str) -> Sort
+    ensures { result ≡ sort_of word.now }
+{
+    if word.eq_ignore_ascii_case("host") {
+        Sort::Host
+    } else if word.eq_ignore_ascii_case("since") {
+        Sort::Since
+    } else if word.eq_ignore_ascii_case("last") {
+        Sort::Last
+    } else {
+        Sort::Worst
+    }
+}
+
 fn number_of(text: &str) -> Option<u32>
     ensures { result ≡ number_of text.now }
 {
@@ -226,6 +271,8 @@ fn add_pair(
         (codes "acknowledged") then mark_of value.now else query.old.acknowledged)) }
     ensures downtime { OnOk result (query.new.downtime ≡ (if bytes_eq name.now
         (codes "downtime") then mark_of value.now else query.old.downtime)) }
+    ensures sort { OnOk result (query.new.sort
+        ≡ (if bytes_eq name.now (codes "sort") then sort_of value.now else query.old.sort)) }
     ensures page { OnOk result (query.new.page
         ≡ (if bytes_eq name.now (codes "page") then page_of value.now else query.old.page)) }
     ensures refresh { OnOk result (query.new.refresh
@@ -245,6 +292,9 @@ fn add_pair(
     if name == "downtime" {
         query.downtime = mark_of(value);
     }
+    if name == "sort" {
+        query.sort = sort_of(value);
+    }
     if name == "page" {
         query.page = page_of(value);
     }
@@ -255,12 +305,13 @@ fn add_pair(
 }
 
 /// Reads the query of a URL: `state`, `host`, `service`, `output`, `gateway`, `acknowledged`,
-/// `downtime`, `page` and `refresh`, each with its default.
+/// `downtime`, `sort`, `page` and `refresh`, each with its default.
 ///
 /// Other names are skipped. Of a name that comes twice the last counts. An unknown word is the
 /// default. The only error is out of memory.
 pub fn read_query(alloc: Global, text: &str, refresh: u32) -> Result<Query, AllocError>
     ensures asked { IfOk result (λ query. asked_by query ≡ asked_in (raw_pairs text.now)) }
+    ensures sort { IfOk result (λ query. query.sort ≡ sort_asked (raw_pairs text.now)) }
     ensures page { IfOk result (λ query. query.page ≡ page_asked (raw_pairs text.now)) }
     ensures refresh { IfOk result (λ query.
         query.refresh ≡ refresh_asked refresh (raw_pairs text.now)) }

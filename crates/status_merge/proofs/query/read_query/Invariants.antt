@@ -1,7 +1,7 @@
 use Rattle.std.proofs.Common.{◌≡◌, codes, length, string_bytes}
 use Rattle.form_urlencoded.specs.Form.{raw_pairs}
 use Rattle.form_urlencoded.specs.Parse.{pairs_left}
-use Rattle.status_merge.specs.Asking.{choice_of, mark_of, page_of, refresh_of, asked_in, page_asked, refresh_asked}
+use Rattle.status_merge.specs.Asking.{choice_of, mark_of, sort_of, page_of, refresh_of, asked_in, sort_asked, page_asked, refresh_asked}
 use Rattle.status_merge.proofs.AskingSteps.{after}
 use Rattle.status_merge.proofs.query.read_query.Given as goal
 
@@ -15,6 +15,7 @@ invariant-loop-pair l =
       gateway : after (λ text. text) (codes "gateway") (string_bytes l.query.gateway) (pairs_left l.pairs) ≡ asked.gateway;
       acknowledged : after mark_of (codes "acknowledged") l.query.acknowledged (pairs_left l.pairs) ≡ asked.acknowledged;
       downtime : after mark_of (codes "downtime") l.query.downtime (pairs_left l.pairs) ≡ asked.downtime;
+      sort : after sort_of (codes "sort") l.query.sort (pairs_left l.pairs) ≡ sort_asked (raw_pairs l.text);
       page : after page_of (codes "page") l.query.page (pairs_left l.pairs) ≡ page_asked (raw_pairs l.text);
       refresh : after (refresh_of l.refresh) (codes "refresh") l.query.refresh (pairs_left l.pairs) ≡ refresh_asked l.refresh (raw_pairs l.text);
     }
