@@ -11,7 +11,8 @@ use Rattle.std.proofs.lemmas.Str.{utf8_lossy-IsUtf8}
 use Rattle.std.proofs.lemmas.Str.Parse.{without_leading_plus_none}
 use Rattle.form_urlencoded.specs.Form.{decode, parse, raw_pairs}
 use Rattle.form_urlencoded.proofs.FormLemmas.{IsBytePair, round_trip}
-use Rattle.status_merge.specs.Asking.{Asked, choice_of, choice_word, mark_of, mark_word, number_of, text_of, value_of, asked_in, page_asked}
+use Rattle.status_merge.specs.Asking.{Asked, choice_of, choice_word, mark_of, mark_word, number_of, sort_of, sort_word, text_of, value_of, asked_in, sort_asked, page_asked}
+use Rattle.status_merge.specs.declared.query.Sort.{Sort}
 use Rattle.status_merge.proofs.AskingSteps.{number-Ok}
 use Rattle.status_view.specs.Links.{page_pairs, page_query}
 use Rattle.status_view.specs.inner.Pairs.{IsTextPair}
@@ -62,16 +63,18 @@ number_read number least small =
     let is = decimal_is_IsNumeral number (omega (arith, small)) in
     sym (number-Ok text number (rw (bare, is.1) ((is.0, small), refl)))
 
-pub query_read : (asked : Asked) (refresh page : ℕ) → All IsTextPair (page_pairs asked refresh page)
+pub query_read : (asked : Asked) (refresh : ℕ) (sort : Sort) (page : ℕ) → All IsTextPair (page_pairs asked refresh sort page)
     → choice_of (choice_word asked.choice) ≡ asked.choice
     → mark_of (mark_word asked.acknowledged) ≡ asked.acknowledged → mark_of (mark_word asked.downtime) ≡ asked.downtime
+    → sort_of (sort_word sort) ≡ sort
     → 1 ≤ page → page < 2 ^ 32
-    → (asked_in (raw_pairs (page_query asked refresh page)) ≡ asked)
-    × (page_asked (raw_pairs (page_query asked refresh page)) ≡ page)
+    → (asked_in (raw_pairs (page_query asked refresh sort page)) ≡ asked)
+    × (sort_asked (raw_pairs (page_query asked refresh sort page)) ≡ sort)
+    × (page_asked (raw_pairs (page_query asked refresh sort page)) ≡ page)
 unfolding page_query
-query_read asked refresh page texts choice acknowledged downtime least small =
-    let query = page_query asked refresh page in
-    let pairs = page_pairs asked refresh page in
+query_read asked refresh sort page texts choice acknowledged downtime order least small =
+    let query = page_query asked refresh sort page in
+    let pairs = page_pairs asked refresh sort page in
     let same : parse query ≡ pairs =
     round_trip pairs (All-weaker IsTextPair IsBytePair (λ pair are. (are.0.0, are.1.0)) pairs texts) in
     let most : max 1 page ≡ page = omega (arith, least) in (
@@ -87,5 +90,6 @@ query_read asked refresh page texts choice acknowledged downtime least small =
         acknowledged,
         downtime,
       ) refl,
+      rw (written (codes "sort") query pairs same texts, order) refl,
       rw (written (codes "page") query pairs same texts, number_read page least small, most) refl,
     )

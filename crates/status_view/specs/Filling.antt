@@ -98,7 +98,9 @@ asked_text asked.Gateway query = query.gateway
 abbrev pub slot_text : View → Slot → List ℕ
 slot_text view slot.Title = view.title.now
 slot_text view (slot.Asked what) = asked_text what (asked_by view.query.now)
-slot_text view (slot.Query page) = page_query (asked_by view.query.now) view.query.now.refresh page
+slot_text view (slot.Query page) =
+    page_query (asked_by view.query.now) view.query.now.refresh view.query.now.sort page
+slot_text view (slot.Sorted sort) = page_query (asked_by view.query.now) view.query.now.refresh sort 1
 slot_text view (slot.Gateway i) = text_at (λ gateway. gateway.name.now) view.gateways.now i
 slot_text view (slot.Cause i) = text_at cause_text view.gateways.now i
 slot_text view (slot.Object i what) = text_at (object_text what) view.objects.now i

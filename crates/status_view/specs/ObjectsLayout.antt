@@ -1,11 +1,15 @@
 -- The list of objects: `objects_nodes`, and the row of an object: `object_nodes`. Own rules.
-use Rattle.std.specs.Prelude.{ℕ, ◌+◌, ◌-◌, ◌/◌, Bool, not, ◌==◌, nat_lt, if◌then◌else◌, List, [], ◌∷◌, ◌++◌, length, Option, Some, None, codes}
+use Rattle.std.specs.Prelude.{ℕ, ◌+◌, ◌-◌, ◌/◌, Bool, true, false, not, ◌==◌, nat_lt, if◌then◌else◌, List, [], ◌∷◌, ◌++◌, length, Option, Some, None, codes}
 use Rattle.std.specs.List.{flat_map, range_with_len}
 use Rattle.gate_pages.specs.StatusPage.{state_name}
 use Rattle.status_reading.specs.declared.rows.ShownAcknowledgement.{ShownAcknowledgement}
 use Rattle.status_reading.specs.declared.rows.ShownAcknowledgement.TheVariants.{Missing, Normal, Sticky}
 use Rattle.status_merge.specs.declared.query.Choice.TheVariants.{In}
+use Rattle.status_merge.specs.declared.query.Sort.{Sort}
+use Rattle.status_merge.specs.declared.query.Sort.TheVariants.{Worst, Host, Since, Last}
 use Rattle.status_merge.specs.Asking.{choice_word}
+use Rattle.status_view.specs.declared.layout.EntryList.TheVariants.{Comments}
+use Rattle.status_view.specs.declared.layout.EntryText.TheVariants as words
 use Rattle.status_view.specs.declared.layout.Slot.TheVariants as slot
 use Rattle.status_view.specs.declared.layout.ObjectText.TheVariants as text
 use Rattle.status_view.specs.declared.shape.ObjectShape.{ObjectShape}
@@ -31,12 +35,24 @@ acknowledgement_nodes Missing = []
 acknowledgement_nodes Normal = Markup (codes "<span class=\"badge\">acknowledged</span> ") ∷ []
 acknowledgement_nodes Sticky = Markup (codes "<span class=\"badge\">acknowledged, sticky</span> ") ∷ []
 
--- the marks: stale, acknowledged, in how many downtime entries, and whether its host is out
+-- who acknowledged and why, by the comment of this place
+unfoldable pub reason_nodes : Option ℕ → List NodeView
+reason_nodes None = []
+reason_nodes (Some index) =
+    Markup (codes "<span class=\"why\">by <bdi>")
+    ∷ Text (slot.Entry Comments index words.Author)
+    ∷ Markup (codes "</bdi>: ")
+    ∷ Text (slot.Entry Comments index words.Words)
+    ∷ Markup (codes "</span> ")
+    ∷ []
+
+-- the marks: stale, acknowledged by whom and why, in how many downtime entries, and whether its host is out
 unfoldable pub marks_nodes : ObjectShape → List NodeView
 marks_nodes row =
     (Markup (codes "<td class=\"cell\">") ∷ [])
     ++ nodes_if row.stale (Markup (codes "<span class=\"badge stale\">stale</span> ") ∷ [])
     ++ acknowledgement_nodes row.acknowledgement
+    ++ reason_nodes row.reason
     ++ nodes_if (nat_lt 0 row.depth)
     (Markup (codes "<span class=\"badge\">downtime ") ∷ Number row.depth ∷ Markup (codes "</span> ") ∷ [])
     ++ nodes_if row.host_is_out (Markup (codes "<span class=\"badge\">host out</span>") ∷ [])
@@ -88,13 +104,50 @@ object_nodes several index row =
     (Markup (codes "</td><td class=\"cell soft\" data-name=\"at\">") ∷ Text (slot.Object index text.Gateway) ∷ [])
     ++ (Markup (codes "</td></tr>\n") ∷ [])
 
--- the rest of a table of objects after its caption
-unfoldable pub objects_table : Bool → List ObjectShape → List NodeView
-objects_table several rows =
-    (Markup (codes "<thead><tr><th scope=\"col\">State</th>")
-    ∷ Markup (codes "<th scope=\"col\">Object</th><th scope=\"col\">Marks</th><th scope=\"col\">Since</th>")
-    ∷ Markup (codes "<th scope=\"col\">Last result</th><th scope=\"col\">Output</th>")
-    ∷ [])
+-- whether two orders are one
+unfoldable pub same_sort : Sort → Sort → Bool
+same_sort Worst Worst = true
+same_sort Host Host = true
+same_sort Since Since = true
+same_sort Last Last = true
+same_sort one other = false
+
+-- how the column of an order stands in it (WAI-ARIA 1.2, aria-sort)
+abbrev pub direction : Sort → List ℕ
+direction Worst = codes "descending"
+direction Host = codes "ascending"
+direction Since = codes "descending"
+direction Last = codes "ascending"
+
+-- the head of the column of an order: in a list in this order, that it is; in one of another, the link that asks for it; and
+-- its name alone in a table that isn't the list
+unfoldable pub column_nodes : Option Sort → Sort → List ℕ → List NodeView
+column_nodes None sort name = Markup (codes "<th scope=\"col\">") ∷ Markup name ∷ Markup (codes "</th>") ∷ []
+column_nodes (Some shown) sort name =
+    if same_sort shown sort
+    then Markup (codes "<th scope=\"col\" aria-sort=\"")
+    ∷ Markup (direction sort)
+    ∷ Markup (codes "\">")
+    ∷ Markup name
+    ∷ Markup (codes "</th>")
+    ∷ []
+    else Markup (codes "<th scope=\"col\"><a href=\"/?")
+    ∷ Text (slot.Sorted sort)
+    ∷ Markup (codes "\">")
+    ∷ Markup name
+    ∷ Markup (codes "</a></th>")
+    ∷ []
+
+-- the rest of a table of objects after its caption; of the list, with its order
+unfoldable pub objects_table : Option Sort → Bool → List ObjectShape → List NodeView
+objects_table sort several rows =
+    (Markup (codes "<thead><tr>") ∷ [])
+    ++ column_nodes sort Worst (codes "State")
+    ++ column_nodes sort Host (codes "Object")
+    ++ (Markup (codes "<th scope=\"col\">Marks</th>") ∷ [])
+    ++ column_nodes sort Since (codes "Since")
+    ++ column_nodes sort Last (codes "Last result")
+    ++ (Markup (codes "<th scope=\"col\">Output</th>") ∷ [])
     ++ nodes_if several (Markup (codes "<th scope=\"col\">Gateway</th>") ∷ [])
     ++ (Markup (codes "</tr></thead><tbody>\n") ∷ [])
     ++ each_indexed (object_nodes several) rows
@@ -135,5 +188,5 @@ objects_nodes shape =
     ∷ [])
     ++ to_marks_nodes shape.marks shape.page
     ++ (Markup (codes "</caption>\n") ∷ [])
-    ++ objects_table (nat_lt 1 (length shape.gateways)) shape.objects
+    ++ objects_table (Some shape.sort) (nat_lt 1 (length shape.gateways)) shape.objects
     ++ pages_nodes shape.page shape.selected

@@ -1,32 +1,25 @@
 -- The page of one object: what it shows of the pages of all gateways (`ShowsObject`), and how (`object_page_nodes`).
 -- Own rules.
-use Rattle.std.specs.Prelude.{◌≡◌, ℕ, Bool, true, false, not, ◌&&◌, List, [], ◌∷◌, ◌++◌, map, filter, codes}
-use Rattle.std.specs.List.{flat_map, list_any}
+use Rattle.std.specs.Prelude.{◌≡◌, ℕ, Bool, true, not, ◌&&◌, List, [], ◌∷◌, ◌++◌, map, filter, None, codes}
+use Rattle.std.specs.List.{flat_map}
 use Rattle.std.specs.Str.{bytes_eq}
 use Rattle.status_reading.specs.declared.rows.ShownComment.{ShownComment}
 use Rattle.status_reading.specs.declared.rows.ShownDowntime.{ShownDowntime}
-use Rattle.status_reading.specs.declared.rows.ShownSource.{ShownSource}
-use Rattle.status_reading.specs.declared.rows.ShownSource.TheVariants as source
 use Rattle.status_memory.specs.declared.history.GatewayChange.{GatewayChange}
 use Rattle.status_merge.specs.declared.gateway.Gateway.{Gateway}
 use Rattle.status_merge.specs.declared.gateway.MergedObject.{MergedObject}
 use Rattle.status_merge.specs.declared.entries.Origin.{Origin}
-use Rattle.status_merge.specs.Ranks.{is_made}
 use Rattle.status_merge.specs.Objects.{objects_on, merged, with_hosts}
 use Rattle.status_merge.specs.Entries.{comment_view, comment_lines, downtime_view, downtime_lines}
 use Rattle.status_view.specs.declared.view.View.{View}
 use Rattle.status_view.specs.declared.layout.EntryList.TheVariants.{Comments, Downtimes}
-use Rattle.status_view.specs.declared.layout.EntryText.TheVariants as words
 use Rattle.status_view.specs.declared.layout.ObjectText.TheVariants as text
 use Rattle.status_view.specs.declared.layout.Slot.TheVariants as slot
-use Rattle.status_view.specs.declared.shape.EntryMarks.{EntryMarks}
-use Rattle.status_view.specs.declared.shape.EntryMarks.TheVariants.{Comment, Downtime}
 use Rattle.status_view.specs.declared.shape.ObjectShape.{ObjectShape}
 use Rattle.status_view.specs.declared.changes.ChangeShape.{ChangeShape}
 use Rattle.status_view.specs.declared.one_object.ObjectAsked.{ObjectAsked}
-use Rattle.status_view.specs.Layout.{NodeView, Markup, Text, nodes_if, each_indexed}
-use Rattle.status_view.specs.Times.{time_nodes}
-use Rattle.status_view.specs.Shapes.{EntryShapeView, PageShapeView, page_shape}
+use Rattle.status_view.specs.Layout.{NodeView, Markup, Text, nodes_if}
+use Rattle.status_view.specs.Shapes.{PageShapeView, page_shape}
 use Rattle.status_view.specs.HeadLayout.{document_nodes, title_nodes, alarms_nodes}
 use Rattle.status_view.specs.ObjectsLayout.{objects_table}
 use Rattle.status_view.specs.ListsLayout.{entries_nodes}
@@ -86,38 +79,7 @@ name_nodes is_host =
 -- the rows, or that there is none
 unfoldable pub rows_nodes : List ObjectShape → List NodeView
 rows_nodes [] = Markup (codes "<p>No page of a gateway shows this object.</p>\n") ∷ []
-rows_nodes (row ∷ rows) = name_nodes row.is_host ++ objects_table true (row ∷ rows)
-
--- who acknowledged, when and why, by the comment of this index and this moment
-unfoldable pub acknowledged_nodes : ℕ → ℕ → List NodeView
-acknowledged_nodes index moment =
-    (Markup (codes "<p>acknowledged by <bdi>")
-    ∷ Text (slot.Entry Comments index words.Author)
-    ∷ Markup (codes "</bdi> at ")
-    ∷ [])
-    ++ time_nodes moment
-    ++ (Markup (codes ": ") ∷ Text (slot.Entry Comments index words.Words) ∷ Markup (codes "</p>\n") ∷ [])
-
--- whether a comment is that of an acknowledgement
-abbrev pub is_reason : ShownSource → Bool
-is_reason source.User = false
-is_reason source.Acknowledgement = true
-is_reason source.Downtime = false
-
--- nothing where the comment of this index is not that of an acknowledgement
-unfoldable pub reason_nodes : ℕ → EntryMarks → List NodeView
-reason_nodes index (Comment marks) = nodes_if (is_reason marks.source) (acknowledged_nodes index marks.moment)
-reason_nodes index (Downtime marks) = []
-
--- whether a row is that of an acknowledged problem
-abbrev pub is_acknowledged : ObjectShape → Bool
-is_acknowledged row = is_made row.acknowledgement
-
--- the comments of acknowledgements, where a gateway has the problem as acknowledged
-unfoldable pub reasons_nodes : List ObjectShape → List EntryShapeView → List NodeView
-reasons_nodes rows comments =
-    nodes_if (list_any is_acknowledged rows)
-    (each_indexed (λ index (comment : EntryShapeView). reason_nodes index comment.marks) comments)
+rows_nodes (row ∷ rows) = name_nodes row.is_host ++ objects_table None true (row ∷ rows)
 
 -- what stands before the lists
 unfoldable pub object_head_nodes : PageShapeView → List NodeView
@@ -126,7 +88,6 @@ object_head_nodes shape =
     ++ title_nodes shape.gateways
     ++ alarms_nodes shape.clock shape.gateways
     ++ rows_nodes shape.objects
-    ++ reasons_nodes shape.objects shape.comments
 
 -- the whole page
 unfoldable pub object_page_nodes : PageShapeView → List ChangeShape → List NodeView

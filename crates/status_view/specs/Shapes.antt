@@ -1,7 +1,12 @@
 -- What decides the markup of a page: `page_shape`. A shape has states, marks, moments, counts and ids, and no text.
-use Rattle.std.specs.Prelude.{ℕ, Bool, false, not, ◌==◌, ◌||◌, nat_lt, List, map, length, count_by, Option, Some, None, is_some, Ok, Err}
+use Rattle.std.specs.Prelude.{ℕ, Bool, true, false, not, ◌==◌, ◌&&◌, ◌||◌, nat_lt, if◌then◌else◌, List, map, filter, length, count_by, Option, Some, None, is_some, Ok, Err}
+use Rattle.std.specs.List.{list_any, enumerate_from, last_or}
+use Rattle.std.specs.Str.{bytes_eq}
 use Rattle.gate_model.specs.declared.state.State.TheVariants.{Pending}
 use Rattle.gate_model.specs.State.{is_same_state}
+use Rattle.status_reading.specs.declared.rows.ShownSource.{ShownSource}
+use Rattle.status_reading.specs.declared.rows.ShownSource.TheVariants.{User, Acknowledgement}
+use Rattle.status_reading.specs.declared.rows.ShownSource.TheVariants as source
 use Rattle.status_merge.specs.declared.gateway.Gateway.{Gateway}
 use Rattle.status_merge.specs.declared.gateway.Old.{Old}
 use Rattle.status_merge.specs.declared.gateway.MergedObject.{MergedObject}
@@ -9,8 +14,9 @@ use Rattle.status_merge.specs.declared.entries.CommentLine.{CommentLine}
 use Rattle.status_merge.specs.declared.entries.DowntimeLine.{DowntimeLine}
 use Rattle.status_merge.specs.declared.counts.Counts.{Counts}
 use Rattle.status_merge.specs.declared.query.Choice.{Choice}
+use Rattle.status_merge.specs.declared.query.Sort.{Sort}
 use Rattle.status_merge.specs.Asking.{Asked, asked_by}
-use Rattle.status_merge.specs.Ranks.{rank, counts_of}
+use Rattle.status_merge.specs.Ranks.{is_made, rank, counts_of}
 use Rattle.status_view.specs.declared.shape.GatewayShape.{GatewayShape}
 use Rattle.status_view.specs.declared.shape.ObjectShape.{ObjectShape}
 use Rattle.status_view.specs.declared.shape.EntryMarks.{EntryMarks}
@@ -34,6 +40,7 @@ pub record PageShapeView : Type 0 where
   pub filters : Bool
   pub acknowledged : Option Bool
   pub downtime : Option Bool
+  pub sort : Sort
   pub page : ℕ
   pub selected : ℕ
   pub marks : Bool
@@ -59,6 +66,7 @@ shape_view shape = record {
   filters = shape.filters;
   acknowledged = shape.acknowledged;
   downtime = shape.downtime;
+  sort = shape.sort;
   page = shape.page;
   selected = shape.selected;
   marks = shape.marks;
@@ -97,14 +105,38 @@ gateway_shape gateway = elim gateway.page [
 abbrev pub is_urgent : MergedObject → Bool
 is_urgent object = nat_lt (rank object) 5
 
--- the shape of an object's row
-abbrev pub object_shape : MergedObject → ObjectShape
-object_shape object = record {
+-- whether a comment is that of an acknowledgement
+abbrev pub is_reason : ShownSource → Bool
+is_reason User = false
+is_reason Acknowledgement = true
+is_reason source.Downtime = false
+
+-- whether it is that of an acknowledgement of the object, at the object's gateway
+abbrev pub is_reason_of : MergedObject → CommentLine → Bool
+is_reason_of object line =
+    is_reason line.row.source
+    && bytes_eq line.row.host.now object.row.host.now
+    && bytes_eq line.row.service.now object.row.service.now
+    && list_any (λ origin. bytes_eq origin.gateway.now object.gateway.now) line.origins.items
+
+-- the place, among these comments, of the last one by which an object is acknowledged, where it is
+abbrev pub reason_of : List CommentLine → MergedObject → Option ℕ
+reason_of comments object =
+    if is_made object.row.acknowledgement
+    then last_or None
+    (map (λ (item : ℕ × CommentLine). item.0)
+    (filter (λ (item : ℕ × CommentLine). is_reason_of object item.1) (enumerate_from 0 comments)))
+    else None
+
+-- the shape of an object's row, where the page shows these comments
+abbrev pub object_shape : List CommentLine → MergedObject → ObjectShape
+object_shape comments object = record {
   is_host = length object.row.service.now == 0;
   state = object.row.state;
   last = object.row.last;
   stale = object.row.stale;
   acknowledgement = object.row.acknowledgement;
+  reason = reason_of comments object;
   depth = object.row.depth;
   host_is_out = object.host_is_out;
   is_urgent = is_urgent object;
@@ -157,6 +189,7 @@ page_shape view = record {
   filters = has_filters (asked_by view.query.now);
   acknowledged = view.query.now.acknowledged;
   downtime = view.query.now.downtime;
+  sort = view.query.now.sort;
   page = view.query.now.page;
   selected = view.selected;
   marks = view.marks;
@@ -166,7 +199,7 @@ page_shape view = record {
   pending = count_by (λ object. is_same_state object.row.state Pending) view.all.now;
   urgent = count_by is_urgent view.all.now;
   gateways = map gateway_shape view.gateways.now;
-  objects = map object_shape view.objects.now;
+  objects = map (object_shape view.comments.now) view.objects.now;
   comments = map comment_shape view.comments.now;
   downtimes = map downtime_shape view.downtimes.now;
 }

@@ -8,7 +8,7 @@ use Rattle.gate_model.specs.State.{is_same_state}
 use Rattle.status_merge.specs.declared.gateway.MergedObject.{MergedObject}
 use Rattle.status_merge.specs.declared.query.Choice.{Choice}
 use Rattle.status_merge.specs.declared.query.Choice.TheVariants.{All, Problems, Unhandled, Stale, In}
-use Rattle.status_merge.specs.Asking.{choice_word, mark_word, only}
+use Rattle.status_merge.specs.Asking.{choice_word, mark_word, sort_word, only}
 use Rattle.status_merge.specs.Selecting.{selected}
 use Rattle.status_view.specs.declared.layout.AskedText.{AskedText}
 use Rattle.status_view.specs.declared.layout.AskedText.TheVariants as asked
@@ -161,10 +161,13 @@ filters_nodes shape =
     ++ mark_nodes (codes " <label>In downtime <select name=\"downtime\">") shape.downtime
     ++ (Markup (codes "</details>") ∷ [])
 
+-- the form, which keeps the order of the list
 unfoldable pub form_nodes : PageShapeView → List NodeView
 form_nodes shape =
     (Markup (codes "<form method=\"get\" action=\"/\" role=\"search\" aria-label=\"Objects\">")
-    ∷ Markup (codes "<label>State <select name=\"state\">")
+    ∷ Markup (codes "<input type=\"hidden\" name=\"sort\" value=\"")
+    ∷ Markup (sort_word shape.sort)
+    ∷ Markup (codes "\"><label>State <select name=\"state\">")
     ∷ [])
     ++ flat_map (option_nodes shape.choice) form_choices
     ++ (Markup (codes "</select></label> <label>Host <input name=\"host\" value=\"")

@@ -15,7 +15,7 @@ use crate::links::{object_link, page_query, push_value};
 use crate::view::View;
 use html_text::Html;
 use status_memory::GatewayChange;
-use status_merge::{Gateway, MergedObject, Old, Origin, Query};
+use status_merge::{Gateway, MergedObject, Old, Origin, Query, Sort};
 use status_reading::plain_bytes;
 use std::alloc::{AllocError, Global};
 
@@ -221,12 +221,18 @@ fn put_asked(html: &mut Html, query: &Query, text: AskedText) -> Result<(), Allo
     html.text(asked.as_str().as_bytes())
 }
 
-// The query that asks for a page of the list.
-fn put_query(alloc: Global, html: &mut Html, query: &Query, page: usize) -> Result<(), AllocError>
+// The query that asks for a page of the list in an order.
+fn put_query(
+    alloc: Global,
+    html: &mut Html,
+    query: &Query,
+    sort: Sort,
+    page: usize,
+) -> Result<(), AllocError>
     ensures { OnOk result (html.new ≡ html.old
-        ++ html_text (page_query (asked_by query.now) query.now.refresh page)) }
+        ++ html_text (page_query (asked_by query.now) query.now.refresh sort page)) }
 {
-    html.text(page_query(alloc, query, page)?.as_str().as_bytes())
+    html.text(page_query(alloc, query, sort, page)?.as_str().as_bytes())
 }
 
 fn fill_slot(alloc: Global, html: &mut Html, view: &View<'_>, slot: Slot) -> Result<(), AllocError>
@@ -235,7 +241,8 @@ fn fill_slot(alloc: Global, html: &mut Html, view: &View<'_>, slot: Slot) -> Res
     match slot {
         Slot::Title => html.text(view.title.as_bytes()),
         Slot::Asked(text) => put_asked(html, view.query, text),
-        Slot::Query(page) => put_query(alloc, html, view.query, page),
+        Slot::Query(page) => put_query(alloc, html, view.query, view.query.sort, page),
+        Slot::Sorted(sort) => put_query(alloc, html, view.query, sort, 1),
         Slot::Gateway(index) => match view.gateways.get(index) {
             Some(gateway) => html.text(gateway.name.as_bytes()),
             None => html.text(b""),

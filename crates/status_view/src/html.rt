@@ -1,9 +1,10 @@
 ghost use Rattle.std.specs.Prelude.{◌≡◌, map, count_by, IfOk};
-ghost use Rattle.std.specs.List.{All};
+ghost use Rattle.std.specs.List.{All, list_any};
+ghost use Rattle.std.specs.Str.{bytes_eq};
 ghost use Rattle.gate_model.specs.State.{is_same_state};
 ghost use Rattle.status_merge.specs.Asking.{asked_by};
 ghost use Rattle.status_view.specs.declared.view.View.{View as Shown};
-ghost use Rattle.status_view.specs.Shapes.{entry_shape_view, shape_view, old_age, gateway_shape, is_urgent, object_shape, comment_shape, downtime_shape, has_filters, page_shape};
+ghost use Rattle.status_view.specs.Shapes.{entry_shape_view, shape_view, old_age, gateway_shape, is_urgent, is_reason, is_reason_of, reason_of, object_shape, comment_shape, downtime_shape, has_filters, page_shape};
 ghost use Rattle.status_view.specs.SummaryLayout.{tiles_of, CountsSelected};
 ghost use Rattle.status_merge.specs.Objects.{HasOwnState};
 ghost use Rattle.status_view.specs.Page.{page_nodes};
@@ -17,9 +18,9 @@ use crate::shape::{
 use crate::view::View;
 use html_text::Html;
 use status_merge::{
-    CommentLine, DowntimeLine, Gateway, MergedObject, Old, Origin, Query, count, rank,
+    CommentLine, DowntimeLine, Gateway, MergedObject, Old, Origin, Query, count, is_made, rank,
 };
-use status_reading::State;
+use status_reading::{ShownSource, State};
 use std::alloc::{AllocError, Global};
 
 fn old_age(old: &Option<Old>) -> Option<u32>
@@ -52,8 +53,49 @@ fn gateway_shape(gateway: &Gateway<'_>) -> GatewayShape
     }
 }
 
-fn object_shape(shown: &MergedObject<'_>) -> ObjectShape
-    ensures { result ≡ object_shape shown.now }
+fn is_reason(source: ShownSource) -> bool
+    ensures { result ≡ is_reason source }
+{
+    match source {
+        ShownSource::Acknowledgement => true,
+        ShownSource::User | ShownSource::Downtime => false,
+    }
+}
+
+fn is_of(origins: &[Origin<'_>], gateway: &str) -> bool
+    ensures { result ≡ list_any (λ origin. bytes_eq origin.gateway.now gateway.now) origins.now }
+{
+    origins.iter().any(|origin| origin.gateway == gateway)
+}
+
+fn is_reason_of(shown: &MergedObject<'_>, line: &CommentLine<'_>) -> bool
+    ensures { result ≡ is_reason_of shown.now line.now }
+{
+    let row = &line.row;
+    is_reason(row.source)
+        && row.host == shown.row.host
+        && row.service == shown.row.service
+        && is_of(line.origins.as_slice(), shown.gateway)
+}
+
+// The index of the last comment by which an object is acknowledged, where it is.
+fn reason_of(comments: &[CommentLine<'_>], shown: &MergedObject<'_>) -> Option<usize>
+    ensures { result ≡ reason_of comments.now shown.now }
+{
+    if !is_made(shown.row.acknowledgement) {
+        return None;
+    }
+    let mut reason = None;
+    for (index, line) in comments.iter().enumerate() {
+        if is_reason_of(shown, line) {
+            reason = Some(index);
+        }
+    }
+    reason
+}
+
+fn object_shape(comments: &[CommentLine<'_>], shown: &MergedObject<'_>) -> ObjectShape
+    ensures { result ≡ object_shape comments.now shown.now }
 {
     let row = &shown.row;
     ObjectShape {
@@ -62,6 +104,7 @@ fn object_shape(shown: &MergedObject<'_>) -> ObjectShape
         last: row.last,
         stale: row.stale,
         acknowledgement: row.acknowledgement,
+        reason: reason_of(comments, shown),
         depth: row.depth,
         host_is_out: shown.host_is_out,
         is_urgent: rank(shown) < 5,
@@ -116,13 +159,15 @@ fn downtime_shape(alloc: Global, line: &DowntimeLine<'_>) -> Result<EntryShape, 
 
 fn object_shapes(
     alloc: Global,
+    comments: &[CommentLine<'_>],
     objects: &[MergedObject<'_>],
 ) -> Result<Vec<ObjectShape>, AllocError>
-    ensures { IfOk result (λ shapes. shapes.items ≡ map object_shape objects.now) }
+    ensures { IfOk result (λ shapes.
+        shapes.items ≡ map (object_shape comments.now) objects.now) }
 {
     let mut shapes = Vec::new(alloc);
     for object in objects {
-        shapes.push(object_shape(object))?;
+        shapes.push(object_shape(comments, object))?;
     }
     Ok(shapes)
 }
@@ -199,6 +244,7 @@ pub fn shape_of(alloc: Global, view: &View<'_>) -> Result<PageShape, AllocError>
         filters: has_filters(view.query),
         acknowledged: view.query.acknowledged,
         downtime: view.query.downtime,
+        sort: view.query.sort,
         page: view.query.page,
         selected: view.selected,
         marks: view.marks,
@@ -208,7 +254,7 @@ pub fn shape_of(alloc: Global, view: &View<'_>) -> Result<PageShape, AllocError>
         pending: pending_in(view.all),
         urgent: urgent_in(view.all),
         gateways: gateway_shapes(alloc, view.gateways)?,
-        objects: object_shapes(alloc, view.objects)?,
+        objects: object_shapes(alloc, view.comments, view.objects)?,
         comments: comment_shapes(alloc, view.comments)?,
         downtimes: downtime_shapes(alloc, view.downtimes)?,
     })

@@ -1,6 +1,7 @@
 ghost use Rattle.std.specs.Prelude.{◌≡◌, [], ◌++◌, map, OnOk};
 ghost use Rattle.status_view.specs.Layout.{node_view, nodes_if};
 
+use status_merge::Sort;
 use std::alloc::{AllocError, Global};
 use std::marker::Model;
 
@@ -66,6 +67,8 @@ pub enum Slot {
     Asked(AskedText),
     /// The query of a URL that asks for the page of this number of the list of objects.
     Query(usize),
+    /// The query of a URL that asks for its first page in this order.
+    Sorted(Sort),
     /// The name of the gateway of this index.
     Gateway(usize),
     /// Why there is no page of the gateway of this index.

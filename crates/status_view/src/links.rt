@@ -3,13 +3,13 @@
 ghost use Rattle.std.specs.Prelude.{◌≡◌, ◌^◌, ◌<◌, ◌≤◌, ◌++◌, IfOk, OnOk, codes, string_bytes, if◌then◌else◌};
 ghost use Rattle.std.specs.Str.{bytes_eq};
 ghost use Rattle.form_urlencoded.specs.Form.{append_pair, byte_serialize, decode, raw_pairs};
-ghost use Rattle.status_merge.specs.Asking.{asked_by, asked_in, page_asked};
+ghost use Rattle.status_merge.specs.Asking.{asked_by, asked_in, sort_asked, page_asked};
 ghost use Rattle.status_view.specs.Links.{object_query, object_link, value_in, page_query};
 ghost use Rattle.status_view.specs.inner.Pairs.{IsTextPair};
 
 use form_urlencoded::{Serializer, byte_serialize, raw_pairs};
 use percent_encoding::percent_decode;
-use status_merge::{Query, choice_name, mark_name};
+use status_merge::{Query, Sort, choice_name, mark_name, sort_name};
 use std::alloc::{AllocError, Global};
 
 /// The names of an object, as the pages of its gateways write them.
@@ -59,16 +59,22 @@ fn push_pair(form: &mut Serializer, name: &str, value: &str) -> Result<(), Alloc
     form.append_pair(name, value)
 }
 
-/// The query of a URL that asks for a page, from 1, of the objects that a query asks for. The only
-/// error is out of memory. Own rule.
-pub fn page_query(alloc: Global, query: &Query, page: usize) -> Result<String, AllocError>
+/// The query of a URL that asks for a page, from 1, of the objects that a query asks for, in an order.
+/// The only error is out of memory. Own rule.
+pub fn page_query(
+    alloc: Global,
+    query: &Query,
+    sort: Sort,
+    page: usize,
+) -> Result<String, AllocError>
     ensures query { IfOk result (λ text.
-        string_bytes text ≡ page_query (asked_by query.now) query.now.refresh page) }
+        string_bytes text ≡ page_query (asked_by query.now) query.now.refresh sort page) }
 
-    // It is read as what was asked for, and as this page.
-    ensures read { let pairs = raw_pairs (page_query (asked_by query.now) query.now.refresh page) in
-        1 ≤ page → page < 2 ^ 32 → IfOk result (λ _.
-        (asked_in pairs ≡ asked_by query.now) × (page_asked pairs ≡ page)) }
+    // It is read as what was asked for, as this order, and as this page.
+    ensures read { let pairs = raw_pairs
+        (page_query (asked_by query.now) query.now.refresh sort page) in
+        1 ≤ page → page < 2 ^ 32 → IfOk result (λ _. (asked_in pairs ≡ asked_by query.now)
+        × (sort_asked pairs ≡ sort) × (page_asked pairs ≡ page)) }
 {
     let mut form = Serializer::new(String::new(alloc));
     push_pair(&mut form, "state", choice_name(query.choice))?;
@@ -78,6 +84,7 @@ pub fn page_query(alloc: Global, query: &Query, page: usize) -> Result<String, A
     push_pair(&mut form, "gateway", query.gateway.as_str())?;
     push_pair(&mut form, "acknowledged", mark_name(query.acknowledged))?;
     push_pair(&mut form, "downtime", mark_name(query.downtime))?;
+    push_pair(&mut form, "sort", sort_name(sort))?;
     push_pair(
         &mut form,
         "refresh",

@@ -1,15 +1,15 @@
 //! The rows of objects.
 
-ghost use Rattle.std.specs.Prelude.{◌≡◌, ◌++◌, ◌<◌, OnOk};
+ghost use Rattle.std.specs.Prelude.{◌≡◌, ◌++◌, ◌<◌, OnOk, Some};
 ghost use Rattle.std.specs.List.{flat_map, range_with_len};
 ghost use Rattle.status_view.specs.Layout.{each_indexed};
 ghost use Rattle.status_view.specs.Shapes.{shape_view};
-ghost use Rattle.status_view.specs.ObjectsLayout.{object_name_nodes, acknowledgement_nodes, marks_nodes, ago_nodes, since_nodes, age_nodes, output_nodes, object_nodes, objects_table, number_nodes, numbers_nodes, pages_nodes, to_marks_nodes, objects_nodes};
+ghost use Rattle.status_view.specs.ObjectsLayout.{object_name_nodes, acknowledgement_nodes, reason_nodes, marks_nodes, ago_nodes, since_nodes, age_nodes, output_nodes, object_nodes, same_sort, direction, column_nodes, objects_table, number_nodes, numbers_nodes, pages_nodes, to_marks_nodes, objects_nodes};
 
-use crate::layout::{Layout, Node, ObjectText, Slot};
+use crate::layout::{EntryList, EntryText, Layout, Node, ObjectText, Slot};
 use crate::shape::{ObjectShape, PageShape};
 use crate::times::{lay_out_moment, lay_out_span};
-use status_merge::{Choice, choice_name};
+use status_merge::{Choice, Sort, choice_name};
 use status_reading::{ShownAcknowledgement, state_name};
 use std::alloc::AllocError;
 
@@ -50,6 +50,22 @@ fn lay_out_acknowledgement(
     }
 }
 
+#[tactic(auto, unfolding(crate::specs::ObjectsLayout::reason_nodes))]
+fn lay_out_reason(layout: &mut Layout, reason: Option<usize>) -> Result<(), AllocError>
+    ensures { OnOk result (layout.new ≡ layout.old ++ reason_nodes reason) }
+{
+    match reason {
+        None => Ok(()),
+        Some(index) => layout.put(&[
+            Node::Markup("<span class=\"why\">by <bdi>"),
+            Node::Slot(Slot::Entry(EntryList::Comments, index, EntryText::Author)),
+            Node::Markup("</bdi>: "),
+            Node::Slot(Slot::Entry(EntryList::Comments, index, EntryText::Words)),
+            Node::Markup("</span> "),
+        ]),
+    }
+}
+
 fn lay_out_marks(layout: &mut Layout, row: &ObjectShape) -> Result<(), AllocError>
     ensures { OnOk result (layout.new ≡ layout.old ++ marks_nodes row.now) }
 {
@@ -59,6 +75,7 @@ fn lay_out_marks(layout: &mut Layout, row: &ObjectShape) -> Result<(), AllocErro
         &[Node::Markup("<span class=\"badge stale\">stale</span> ")],
     )?;
     lay_out_acknowledgement(layout, row.acknowledgement)?;
+    lay_out_reason(layout, row.reason)?;
     layout.put_if(
         row.depth > 0,
         &[
@@ -163,21 +180,84 @@ fn lay_out_rows(layout: &mut Layout, rows: &[ObjectShape], several: bool) -> Res
     Ok(())
 }
 
-/// Appends the rest of a table of objects after its caption.
+#[tactic(auto, unfolding(crate::specs::ObjectsLayout::same_sort))]
+fn same_sort(one: Sort, other: Sort) -> bool
+    ensures { result ≡ same_sort one other }
+{
+    one == other
+}
+
+fn direction(sort: Sort) -> &'static str
+    ensures { result.now ≡ direction sort }
+{
+    match sort {
+        Sort::Worst | Sort::Since => "descending",
+        Sort::Host | Sort::Last => "ascending",
+    }
+}
+
+fn lay_out_own_column(
+    layout: &mut Layout,
+    shown: Sort,
+    sort: Sort,
+    name: &'static str,
+) -> Result<(), AllocError>
+    ensures { OnOk result (layout.new ≡ layout.old ++ column_nodes (Some shown) sort name.now) }
+{
+    if same_sort(shown, sort) {
+        layout.put(&[
+            Node::Markup("<th scope=\"col\" aria-sort=\""),
+            Node::Markup(direction(sort)),
+            Node::Markup("\">"),
+            Node::Markup(name),
+            Node::Markup("</th>"),
+        ])
+    } else {
+        layout.put(&[
+            Node::Markup("<th scope=\"col\"><a href=\"/?"),
+            Node::Slot(Slot::Sorted(sort)),
+            Node::Markup("\">"),
+            Node::Markup(name),
+            Node::Markup("</a></th>"),
+        ])
+    }
+}
+
+#[tactic(auto, unfolding(crate::specs::ObjectsLayout::column_nodes))]
+fn lay_out_column(
+    layout: &mut Layout,
+    shown: Option<Sort>,
+    sort: Sort,
+    name: &'static str,
+) -> Result<(), AllocError>
+    ensures { OnOk result (layout.new ≡ layout.old ++ column_nodes shown sort name.now) }
+{
+    match shown {
+        Some(shown) => lay_out_own_column(layout, shown, sort, name),
+        None => layout.put(&[
+            Node::Markup("<th scope=\"col\">"),
+            Node::Markup(name),
+            Node::Markup("</th>"),
+        ]),
+    }
+}
+
+/// Appends the rest of a table of objects after its caption; of the list, with its order.
 pub fn lay_out_table(
     layout: &mut Layout,
     rows: &[ObjectShape],
+    sort: Option<Sort>,
     several: bool,
 ) -> Result<(), AllocError>
-    ensures { OnOk result (layout.new ≡ layout.old ++ objects_table several rows.now) }
+    ensures { OnOk result (layout.new ≡ layout.old ++ objects_table sort several rows.now) }
 {
-    layout.put(&[
-        Node::Markup("<thead><tr><th scope=\"col\">State</th>"),
-        Node::Markup(
-            "<th scope=\"col\">Object</th><th scope=\"col\">Marks</th><th scope=\"col\">Since</th>",
-        ),
-        Node::Markup("<th scope=\"col\">Last result</th><th scope=\"col\">Output</th>"),
-    ])?;
+    layout.put(&[Node::Markup("<thead><tr>")])?;
+    lay_out_column(layout, sort, Sort::Worst, "State")?;
+    lay_out_column(layout, sort, Sort::Host, "Object")?;
+    layout.put(&[Node::Markup("<th scope=\"col\">Marks</th>")])?;
+    lay_out_column(layout, sort, Sort::Since, "Since")?;
+    lay_out_column(layout, sort, Sort::Last, "Last result")?;
+    layout.put(&[Node::Markup("<th scope=\"col\">Output</th>")])?;
     layout.put_if(several, &[Node::Markup("<th scope=\"col\">Gateway</th>")])?;
     layout.put(&[Node::Markup("</tr></thead><tbody>\n")])?;
     lay_out_rows(layout, rows, several)?;
@@ -268,6 +348,6 @@ pub fn lay_out_objects(layout: &mut Layout, shape: &PageShape) -> Result<(), All
     ])?;
     lay_out_to_marks(layout, shape.marks, shape.page)?;
     layout.put(&[Node::Markup("</caption>\n")])?;
-    lay_out_table(layout, rows, several)?;
+    lay_out_table(layout, rows, Some(shape.sort), several)?;
     lay_out_pages(layout, shape.page, shape.selected)
 }

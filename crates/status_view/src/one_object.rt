@@ -1,31 +1,27 @@
 //! The page of one object.
 
 ghost use Rattle.std.specs.Prelude.{◌≡◌, ◌++◌, map, filter, OnOk, IfOk};
-ghost use Rattle.std.specs.List.{flat_map, list_any};
+ghost use Rattle.std.specs.List.{flat_map};
 ghost use Rattle.status_merge.specs.Entries.{comment_view, downtime_view};
-ghost use Rattle.status_view.specs.Layout.{nodes_if, each_indexed};
-ghost use Rattle.status_view.specs.Shapes.{EntryShapeView, entry_shape_view, shape_view, page_shape};
+ghost use Rattle.status_view.specs.Shapes.{shape_view, page_shape};
 ghost use Rattle.status_view.specs.ChangesLayout.{change_shape};
 ghost use Rattle.status_view.specs.Filling.{filled, html_bytes};
-ghost use Rattle.status_view.specs.OneObject.{is_asked, rows_on, is_comment_on, is_downtime_of, changes_asked, IsObjectPage, name_nodes, rows_nodes, acknowledged_nodes, is_reason, reason_nodes, is_acknowledged, reasons_nodes, object_head_nodes, object_page_nodes};
+ghost use Rattle.status_view.specs.OneObject.{is_asked, rows_on, is_comment_on, is_downtime_of, changes_asked, IsObjectPage, name_nodes, rows_nodes, object_head_nodes, object_page_nodes};
 
 use crate::changes::{ChangeShape, change_shapes, lay_out_changes_table};
 use crate::filling::fill;
 use crate::head_layout::{lay_out_alarms, lay_out_document, lay_out_title};
 use crate::html::shape_of;
-use crate::layout::{EntryList, EntryText, Layout, Node, ObjectText, Slot};
+use crate::layout::{EntryList, Layout, Node, ObjectText, Slot};
 use crate::lists_layout::lay_out_entries;
 use crate::objects_layout::lay_out_table;
-use crate::shape::{CommentMarks, EntryMarks, EntryShape, ObjectShape, PageShape, lay_out_end};
-use crate::times::lay_out_time;
+use crate::shape::{ObjectShape, PageShape, lay_out_end};
 use crate::view::View;
 use html_text::Html;
 use status_memory::GatewayChange;
 use status_merge::{
-    CommentLine, DowntimeLine, Gateway, MergedObject, Query, is_made, merge, merge_comments,
-    merge_downtimes,
+    CommentLine, DowntimeLine, Gateway, MergedObject, Query, merge, merge_comments, merge_downtimes,
 };
-use status_reading::ShownSource;
 use std::alloc::{AllocError, Global};
 use std::slice::from_ref;
 
@@ -144,88 +140,9 @@ fn lay_out_rows(layout: &mut Layout, rows: &[ObjectShape]) -> Result<(), AllocEr
     match rows.first() {
         Some(row) => {
             lay_out_name(layout, row.is_host)?;
-            lay_out_table(layout, rows, true)
+            lay_out_table(layout, rows, None, true)
         }
         None => layout.put(&[Node::Markup("<p>No page of a gateway shows this object.</p>\n")]),
-    }
-}
-
-fn lay_out_acknowledged(layout: &mut Layout, index: usize, moment: u32) -> Result<(), AllocError>
-    ensures { OnOk result (layout.new ≡ layout.old ++ acknowledged_nodes index moment) }
-{
-    layout.put(&[
-        Node::Markup("<p>acknowledged by <bdi>"),
-        Node::Slot(Slot::Entry(EntryList::Comments, index, EntryText::Author)),
-        Node::Markup("</bdi> at "),
-    ])?;
-    lay_out_time(layout, moment)?;
-    layout.put(&[
-        Node::Markup(": "),
-        Node::Slot(Slot::Entry(EntryList::Comments, index, EntryText::Words)),
-        Node::Markup("</p>\n"),
-    ])
-}
-
-fn is_reason(source: ShownSource) -> bool
-    ensures { result ≡ is_reason source }
-{
-    match source {
-        ShownSource::Acknowledgement => true,
-        ShownSource::User | ShownSource::Downtime => false,
-    }
-}
-
-fn lay_out_comment(layout: &mut Layout, index: usize, row: &CommentMarks) -> Result<(), AllocError>
-    ensures { OnOk result (layout.new ≡ layout.old
-        ++ nodes_if (is_reason row.now.source) (acknowledged_nodes index row.now.moment)) }
-{
-    if is_reason(row.source) {
-        lay_out_acknowledged(layout, index, row.moment)
-    } else {
-        Ok(())
-    }
-}
-
-#[tactic(auto, unfolding(crate::specs::OneObject::reason_nodes))]
-fn lay_out_reason(layout: &mut Layout, index: usize, marks: &EntryMarks) -> Result<(), AllocError>
-    ensures { OnOk result (layout.new ≡ layout.old ++ reason_nodes index marks.now) }
-{
-    match marks {
-        EntryMarks::Comment(row) => lay_out_comment(layout, index, row),
-        EntryMarks::Downtime(_) => Ok(()),
-    }
-}
-
-fn lay_out_all_reasons(layout: &mut Layout, comments: &[EntryShape]) -> Result<(), AllocError>
-    ensures { OnOk result (layout.new ≡ layout.old
-        ++ each_indexed (λ index (comment : EntryShapeView). reason_nodes index comment.marks)
-        (map entry_shape_view comments.now)) }
-{
-    for (index, comment) in comments.iter().enumerate() {
-        lay_out_reason(layout, index, &comment.marks)?;
-    }
-    Ok(())
-}
-
-fn is_any_acknowledged(rows: &[ObjectShape]) -> bool
-    ensures { result ≡ list_any is_acknowledged rows.now }
-{
-    rows.iter().any(|row| is_made(row.acknowledgement))
-}
-
-#[tactic(auto, unfolding(crate::specs::OneObject::reasons_nodes))]
-fn lay_out_reasons(
-    layout: &mut Layout,
-    rows: &[ObjectShape],
-    comments: &[EntryShape],
-) -> Result<(), AllocError>
-    ensures { OnOk result (layout.new ≡ layout.old
-        ++ reasons_nodes rows.now (map entry_shape_view comments.now)) }
-{
-    if is_any_acknowledged(rows) {
-        lay_out_all_reasons(layout, comments)
-    } else {
-        Ok(())
     }
 }
 
@@ -238,8 +155,7 @@ fn lay_out_head(layout: &mut Layout, shape: &PageShape) -> Result<(), AllocError
     lay_out_document(layout, shape.refresh, 0)?;
     lay_out_title(layout, gateways)?;
     lay_out_alarms(layout, gateways, shape.clock)?;
-    lay_out_rows(layout, rows)?;
-    lay_out_reasons(layout, rows, shape.comments.as_slice())
+    lay_out_rows(layout, rows)
 }
 
 fn lay_out_page(

@@ -7,7 +7,7 @@ use crate::layout::{EntryList, Layout, Node};
 use crate::lists_layout::lay_out_entries;
 use crate::objects_layout::lay_out_objects;
 use crate::summary_layout::{lay_out_form, lay_out_summary};
-use status_merge::{Choice, Counts};
+use status_merge::{Choice, Counts, Sort};
 use status_reading::{ShownAcknowledgement, ShownSource, State};
 use std::alloc::{AllocError, Global};
 
@@ -33,6 +33,9 @@ pub struct ObjectShape {
     pub last: Option<u32>,
     pub stale: bool,
     pub acknowledgement: ShownAcknowledgement,
+    /// The index, among the comments that the page shows, of the last one by which it is
+    /// acknowledged.
+    pub reason: Option<usize>,
     pub depth: u32,
     /// Whether it is a service whose host is DOWN, UNREACHABLE or in downtime.
     pub host_is_out: bool,
@@ -91,6 +94,8 @@ pub struct PageShape {
     pub filters: bool,
     pub acknowledged: Option<bool>,
     pub downtime: Option<bool>,
+    /// The order of the list.
+    pub sort: Sort,
     /// The number of the page, from 1, and how many objects the query selects.
     pub page: u32,
     pub selected: usize,

@@ -35,6 +35,8 @@ input,select,button{font:inherit;font-size:1rem;padding:.35rem .6rem;border:1px 
 border-radius:.4rem;background:var(--card);color:var(--ink);max-width:100%}\
 table{width:100%;border-collapse:collapse;background:var(--card);border:1px solid var(--line)}\
 th{font-size:.78rem;font-weight:600;color:var(--soft);text-align:left}\
+th[aria-sort]{color:var(--ink)}th[aria-sort=ascending]::after{content:' \\2191'}\
+th[aria-sort=descending]::after{content:' \\2193'}\
 th,td{padding:.4rem .6rem;border-bottom:1px solid var(--line);vertical-align:top}\
 td{overflow-wrap:anywhere}.name+.cell{overflow-wrap:normal}\
 .out{white-space:pre-wrap;min-width:9rem}.perf{display:block}.perf:empty{display:none}\
@@ -47,7 +49,8 @@ font-weight:650;white-space:nowrap;overflow-wrap:normal;background:var(--markbg)
 .warning .state,.stale.badge{background:var(--warningbg);color:var(--warning)}\
 .critical .state,.down .state{background:var(--criticalbg);color:var(--critical)}\
 .unknown .state,.unreachable .state{background:var(--unknownbg);color:var(--unknown)}\
-.soft{color:var(--soft);font-weight:400}tr.handled .out,tr.handled .name{color:var(--soft)}\
+.soft,.why{color:var(--soft);font-weight:400}.why{font-size:.85rem}\
+tr.handled .out,tr.handled .name{color:var(--soft)}\
 .alarm{padding:.6rem .8rem;border:1px solid var(--alarm);border-radius:.5rem;\
 background:var(--alarmbg);color:var(--alarm);margin:.5rem 0}\
 .pages{margin:.6rem 0}summary{cursor:pointer;color:var(--link)}footer{color:var(--soft);font-size:.85rem}\

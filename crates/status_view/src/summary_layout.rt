@@ -7,7 +7,7 @@ ghost use Rattle.status_view.specs.SummaryLayout.{same_choice, kept_nodes, tile_
 
 use crate::layout::{AskedText, Layout, Node, Slot};
 use crate::shape::PageShape;
-use status_merge::{Choice, choice_name, mark_name};
+use status_merge::{Choice, choice_name, mark_name, sort_name};
 use status_reading::State;
 use std::alloc::AllocError;
 
@@ -297,13 +297,15 @@ fn lay_out_filters(layout: &mut Layout, shape: &PageShape) -> Result<(), AllocEr
     layout.put(&[Node::Markup("</details>")])
 }
 
-/// Appends the form.
+/// Appends the form, which keeps the order of the list.
 pub fn lay_out_form(layout: &mut Layout, shape: &PageShape) -> Result<(), AllocError>
     ensures { OnOk result (layout.new ≡ layout.old ++ form_nodes (shape_view shape.now)) }
 {
     layout.put(&[
         Node::Markup("<form method=\"get\" action=\"/\" role=\"search\" aria-label=\"Objects\">"),
-        Node::Markup("<label>State <select name=\"state\">"),
+        Node::Markup("<input type=\"hidden\" name=\"sort\" value=\""),
+        Node::Markup(sort_name(shape.sort)),
+        Node::Markup("\"><label>State <select name=\"state\">"),
     ])?;
     lay_out_choices(layout, shape.choice)?;
     layout.put(&[

@@ -4,4 +4,4 @@ use Rattle.status_view.proofs.html.object_shapes.Given as goal
 
 abbrev pub invariant-loop-object : goal.invariant-loop-object
 invariant-loop-object l =
-    l.shapes.items ++ map object_shape (drop l.object-index l.objects) ≡ map object_shape l.objects
+    l.shapes.items ++ map (object_shape l.comments) (drop l.object-index l.objects) ≡ map (object_shape l.comments) l.objects

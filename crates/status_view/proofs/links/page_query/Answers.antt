@@ -1,6 +1,6 @@
 use Rattle.std.proofs.Common.{ap, refl, sym, ◌∙◌}
 use Rattle.std.proofs.lemmas.List.Elements.{All-from_recursion}
-use Rattle.status_merge.specs.Asking.{asked_by, choice_of, mark_of}
+use Rattle.status_merge.specs.Asking.{asked_by, choice_of, mark_of, sort_of}
 use Rattle.status_view.specs.Links.{page_pairs, page_query}
 use Rattle.status_view.specs.inner.Pairs.{IsTextPair}
 use Rattle.status_view.proofs.QueryLaws.{query_read, valued}
@@ -11,6 +11,7 @@ unfolding page_query
 returns-clause-query c =
     rw (
       c.finish.ensures,
+      c.in_ok-push_pair-10.ensures.pair,
       c.in_ok-push_pair-9.ensures.pair,
       c.in_ok-push_pair-8.ensures.pair,
       c.in_ok-push_pair-7.ensures.pair,
@@ -25,6 +26,7 @@ returns-clause-query c =
       c.in_ok-to_string-2.ensures.ok,
       c.as_str-5.ensures.value,
       c.in_ok-to_string.ensures.ok,
+      c.sort_name.ensures.word,
       c.mark_name-2.ensures.word,
       c.mark_name.ensures.word,
       c.as_str-4.ensures.value,
@@ -39,7 +41,7 @@ pub returns-clause-read : goal.returns-clause-read
 returns-clause-read c =
     let query = c.args.query.now in
     let asked = asked_by query in
-    let texts = All-from_recursion IsTextPair (page_pairs asked query.refresh c.args.page) (
+    let texts = All-from_recursion IsTextPair (page_pairs asked query.refresh c.args.sort c.args.page) (
       valued _ _ _ c.choice_name.ensures.word c.push_pair.ensures.texts,
       (
         valued _ _ _ c.as_str.ensures.value c.push_pair-2.ensures.texts,
@@ -54,8 +56,11 @@ returns-clause-read c =
                 (
                   valued _ _ _ c.mark_name-2.ensures.word c.push_pair-7.ensures.texts,
                   (
-                    valued _ _ _ (c.as_str-5.ensures.value ∙ c.in_ok-to_string.ensures.ok) c.push_pair-8.ensures.texts,
-                    (valued _ _ _ (c.as_str-6.ensures.value ∙ c.in_ok-to_string-2.ensures.ok) c.push_pair-9.ensures.texts, tt),
+                    valued _ _ _ c.sort_name.ensures.word c.push_pair-8.ensures.texts,
+                    (
+                      valued _ _ _ (c.as_str-5.ensures.value ∙ c.in_ok-to_string.ensures.ok) c.push_pair-9.ensures.texts,
+                      (valued _ _ _ (c.as_str-6.ensures.value ∙ c.in_ok-to_string-2.ensures.ok) c.push_pair-10.ensures.texts, tt),
+                    ),
                   ),
                 ),
               ),
@@ -64,8 +69,9 @@ returns-clause-read c =
         ),
       ),
     ) in
-    λ least small. query_read asked query.refresh c.args.page texts
+    λ least small. query_read asked query.refresh c.args.sort c.args.page texts
     (ap choice_of (sym c.choice_name.ensures.word) ∙ c.choice_name.ensures.read)
     (ap mark_of (sym c.mark_name.ensures.word) ∙ c.mark_name.ensures.read)
     (ap mark_of (sym c.mark_name-2.ensures.word) ∙ c.mark_name-2.ensures.read)
+    (ap sort_of (sym c.sort_name.ensures.word) ∙ c.sort_name.ensures.read)
     least small

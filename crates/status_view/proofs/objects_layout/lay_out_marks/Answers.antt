@@ -10,6 +10,7 @@ returns c =
     (rw (
       c.in_ok-put_if-3.ensures,
       c.in_ok-put_if-2.ensures,
+      c.in_ok-lay_out_reason.ensures,
       c.in_ok-lay_out_acknowledgement.ensures,
       c.in_ok-put_if.ensures,
       c.in_ok-put.ensures,

@@ -7,12 +7,11 @@ use Rattle.status_view.proofs.one_object.lay_out_head.Goals as goal
 pub returns : goal.returns
 unfolding object_head_nodes
 returns c =
-    ended c.lay_out_reasons.result _ _
+    ended c.lay_out_rows.result _ _
     (c.args.layout.now ++ object_head_nodes (shape_view c.args.shape.now))
-    c.lay_out_reasons.ensures
+    c.lay_out_rows.ensures
     (rw (
-      c.in_ok-lay_out_rows.ensures,
       c.in_ok-lay_out_alarms.ensures,
       c.in_ok-lay_out_title.ensures,
       c.in_ok-lay_out_document.ensures,
-    ) (simp (append_assoc, c.as_slice-gateways.ensures.value, c.as_slice-rows.ensures.value, c.as_slice.ensures.value)))
+    ) (simp (append_assoc, c.as_slice-gateways.ensures.value, c.as_slice-rows.ensures.value)))

@@ -13,4 +13,5 @@ returns c =
       c.in_ok-put-2.ensures,
       c.in_ok-lay_out_choices.ensures,
       c.in_ok-put.ensures,
+      c.sort_name.ensures.word,
     ) (simp (append_assoc, c.from.ensures)))
