@@ -9,7 +9,9 @@ use Rattle.gate_pages.specs.StatusPage.{state_name}
 use Rattle.html_text.specs.Escaping.{is_markup}
 use Rattle.status_merge.specs.declared.query.Choice.{Choice}
 use Rattle.status_merge.specs.declared.query.Choice.TheVariants.{All, Problems, Unhandled, Stale, In}
-use Rattle.status_merge.specs.Asking.{state_word, choice_word, mark_word}
+use Rattle.status_merge.specs.declared.query.Sort.{Sort}
+use Rattle.status_merge.specs.declared.query.Sort.TheVariants as sort
+use Rattle.status_merge.specs.Asking.{state_word, choice_word, mark_word, sort_word}
 use Rattle.status_view.specs.declared.layout.AskedText.{AskedText}
 use Rattle.status_view.specs.declared.layout.AskedText.TheVariants as asked
 use Rattle.status_view.specs.declared.shape.GatewayShape.{GatewayShape}
@@ -209,6 +211,12 @@ filters shape =
       marks (codes " <label>In downtime <select name=\"downtime\">") shape.downtime refl,
     )
 
+sort_plain : (order : Sort) → list_any is_markup (sort_word order) ≡ false
+sort_plain sort.Worst = refl
+sort_plain sort.Host = refl
+sort_plain sort.Since = refl
+sort_plain sort.Last = refl
+
 pub form : (shape : PageShapeView) → run InText (form_nodes shape) ≡ Some InText
 unfolding form_nodes
-form shape = simp (joined, each (option_nodes shape.choice) InText (option shape.choice) form_choices, filters shape)
+form shape = simp (joined, each (option_nodes shape.choice) InText (option shape.choice) form_choices, filters shape, plain InDouble (sort_word shape.sort) (sort_plain shape.sort))

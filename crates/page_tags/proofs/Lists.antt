@@ -10,6 +10,8 @@ use Rattle.status_reading.specs.declared.rows.ShownSource.{ShownSource}
 use Rattle.status_reading.specs.declared.rows.ShownSource.TheVariants as source
 use Rattle.status_reading.specs.Page.{shown_source}
 use Rattle.status_merge.specs.declared.query.Choice.TheVariants.{In}
+use Rattle.status_merge.specs.declared.query.Sort.{Sort}
+use Rattle.status_merge.specs.declared.query.Sort.TheVariants.{Worst, Host, Since, Last}
 use Rattle.status_merge.specs.Asking.{choice_word}
 use Rattle.status_view.specs.declared.layout.EntryList.{EntryList}
 use Rattle.status_view.specs.declared.layout.EntryList.TheVariants.{Comments, Downtimes}
@@ -25,12 +27,12 @@ use Rattle.status_view.specs.declared.view.View.{View}
 use Rattle.status_view.specs.Filling.{filled}
 use Rattle.status_view.specs.Layout.{Markup, Text, nodes_if}
 use Rattle.status_view.specs.Shapes.{EntryShapeView, PageShapeView}
-use Rattle.status_view.specs.ObjectsLayout.{object_name_nodes, acknowledgement_nodes, marks_nodes, ago_nodes, since_nodes, age_nodes, output_nodes, object_nodes, objects_table, number_nodes, numbers_nodes, pages_nodes, to_marks_nodes, objects_nodes}
+use Rattle.status_view.specs.ObjectsLayout.{object_name_nodes, acknowledgement_nodes, reason_nodes, marks_nodes, ago_nodes, since_nodes, age_nodes, output_nodes, object_nodes, direction, column_nodes, objects_table, number_nodes, numbers_nodes, pages_nodes, to_marks_nodes, objects_nodes}
 use Rattle.status_view.specs.ListsLayout.{comment_nodes, duration_nodes, window_nodes, began_nodes, entry_marks_nodes, entry_name_nodes, words_nodes, origin_nodes, entry_nodes, list_head, entries_table, entries_nodes}
 use Rattle.status_view.specs.ListsLayout as lists
 use Rattle.status_view.specs.Page.{head_nodes, end_nodes, page_nodes}
 use Rattle.status_view.specs.ChangesLayout.{change_nodes, changes_table, changes_nodes, feed_id_nodes, feed_title_nodes, feed_entry_nodes, updated_at, feed_nodes}
-use Rattle.status_view.specs.OneObject.{name_nodes, rows_nodes, acknowledged_nodes, reason_nodes, reasons_nodes, object_head_nodes, object_page_nodes}
+use Rattle.status_view.specs.OneObject.{name_nodes, rows_nodes, object_head_nodes, object_page_nodes}
 use Rattle.page_tags.specs.Tags.{InText, InDouble, HasOwnTags}
 use Rattle.page_tags.proofs.Placing.{run, place_after, plain, joined, run_if, same, each, own_tags}
 use Rattle.page_tags.proofs.Times.{span, instant, time}
@@ -49,9 +51,14 @@ acknowledgement Missing = refl
 acknowledgement Normal = refl
 acknowledgement Sticky = refl
 
+reason : (place : Option ℕ) → run InText (reason_nodes place) ≡ Some InText
+unfolding reason_nodes
+reason None = refl
+reason (Some index) = refl
+
 marks : (row : ObjectShape) → run InText (marks_nodes row) ≡ Some InText
 unfolding marks_nodes
-marks row = simp (joined, run_if, same, acknowledgement row.acknowledgement)
+marks row = simp (joined, run_if, same, acknowledgement row.acknowledgement, reason row.reason)
 
 ago : (begin : List ℕ) (moment past : ℕ) → place_after InText begin ≡ InDouble → run InText (ago_nodes begin moment past) ≡ Some InText
 unfolding ago_nodes
@@ -74,9 +81,20 @@ object : (several : Bool) (index : ℕ) (row : ObjectShape) → run InText (obje
 unfolding object_nodes
 object several index row = simp (joined, run_if, same, object_name index row.is_host, marks row, since row.moment row.since, age row.moment row.last, output index, plain InDouble (choice_word (In row.state)) (choice_plain (In row.state)), plain InText (state_name row.state) (state_plain row.state))
 
-table : (several : Bool) (rows : List ObjectShape) → run InText (objects_table several rows) ≡ Some InText
+direction_plain : (sort : Sort) → list_any is_markup (direction sort) ≡ false
+direction_plain Worst = refl
+direction_plain Host = refl
+direction_plain Since = refl
+direction_plain Last = refl
+
+column : (shown : Option Sort) (sort : Sort) (name : List ℕ) → list_any is_markup name ≡ false → run InText (column_nodes shown sort name) ≡ Some InText
+unfolding column_nodes
+column None sort name is = simp (plain InText name is)
+column (Some shown) sort name is = simp (run_if, same, plain InText name is, plain InDouble (direction sort) (direction_plain sort))
+
+table : (sort : Option Sort) (several : Bool) (rows : List ObjectShape) → run InText (objects_table sort several rows) ≡ Some InText
 unfolding objects_table
-table several rows = simp (joined, run_if, same, each (λ item. object_nodes several item.0 item.1) InText (λ item. object several item.0 item.1) (enumerate_from 0 rows))
+table sort several rows = simp (joined, run_if, same, column sort Worst (codes "State") refl, column sort Host (codes "Object") refl, column sort Since (codes "Since") refl, column sort Last (codes "Last result") refl, each (λ item. object_nodes several item.0 item.1) InText (λ item. object several item.0 item.1) (enumerate_from 0 rows))
 
 number : (shown page : ℕ) → run InText (number_nodes shown page) ≡ Some InText
 unfolding number_nodes
@@ -98,7 +116,7 @@ to_marks false shown = refl
 objects : (shape : PageShapeView) → run InText (objects_nodes shape) ≡ Some InText
 unfolding objects_nodes
 objects shape =
-    simp (joined, to_marks shape.marks shape.page, table (nat_lt 1 (length shape.gateways)) shape.objects, pages shape.page shape.selected)
+    simp (joined, to_marks shape.marks shape.page, table (Some shape.sort) (nat_lt 1 (length shape.gateways)) shape.objects, pages shape.page shape.selected)
 
 -- ---- comments and downtime entries
 
@@ -237,24 +255,11 @@ named false = refl
 rows_of : (rows : List ObjectShape) → run InText (rows_nodes rows) ≡ Some InText
 unfolding rows_nodes
 rows_of [] = refl
-rows_of (row ∷ rows) = simp (joined, named row.is_host, table true (row ∷ rows))
-
-acknowledged : (index moment : ℕ) → run InText (acknowledged_nodes index moment) ≡ Some InText
-unfolding acknowledged_nodes
-acknowledged index moment = simp (joined, time moment)
-
-reason : (index : ℕ) (row : EntryMarks) → run InText (reason_nodes index row) ≡ Some InText
-unfolding reason_nodes
-reason index (Comment row) = simp (run_if, same, acknowledged index row.moment)
-reason index (Downtime row) = refl
-
-reasons : (rows : List ObjectShape) (comments : List EntryShapeView) → run InText (reasons_nodes rows comments) ≡ Some InText
-unfolding reasons_nodes
-reasons rows comments = simp (run_if, same, each (λ (item : ℕ × EntryShapeView). reason_nodes item.0 item.1.marks) InText (λ item. reason item.0 item.1.marks) (enumerate_from 0 comments))
+rows_of (row ∷ rows) = simp (joined, named row.is_host, table None true (row ∷ rows))
 
 object_head : (shape : PageShapeView) → run InText (object_head_nodes shape) ≡ Some InText
 unfolding object_head_nodes
-object_head shape = simp (joined, document shape.refresh 0, title shape.gateways, alarms shape.clock shape.gateways, rows_of shape.objects, reasons shape.objects shape.comments)
+object_head shape = simp (joined, document shape.refresh 0, title shape.gateways, alarms shape.clock shape.gateways, rows_of shape.objects)
 
 object_page : (shape : PageShapeView) (rows : List ChangeShape) → run InText (object_page_nodes shape rows) ≡ Some InText
 unfolding object_page_nodes
