@@ -7,6 +7,8 @@ use Rattle.status_merge.specs.declared.gateway.Gateway.{Gateway}
 use Rattle.status_merge.specs.declared.gateway.MergedObject.{MergedObject}
 use Rattle.status_merge.specs.Asking.{Asked}
 use Rattle.status_merge.specs.Selecting.{selected}
+use Rattle.status_merge.specs.Sorting.{IsInOrder}
+use Rattle.status_merge.specs.declared.query.Sort.{Sort}
 use Rattle.status_view.specs.declared.view.View.{View}
 use Rattle.status_view.specs.Shapes.{page_shape}
 use Rattle.status_view.specs.Page.{page_nodes}
@@ -41,6 +43,12 @@ pub selected_as : (asked wanted : Asked) (objects all : List MergedObject) → a
     → selected asked objects ≡ selected wanted all
 selected_as asked wanted objects all same_asked same =
     ap (λ asked. selected asked objects) same_asked ∙ ap (selected wanted) same
+
+pub in_order_as : (one other : Sort) (rows wanted shown : List MergedObject) → one ≡ other → rows ≡ wanted
+    → IsInOrder one rows shown → IsInOrder other wanted shown
+in_order_as one other rows wanted shown same is order =
+    subst (λ (rows : List MergedObject). IsInOrder other rows shown) is
+    (subst (λ (sort : Sort). IsInOrder sort rows shown) same order)
 
 pub page_of : (heading : Heading) (gateways : List Gateway) (query : List ℕ) (clock : ℕ) (body : List ℕ) (view : View)
     → Views heading gateways query clock view → body ≡ html_bytes (filled view (page_nodes (page_shape view)))

@@ -14,9 +14,10 @@ use Rattle.status_memory.specs.Memory.{is_old}
 use Rattle.status_merge.specs.declared.gateway.Gateway.{Gateway}
 use Rattle.status_merge.specs.declared.gateway.Old.{Old}
 use Rattle.status_merge.specs.declared.gateway.MergedObject.{MergedObject}
-use Rattle.status_merge.specs.Asking.{asked_in, asked_by, page_asked, refresh_asked}
+use Rattle.status_merge.specs.Asking.{asked_in, asked_by, sort_asked, page_asked, refresh_asked}
 use Rattle.status_merge.specs.Objects.{objects_on, merged, with_hosts}
 use Rattle.status_merge.specs.Selecting.{selected, page_rows}
+use Rattle.status_merge.specs.Sorting.{IsInOrder}
 use Rattle.status_merge.specs.Entries.{comment_view, comment_lines, downtime_view, downtime_lines}
 use Rattle.status_view.specs.declared.view.View.{View}
 use Rattle.status_view.specs.Shapes.{page_shape}
@@ -72,7 +73,7 @@ pub record IsShown (now : ℕ) (seen : Seen) (gateway : Gateway) : Type 0 where
 abbrev pub objects_of : List Gateway → List MergedObject
 objects_of gateways = with_hosts (merged (flat_map objects_on gateways))
 
--- those that a query selects, in their order
+-- those that a query selects, by rank
 abbrev pub asked_of : List Gateway → List ℕ → List MergedObject
 asked_of gateways query = selected (asked_in (raw_pairs query)) (objects_of gateways)
 
@@ -87,12 +88,15 @@ pub record Views (heading : Heading) (gateways : List Gateway) (query : List ℕ
   pub refresh : view.refresh ≡ heading.refresh
   pub marks : view.marks ≡ heading.marks
   pub asked : asked_by view.query.now ≡ asked_in (raw_pairs query)
+  pub sort : view.query.now.sort ≡ sort_asked (raw_pairs query)
   pub page : view.query.now.page ≡ page_asked (raw_pairs query)
   pub seconds : view.query.now.refresh ≡ refresh_asked heading.refresh (raw_pairs query)
   pub pages : view.gateways.now ≡ gateways
   pub all : view.all.now ≡ objects_of gateways
   pub selected : view.selected ≡ length (asked_of gateways query)
-  pub objects : view.objects.now ≡ page_rows (page_asked (raw_pairs query)) (asked_of gateways query)
+  pub rows : List MergedObject
+  pub in_order : IsInOrder (sort_asked (raw_pairs query)) (asked_of gateways query) rows
+  pub objects : view.objects.now ≡ page_rows (page_asked (raw_pairs query)) rows
   pub comments : map comment_view view.comments.now ≡ comment_lines (host_asked query) gateways
   pub downtimes : map downtime_view view.downtimes.now ≡ downtime_lines (host_asked query) gateways
 

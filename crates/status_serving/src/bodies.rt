@@ -1,4 +1,5 @@
-//! The bodies of pages: what is kept of the gateways is read, merged, selected by a query and shown.
+//! The bodies of pages: what is kept of the gateways is read, merged, selected and put into order by a
+//! query, and shown.
 ghost use Rattle.std.specs.Prelude.{◌≡◌, map, IfOk};
 ghost use Rattle.std.specs.List.{AllZip};
 ghost use Rattle.status_memory.specs.Memory.{is_old};
@@ -10,7 +11,7 @@ use page_watching::{NoPage, Seen, Shared, cause_of, read_cause};
 use status_export::{json_text, metrics_text};
 use status_memory::{Kept, Memory};
 use status_merge::{
-    Gateway, Old, merge, merge_comments, merge_downtimes, page_rows, read_query, select,
+    Gateway, Old, merge, merge_comments, merge_downtimes, page_rows, read_query, select, sort_rows,
 };
 use status_reading::{StatusPage, read_status_page};
 use status_view::{View, html_page};
@@ -102,7 +103,9 @@ fn html_body(
 {
     let query = read_query(alloc, query, heading.refresh)?;
     let all = merge(alloc, gateways)?;
-    let selected = select(alloc, all.as_slice(), &query)?;
+    let mut rows = select(alloc, all.as_slice(), &query)?;
+    let selected = rows.len();
+    sort_rows(&mut rows, query.sort)?;
     let comments = merge_comments(alloc, gateways, &query)?;
     let downtimes = merge_downtimes(alloc, gateways, &query)?;
     let view = View {
@@ -113,8 +116,8 @@ fn html_body(
         query: &query,
         gateways,
         all: all.as_slice(),
-        selected: selected.len(),
-        objects: page_rows(selected.as_slice(), query.page),
+        selected,
+        objects: page_rows(rows.as_slice(), query.page),
         comments: comments.as_slice(),
         downtimes: downtimes.as_slice(),
         changes: &[],

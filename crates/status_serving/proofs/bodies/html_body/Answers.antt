@@ -3,7 +3,7 @@ use Rattle.status_merge.specs.Asking.{Asked}
 use Rattle.status_merge.specs.Entries.{comment_view, comment_lines, downtime_view, downtime_lines}
 use Rattle.status_merge.specs.Selecting.{page_rows}
 use Rattle.status_view.specs.declared.view.View.{View}
-use Rattle.status_serving.proofs.BodySteps.{selected_as, page_of}
+use Rattle.status_serving.proofs.BodySteps.{selected_as, in_order_as, page_of}
 use Rattle.status_serving.proofs.bodies.html_body.Goals as goal
 
 pub returns : goal.returns
@@ -11,7 +11,7 @@ returns c =
     let asked = c.in_ok-query.ensures in
     let host = ap (λ (asked : Asked). asked.host) asked.asked in
     let gateways = c.args.gateways.now in
-    let selected = c.in_ok-selected.ensures
+    let chosen = c.in_ok-rows.ensures
     ∙ selected_as _ _ _ _ asked.asked (c.as_slice.ensures.value ∙ c.in_ok-all.ensures.merged) in
     let view : View = record {
       title = c.args.heading.now.title;
@@ -21,7 +21,7 @@ returns c =
       query = record { ref_ptr = (0, 0); now = c.in_ok-query.query };
       gateways = c.args.gateways;
       all = c.as_slice-2.result;
-      selected = c.len.result;
+      selected = c.len-selected.result;
       objects = c.page_rows.result;
       comments = c.as_slice-4.result;
       downtimes = c.as_slice-5.result;
@@ -33,14 +33,17 @@ returns c =
       refresh = refl;
       marks = refl;
       asked = asked.asked;
+      sort = asked.sort;
       page = asked.page;
       seconds = asked.refresh;
       pages = refl;
       all = c.as_slice-2.ensures.value ∙ c.in_ok-all.ensures.merged;
-      selected = c.len.ensures ∙ c.in_ok-selected.selected.ok.0 ∙ ap length selected;
+      selected = c.len-selected.ensures ∙ c.in_ok-rows.rows.ok.0 ∙ ap length chosen;
+      rows = c.sort_rows.new.rows.items;
+      in_order = in_order_as _ _ _ _ _ asked.sort chosen c.in_ok-sort_rows.ensures;
       objects = c.page_rows.ensures
           ∙ ap (λ (page : ℕ). page_rows page c.as_slice-3.result.now) asked.page
-          ∙ ap (page_rows _) (c.as_slice-3.ensures.value ∙ selected);
+          ∙ ap (page_rows _) c.as_slice-3.ensures.value;
       comments = ap (map comment_view) c.as_slice-4.ensures.value ∙ c.in_ok-comments.ensures
           ∙ ap (λ host. comment_lines host gateways) host;
       downtimes = ap (map downtime_view) c.as_slice-5.ensures.value ∙ c.in_ok-downtimes.ensures
