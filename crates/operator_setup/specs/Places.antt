@@ -1,6 +1,7 @@
--- Addresses and paths that words name: `IsAddressText`, `IsAskedAt`. Own rule: a port that is bound at each address of
--- the machine (0.0.0.0, ::) is asked at its loopback address (RFC 1122, 3.2.1.3; RFC 4291, 2.5).
-use Rattle.std.specs.Prelude.{◌≡◌, ℕ, List, [], ◌∷◌, Option, Some, None}
+-- Addresses, paths and times that words name: `IsAddressText`, `IsAskedAt`, `ArePlacesOf`. Own rules: a port that is
+-- bound at each address of the machine (0.0.0.0, ::) is asked at its loopback address (RFC 1122, 3.2.1.3; RFC 4291, 2.5);
+-- a wait is 1 to 3600 seconds, and 10 where none is named.
+use Rattle.std.specs.Prelude.{◌≡◌, ℕ, ◌&&◌, nat_le, List, [], ◌∷◌, Option, Some, None, if◌then◌else◌}
 use Rattle.std.specs.Str.{IsUtf8}
 use Rattle.std.specs.declared.net.ipv4_addr.Ipv4Addr.{Ipv4Addr}
 use Rattle.std.specs.declared.net.ipv6_addr.Ipv6Addr.{Ipv6Addr}
@@ -10,6 +11,11 @@ use Rattle.std.specs.declared.net.socket_addr.SocketAddr.{SocketAddr}
 use Rattle.std.specs.Net.Addr.{ipv4_octets, ipv6_segments, IsUnspecifiedV4, IsUnspecifiedV6}
 use Rattle.std.specs.Net.Grammar.{IsSocketText}
 use Rattle.std.specs.Net.Socket.{socket_ip, socket_port}
+use Rattle.gate_grammar.specs.Numbers.{number_of}
+use Rattle.operator_commands.specs.declared.request.Options.{Options}
+use Rattle.operator_setup.specs.declared.fault.ControlFault.{ControlFault}
+use Rattle.operator_setup.specs.declared.fault.ControlFault.TheVariants.{Unreadable, BadFile, OutOfMemory}
+use Rattle.operator_setup.specs.declared.places.Places.{Places}
 
 -- 0.0.0.0 is asked at 127.0.0.1, and any other address at itself
 pub record IsAskedAtV4 (given asked : Ipv4Addr) : Type 0 where
@@ -47,3 +53,33 @@ IsNoAddress text = (address : SocketAddr) → ¬ IsSocketText text address
 abbrev pub IsNoPath : Option (List ℕ) → Type 0
 IsNoPath None = ⊥
 IsNoPath (Some text) = ¬ IsUtf8 text
+
+-- the seconds that a word is: 1 to 3600
+abbrev pub seconds_of : List ℕ → Option ℕ
+seconds_of word = elim (number_of word) [
+  | Some seconds ↦ if nat_le 1 seconds && nat_le seconds 3600 then Some seconds else None
+  | None ↦ None
+]
+
+-- the seconds of `--wait`, or else 10
+abbrev pub wait_of : Option (List ℕ) → Option ℕ
+wait_of None = Some 10
+wait_of (Some word) = seconds_of word
+
+-- the address is that of the option, if there is one
+abbrev pub IsAddressOf : Option (List ℕ) → SocketAddr → Type 0
+IsAddressOf None asked = Unit {0}
+IsAddressOf (Some text) asked = IsAddressText text asked
+
+-- the ports that options name, and their wait
+pub record ArePlacesOf (options : Options) (places : Places) : Type 0 where
+  pub operators : IsAddressOf options.operators places.operators
+  pub pages : IsAddressOf options.pages places.pages
+  pub wait : wait_of options.wait ≡ Some places.seconds
+
+-- a configuration can't be read, is faulty, or memory ran out
+abbrev pub IsOfConfiguration : ControlFault → Type 0
+IsOfConfiguration Unreadable = Unit {0}
+IsOfConfiguration (BadFile text) = Unit {0}
+IsOfConfiguration OutOfMemory = Unit {0}
+IsOfConfiguration _ = ⊥

@@ -1,9 +1,9 @@
 //! Where the program asks: the addresses of the ports, and how long it waits.
 
-ghost use Rattle.std.specs.Prelude.{◌≡◌, ◌≤◌, IfOk, MatchOption, MatchResult};
-ghost use Rattle.std.specs.Option.{option_map};
+ghost use Rattle.std.specs.Prelude.{◌≡◌, ◌≢◌, ◌↔◌, IfErr, IfOk, MatchOption, MatchResult, Err, None};
+ghost use Rattle.std.specs.Option.{ok_or, option_map};
 ghost use Rattle.std.specs.Str.{IsUtf8};
-ghost use Rattle.operator_setup.specs.Places.{IsAddressText, IsAskedAt, IsAskedAtV4, IsAskedAtV6, IsAskedIp, IsNoAddress, IsNoPath};
+ghost use Rattle.operator_setup.specs.Places.{ArePlacesOf, IsAddressOf, IsAddressText, IsAskedAt, IsAskedAtV4, IsAskedAtV6, IsAskedIp, IsNoAddress, IsNoPath, IsOfConfiguration, wait_of};
 
 use crate::fault::ControlFault;
 use gate_config::{Config, read_config};
@@ -94,7 +94,9 @@ pub fn read_configuration<F: Files>(
     files: &F,
     alloc: Global,
     path: &str,
-) -> Result<Vec<u8>, ControlFault> {
+) -> Result<Vec<u8>, ControlFault>
+    ensures { IfErr result (λ fault. fault ≡ ControlFault.Unreadable) }
+{
     let Ok(file) = File::open(files, path) else {
         return Err(ControlFault::Unreadable);
     };
@@ -106,7 +108,9 @@ pub fn read_configuration<F: Files>(
 }
 
 // What a text configures.
-fn configured(alloc: Global, text: &[u8]) -> Result<Config, ControlFault> {
+fn configured(alloc: Global, text: &[u8]) -> Result<Config, ControlFault>
+    ensures { IfErr result IsOfConfiguration }
+{
     match read_config(alloc, text) {
         Ok(config) => Ok(config),
         Err(fault) => {
@@ -139,7 +143,9 @@ pub fn path_of(option: &Option<Text>) -> Result<Option<&str>, ControlFault>
     }
 }
 
-fn config_path(options: &Options) -> Result<&str, ControlFault> {
+fn config_path(options: &Options) -> Result<&str, ControlFault>
+    ensures { IfErr result (λ fault. fault ≡ ControlFault.Unreadable) }
+{
     let Some(path) = &options.config else {
         return Ok(CONFIG);
     };
@@ -152,7 +158,8 @@ fn config_path(options: &Options) -> Result<&str, ControlFault> {
 /// The address of an option, or else this one, where it can be connected to. `BadAddress`: the option
 /// is no address.
 pub fn address_or(option: &Option<Text>, default: SocketAddr) -> Result<SocketAddr, ControlFault>
-    ensures { MatchOption option.now
+    ensures named { IfOk result (IsAddressOf option.now) }
+    ensures address { MatchOption option.now
         (MatchResult result (IsAskedAt default) (λ _. ⊥))
         (λ text. MatchResult result (IsAddressText text)
         (λ fault. (fault ≡ ControlFault.BadAddress) × IsNoAddress text)) }
@@ -163,14 +170,50 @@ pub fn address_or(option: &Option<Text>, default: SocketAddr) -> Result<SocketAd
     }
 }
 
-/// The configuration that the options name, or else the daemon's own.
+/// The configuration that the options name, or else the daemon's own. An error is `Unreadable`,
+/// `BadFile` or `OutOfMemory`.
 pub fn configuration<F: Files>(
     files: &F,
     alloc: Global,
     options: &Options,
-) -> Result<Config, ControlFault> {
+) -> Result<Config, ControlFault>
+    ensures { IfErr result IsOfConfiguration }
+{
     let text = read_configuration(files, alloc, config_path(options)?)?;
     configured(alloc, text.as_slice())
+}
+
+// The addresses of the operators port and of the pages port: those of the options, and for the others
+// those of the configuration.
+fn configured_addresses<F: Files>(
+    files: &F,
+    alloc: Global,
+    options: &Options,
+) -> Result<(SocketAddr, SocketAddr), ControlFault>
+    ensures operators { IfOk result (λ found. IsAddressOf options.now.operators found.0) }
+    ensures pages { IfOk result (λ found. IsAddressOf options.now.pages found.1) }
+    ensures fault { IfErr result (λ fault. fault ≢ ControlFault.BadWait) }
+{
+    let config = configuration(files, alloc, options)?;
+    let operators = address_or(&options.operators, config.operators.socket)?;
+    let pages = address_or(&options.pages, config.pages.socket)?;
+    Ok((operators, pages))
+}
+
+// The same; the configuration is read only where an option is missing.
+fn addresses_in<F: Files>(
+    files: &F,
+    alloc: Global,
+    options: &Options,
+) -> Result<(SocketAddr, SocketAddr), ControlFault>
+    ensures operators { IfOk result (λ found. IsAddressOf options.now.operators found.0) }
+    ensures pages { IfOk result (λ found. IsAddressOf options.now.pages found.1) }
+    ensures fault { IfErr result (λ fault. fault ≢ ControlFault.BadWait) }
+{
+    match (&options.operators, &options.pages) {
+        (Some(operators), Some(pages)) => Ok((address_in(operators)?, address_in(pages)?)),
+        _ => configured_addresses(files, alloc, options),
+    }
 }
 
 /// The ports that the options name, and for those that they don't name the configuration's, which is
@@ -179,18 +222,12 @@ pub fn places_for<F: Files>(
     files: &F,
     alloc: Global,
     options: &Options,
-) -> Result<Places, ControlFault> {
+) -> Result<Places, ControlFault>
+    ensures places { IfOk result (ArePlacesOf options.now) }
+    ensures bad_wait { (result ≡ Err ControlFault.BadWait) ↔ (wait_of options.now.wait ≡ None) }
+{
     let seconds = wait_in(options)?;
-    let (operators, pages) = match (&options.operators, &options.pages) {
-        (Some(operators), Some(pages)) => (address_in(operators)?, address_in(pages)?),
-        (operators, pages) => {
-            let config = configuration(files, alloc, options)?;
-            (
-                address_or(operators, config.operators.socket)?,
-                address_or(pages, config.pages.socket)?,
-            )
-        }
-    };
+    let (operators, pages) = addresses_in(files, alloc, options)?;
     Ok(Places {
         operators,
         pages,
@@ -203,7 +240,10 @@ pub fn fetched<R: Net<Listener = TcpListener, Stream = TcpStream> + Clock + File
     rt: &R,
     alloc: Global,
     options: &Options,
-) -> Result<(Places, Vec<u8>), ControlFault> {
+) -> Result<(Places, Vec<u8>), ControlFault>
+    ensures places { IfOk result (λ found. ArePlacesOf options.now found.0) }
+    ensures bad_wait { (result ≡ Err ControlFault.BadWait) ↔ (wait_of options.now.wait ≡ None) }
+{
     let places = places_for(rt, alloc, options)?;
     match fetch(rt, alloc, places.pages) {
         Ok(text) => Ok((places, text)),
@@ -211,9 +251,9 @@ pub fn fetched<R: Net<Listener = TcpListener, Stream = TcpStream> + Clock + File
     }
 }
 
-/// `--wait`, which is 1 to 3600, by default 10.
+/// `--wait`, which is 1 to 3600, by default 10; `BadWait`: it is anything else.
 pub fn wait_in(options: &Options) -> Result<u32, ControlFault>
-    ensures { IfOk result (λ seconds. (1 ≤ seconds) × (seconds ≤ 3600)) }
+    ensures { result ≡ ok_or (wait_of options.now.wait) ControlFault.BadWait }
 {
     let Some(text) = &options.wait else {
         return Ok(WAIT);
