@@ -1,3 +1,6 @@
+ghost use Rattle.std.specs.Prelude.{◌≡◌, IfErr, IfOk, MatchResult, None, Some};
+ghost use Rattle.operator_log.specs.Summed.{IsLogFault, IsLogShown, IsOfFile, file_text, since_of};
+
 use crate::summed::sum_up;
 use gate_grammar::read_number;
 use gate_model::{Moment, Text, push_escaped};
@@ -10,7 +13,10 @@ use std::alloc::{AllocError, Global};
 use std::fs::Files;
 
 // The moment of `--since`.
-fn moment_in(since: &Option<Text>) -> Result<Moment, ControlFault> {
+fn moment_in(since: &Option<Text>) -> Result<Moment, ControlFault>
+    ensures { MatchResult result (λ moment. since_of since.now ≡ Some moment.0)
+        (λ fault. (fault ≡ ControlFault.Request RequestFault.BadTime) × (since_of since.now ≡ None)) }
+{
     let Some(text) = since else {
         return Ok(Moment(0));
     };
@@ -21,7 +27,10 @@ fn moment_in(since: &Option<Text>) -> Result<Moment, ControlFault> {
 }
 
 // What is wrong with a file.
-fn faulty(alloc: Global, file: &Text, cause: &str) -> Result<ControlFault, AllocError> {
+fn faulty(alloc: Global, file: &Text, cause: &str) -> Result<ControlFault, AllocError>
+    ensures { IfOk result (λ fault.
+        fault ≡ ControlFault.BadFile (file_text file.now cause.now)) }
+{
     let mut text = Vec::new(alloc);
     push_escaped(&mut text, file.bytes())?;
     text.extend_from_slice(b": ")?;
@@ -29,7 +38,9 @@ fn faulty(alloc: Global, file: &Text, cause: &str) -> Result<ControlFault, Alloc
     Ok(ControlFault::BadFile(Text::new(text)))
 }
 
-fn log_fault(alloc: Global, file: &Text, fault: LogFault) -> Result<ControlFault, AllocError> {
+fn log_fault(alloc: Global, file: &Text, fault: LogFault) -> Result<ControlFault, AllocError>
+    ensures { IfOk result (IsOfFile file.now) }
+{
     match fault {
         LogFault::OutOfMemory => Ok(ControlFault::OutOfMemory),
         LogFault::NoLog => faulty(alloc, file, "there is no log page in it"),
@@ -51,7 +62,12 @@ pub fn run_log<F: Files, W: Sink>(
     since: &Option<Text>,
     json: bool,
     output: &mut W,
-) -> Result<u8, ControlFault> {
+) -> Result<u8, ControlFault>
+    ensures status { IfOk result (λ status. status ≡ 0) }
+    ensures shown { IfOk result (λ _.
+        IsLogShown since.now json (W.state output.old) (W.state output.new)) }
+    ensures fault { IfErr result (IsLogFault file.now since.now) }
+{
     let moment = moment_in(since)?;
     let Ok(printed) = read_file(files, alloc, path_in(file)?) else {
         return Err(faulty(alloc, file, "it can't be read")?);
