@@ -1,7 +1,13 @@
 //! The commands of a request, one after another.
 
-ghost use Rattle.std.specs.Prelude.{◌≡◌};
+ghost use Rattle.std.specs.Prelude.{◌≡◌, IfOk, List, MatchOption, None, Some, map};
+ghost use Rattle.gate_model.specs.declared.submission.Body.{Body};
+ghost use Rattle.status_reading.specs.Rows.{page_view};
+ghost use Rattle.operator_effects.specs.Commands.{commands_of};
+ghost use Rattle.operator_effects.specs.Refusals.{first_refusal};
+ghost use Rattle.operator_ports.specs.Commands.{entered_at};
 ghost use Rattle.operator_sending.specs.Faults.{fault_of};
+ghost use Rattle.operator_sending.specs.Reports.{AreAnswered, IsCarriedOut, meant, sinks};
 
 use crate::reporting::report;
 use gate_grammar::Command;
@@ -76,7 +82,15 @@ fn objection<W: Sink, E: Sink>(
     json: bool,
     output: &mut W,
     errors: &mut E,
-) -> Result<Option<u8>, ControlFault> {
+) -> Result<Option<u8>, ControlFault>
+    ensures { IfOk result (λ found. MatchOption found
+        ((first_refusal (page_view page.now) commands.now ≡ None)
+        × (sinks (W.state output.new) (E.state errors.new)
+        ≡ sinks (W.state output.old) (E.state errors.old)))
+        (λ status. AreAnswered json (page_view page.now) commands.now status
+        (sinks (W.state output.old) (E.state errors.old))
+        (sinks (W.state output.new) (E.state errors.new)))) }
+{
     let Some((command, outcome)) = first_refusal(alloc, page, commands)? else {
         return Ok(None);
     };
@@ -103,7 +117,11 @@ fn send_all<R: Net<Listener = TcpListener, Stream = TcpStream> + Clock, W: Sink,
     json: bool,
     output: &mut W,
     errors: &mut E,
-) -> Result<u8, ControlFault> {
+) -> Result<u8, ControlFault>
+    ensures { IfOk result (λ status. AreAnswered json (page_view before.now) commands.now status
+        (sinks (W.state output.old) (E.state errors.old))
+        (sinks (W.state output.new) (E.state errors.new))) }
+{
     if let Some(status) = objection(alloc, before, commands, json, output, errors)? {
         return Ok(status);
     }
@@ -135,7 +153,11 @@ fn commands_of(
     entered: Moment,
     user: Text,
     request: Request,
-) -> Result<Vec<Command>, ControlFault> {
+) -> Result<Vec<Command>, ControlFault>
+    ensures { IfOk result (λ commands. (bodies : List Body)
+        × (map Some bodies ≡ commands_of (page_view page.now) entered user request)
+        × (commands.items ≡ map (entered_at entered) bodies)) }
+{
     match commands_for(alloc, page, entered, user, request) {
         Ok(bodies) => Ok(entered_at(alloc, entered, bodies)?),
         Err(fault) => Err(fault_of(fault)),
@@ -156,12 +178,16 @@ fn on_page<
     json: bool,
     output: &mut W,
     errors: &mut E,
-) -> Result<u8, ControlFault> {
+) -> Result<u8, ControlFault>
+    ensures { IfOk result (λ status. IsCarriedOut json request status
+        (sinks (W.state output.old) (E.state errors.old))
+        (sinks (W.state output.new) (E.state errors.new))) }
+{
     let entered = now(rt)?;
     let user = user(rt, alloc)?;
     let before = page_of(alloc, text)?;
     let commands = commands_of(alloc, &before, entered, user, request)?;
-    send_all(
+    let status = send_all(
         rt,
         alloc,
         places,
@@ -170,11 +196,14 @@ fn on_page<
         json,
         output,
         errors,
-    )
+    )?;
+    Ok(status)
 }
 
 // The request, by `--escaped` with its escapes undone.
-fn unescaped(alloc: Global, options: &Options, request: Request) -> Result<Request, AllocError> {
+fn unescaped(alloc: Global, options: &Options, request: Request) -> Result<Request, AllocError>
+    ensures { IfOk result (λ given. given ≡ meant options.now.escaped request) }
+{
     if options.escaped {
         plain_request(alloc, request)
     } else {
@@ -184,7 +213,7 @@ fn unescaped(alloc: Global, options: &Options, request: Request) -> Result<Reque
 
 /// Carries out a request over the gateway of these options: reports the first of its commands that
 /// the gateway would refuse by its page, or else sends them and reports how each ended. Returns the
-/// exit status.
+/// exit status: that of the first command that doesn't end well, after which none is sent, or 0.
 pub fn carry_out_request<
     R: Net<Listener = TcpListener, Stream = TcpStream> + Clock + Files + Env + AllocGlobal,
     W: Sink,
@@ -196,10 +225,15 @@ pub fn carry_out_request<
     request: Request,
     output: &mut W,
     errors: &mut E,
-) -> Result<u8, ControlFault> {
+) -> Result<u8, ControlFault>
+    ensures { IfOk result (λ status. IsCarriedOut options.now.json
+        (meant options.now.escaped request) status
+        (sinks (W.state output.old) (E.state errors.old))
+        (sinks (W.state output.new) (E.state errors.new))) }
+{
     let (places, text) = fetched(rt, alloc, options)?;
     let request = unescaped(alloc, options, request)?;
-    on_page(
+    let status = on_page(
         rt,
         alloc,
         places,
@@ -208,5 +242,6 @@ pub fn carry_out_request<
         options.json,
         output,
         errors,
-    )
+    )?;
+    Ok(status)
 }

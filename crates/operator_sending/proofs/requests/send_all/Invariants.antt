@@ -1,0 +1,9 @@
+use Rattle.operator_sending.specs.Reports.{sinks}
+use Rattle.operator_sending.proofs.ReportSteps.{GoesOn}
+use Rattle.operator_sending.proofs.requests.send_all.Given as goal
+
+abbrev pub invariant-loop-command : goal.invariant-loop-command
+invariant-loop-command g l =
+    let output = g.W.Sink.state in
+    let errors = g.E.Sink.state in
+    GoesOn l.json l.fn.commands l.command-index (sinks (output l.fn.output) (errors l.fn.errors)) (sinks (output l.output) (errors l.errors))
