@@ -1,6 +1,10 @@
 //! One page after another, and what is other on each.
 
-ghost use Rattle.std.specs.Prelude.{◌≤◌, IfOk};
+ghost use Rattle.std.specs.Prelude.{◌≡◌, ◌++◌, Err, IfErr, IfOk, OnOk};
+ghost use Rattle.std.specs.List.{flat_map};
+ghost use Rattle.std.specs.Option.{ok_or};
+ghost use Rattle.page_fetching.specs.declared.fetching.FetchFault.{FetchFault};
+ghost use Rattle.operator_showing.specs.Followed.{IsChangePrinted, IsFollowed, IsPrinted, IsWatched, change_line, interval_of};
 
 use change_lines::push_change;
 use gate_grammar::read_number;
@@ -9,9 +13,9 @@ use gate_reader::Sink;
 use operator_commands::Options;
 use operator_json::change_json;
 use operator_setup::{ControlFault, Places, fetched, page_of, print};
-use page_changes::changes;
+use page_changes::{Change, changes};
 use page_fetching::fetch;
-use std::alloc::Global;
+use std::alloc::{AllocError, Global};
 use std::fs::Files;
 use std::net::{Net, TcpListener, TcpStream};
 use std::thread;
@@ -22,7 +26,7 @@ const INTERVAL: u32 = 1;
 
 // `--interval`, which is 1 to 3600, by default 1.
 fn interval_in(interval: &Option<Text>) -> Result<u32, ControlFault>
-    ensures { IfOk result (λ seconds. (1 ≤ seconds) × (seconds ≤ 3600)) }
+    ensures { result ≡ ok_or (interval_of interval.now) ControlFault.BadInterval }
 {
     let Some(text) = interval else {
         return Ok(INTERVAL);
@@ -33,6 +37,53 @@ fn interval_in(interval: &Option<Text>) -> Result<u32, ControlFault>
     }
 }
 
+// Appends the line of a change, as JSON or not.
+fn push_line(
+    alloc: Global,
+    lines: &mut Vec<u8>,
+    moment: u32,
+    change: &Change<'_>,
+    json: bool,
+) -> Result<(), AllocError>
+    ensures { OnOk result
+        (lines.new.items ≡ lines.old.items ++ change_line json moment change.now) }
+{
+    if json {
+        lines.extend_from_slice(change_json(alloc, moment, change)?.as_slice())?;
+        lines.extend_from_slice(b"\n")
+    } else {
+        push_change(lines, moment, change)
+    }
+}
+
+// The lines of changes.
+fn lines_of(
+    alloc: Global,
+    moment: u32,
+    changes: &[Change<'_>],
+    json: bool,
+) -> Result<Vec<u8>, AllocError>
+    ensures { IfOk result (λ lines. lines.items ≡ flat_map (change_line json moment) changes.now) }
+{
+    let mut lines = Vec::new(alloc);
+    for change in changes {
+        push_line(alloc, &mut lines, moment, change, json)?;
+    }
+    Ok(lines)
+}
+
+// Prints a text, unless it is empty.
+fn print_some<W: Sink>(output: &mut W, text: &[u8]) -> Result<(), ControlFault>
+    ensures printed { OnOk result
+        (IsPrinted text.now (W.state output.old) (W.state output.new)) }
+    ensures fault { IfErr result (λ fault. fault ≡ ControlFault.WriteFault) }
+{
+    if text.is_empty() {
+        return Ok(());
+    }
+    print(output, text)
+}
+
 // Prints what is other on the second of two pages.
 fn print_changes<W: Sink>(
     alloc: Global,
@@ -40,22 +91,17 @@ fn print_changes<W: Sink>(
     after: &[u8],
     json: bool,
     output: &mut W,
-) -> Result<(), ControlFault> {
+) -> Result<(), ControlFault>
+    ensures printed { OnOk result (IsChangePrinted json before.now after.now
+        (W.state output.old) (W.state output.new)) }
+    ensures fault { (fault : FetchFault) → result ≡ Err (ControlFault.NoPage fault) → ⊥ }
+{
     let before = page_of(alloc, before)?;
     let after = page_of(alloc, after)?;
-    let mut lines = Vec::new(alloc);
-    for change in changes(alloc, &before, &after)?.as_slice() {
-        if json {
-            lines.extend_from_slice(change_json(alloc, after.moment, change)?.as_slice())?;
-            lines.extend_from_slice(b"\n")?;
-        } else {
-            push_change(&mut lines, after.moment, change)?;
-        }
-    }
-    if lines.is_empty() {
-        return Ok(());
-    }
-    print(output, lines.as_slice())
+    let changes = changes(alloc, &before, &after)?;
+    let lines = lines_of(alloc, after.moment, changes.as_slice(), json)?;
+    print_some(output, lines.as_slice())?;
+    Ok(())
 }
 
 // Prints what is other on each page, from this first one on, until there is no page.
@@ -67,10 +113,13 @@ fn follow<R: Net<Listener = TcpListener, Stream = TcpStream> + Clock, W: Sink>(
     interval: u32,
     json: bool,
     output: &mut W,
-) -> Result<u8, ControlFault> {
+) -> Result<u8, ControlFault>
+    ensures { (fault : FetchFault) → result ≡ Err (ControlFault.NoPage fault)
+        → IsFollowed json first.items (W.state output.old) (W.state output.new) }
+{
     drop(page_of(alloc, first.as_slice())?);
     let mut before = first;
-    for _ in 0..u64::MAX {
+    for _turn in 0..u64::MAX {
         thread::sleep(rt, Duration::from_secs(u64::from(interval)));
         let after = match fetch(rt, alloc, places.pages) {
             Ok(text) => text,
@@ -82,15 +131,19 @@ fn follow<R: Net<Listener = TcpListener, Stream = TcpStream> + Clock, W: Sink>(
     Ok(0)
 }
 
-/// Prints what is other on each page of the gateway of these options, until there is none. Between
-/// two pages lie `--interval` seconds.
+/// Prints what is other on each page of the gateway of these options, until there is none, which is
+/// the fault `NoPage`. Between two pages lie `--interval` seconds.
+#[tactic(auto, using(crate::proofs::FollowSteps::nothing))]
 pub fn run_watch<R: Net<Listener = TcpListener, Stream = TcpStream> + Clock + Files, W: Sink>(
     rt: &R,
     alloc: Global,
     options: &Options,
     interval: &Option<Text>,
     output: &mut W,
-) -> Result<u8, ControlFault> {
+) -> Result<u8, ControlFault>
+    ensures { (fault : FetchFault) → result ≡ Err (ControlFault.NoPage fault)
+        → IsWatched options.now.json (W.state output.old) (W.state output.new) }
+{
     let interval = interval_in(interval)?;
     let (places, text) = fetched(rt, alloc, options)?;
     follow(rt, alloc, places, text, interval, options.json, output)

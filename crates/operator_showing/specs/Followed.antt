@@ -1,0 +1,53 @@
+-- What `watch` prints: `AreFollowed`. What a gateway shows isn't known here, so some pages that it showed are meant. Own
+-- rules.
+use Rattle.std.specs.Prelude.{◌≡◌, ◌⊎◌, ℕ, Bool, true, false, List, [], ◌∷◌, ◌++◌, length, codes, Option, Some, None}
+use Rattle.std.specs.List.{flat_map}
+use Rattle.gate_reader.specs.Sink.{SinkState, Delivers}
+use Rattle.status_export.specs.Document.{compact_text}
+use Rattle.status_reading.specs.declared.page.StatusPage.{StatusPage}
+use Rattle.page_changes.specs.declared.comparing.Change.{Change}
+use Rattle.page_changes.specs.Changes.{changed}
+use Rattle.change_lines.specs.Lines.{line}
+use Rattle.operator_json.specs.Changes.{change_json}
+use Rattle.operator_setup.specs.Pages.{IsPageIn}
+use Rattle.operator_setup.specs.Places.{seconds_of}
+
+-- the seconds of `--interval`, or else 1
+abbrev pub interval_of : Option (List ℕ) → Option ℕ
+interval_of None = Some 1
+interval_of (Some word) = seconds_of word
+
+-- the line of a change, as JSON or not, with the moment of the page after it
+abbrev pub change_line : Bool → ℕ → Change → List ℕ
+change_line true moment change = compact_text (change_json moment change) ++ codes "\n"
+change_line false moment change = line moment change
+
+-- the lines of what is other on the second of two pages
+abbrev pub change_lines : Bool → StatusPage → StatusPage → List ℕ
+change_lines json before after = flat_map (change_line json after.moment) (changed before after)
+
+-- the text was printed, or it has no bytes and nothing was
+abbrev pub IsPrinted : List ℕ → SinkState → SinkState → Type 0
+IsPrinted text before after = ((length text ≡ 0) × (after ≡ before)) ⊎ Delivers before after text
+
+-- what is other on the page of the second text was printed
+pub record IsChangePrinted (json : Bool) (one other : List ℕ) (before after : SinkState) : Type 0 where
+  pub page : StatusPage
+  pub is_page : IsPageIn one page
+  pub next : StatusPage
+  pub is_next : IsPageIn other next
+  pub printed : IsPrinted (change_lines json page next) before after
+
+-- what is other on each of these pages was printed, where the page of the first text was before them
+abbrev pub AreFollowed : Bool → List ℕ → List (List ℕ) → SinkState → SinkState → Type 0
+AreFollowed json one [] before after = after ≡ before
+AreFollowed json one (other ∷ others) before after =
+    (between : SinkState) × IsChangePrinted json one other before between × AreFollowed json other others between after
+
+-- what is other on each of some pages
+abbrev pub IsFollowed : Bool → List ℕ → SinkState → SinkState → Type 0
+IsFollowed json one before after = (others : List (List ℕ)) × AreFollowed json one others before after
+
+-- of some page, and of some pages after it
+abbrev pub IsWatched : Bool → SinkState → SinkState → Type 0
+IsWatched json before after = (one : List ℕ) × IsFollowed json one before after
