@@ -1,1 +1,2 @@
 mod RestoredSteps
+pub mod StopSteps

@@ -1,2 +1,4 @@
+pub mod Faults
 pub mod Restored
+pub mod Stopped
 pub mod inner

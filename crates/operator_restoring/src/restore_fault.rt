@@ -1,6 +1,7 @@
 //! Why nothing is restored, or not all.
 
-ghost use Rattle.std.specs.Prelude.{◌≤◌};
+ghost use Rattle.std.specs.Prelude.{◌≡◌, ◌≤◌};
+ghost use Rattle.operator_restoring.specs.Faults.{status_of};
 
 use operator_lines::AskFault;
 use operator_restore::ProspectFault;
@@ -69,7 +70,8 @@ impl RestoreFault {
     /// The exit status: 2 where what is kept can't be restored, or not to this gateway, and nothing was
     /// sent; 3 where something was not answered.
     pub fn status(self) -> u8
-        ensures { 2 ≤ result }
+        ensures status { result ≡ status_of self }
+        ensures bad { 2 ≤ result }
     {
         match self {
             RestoreFault::NotFresh
