@@ -8,3 +8,5 @@ mod asking;
 mod files;
 #[cfg(test)]
 mod restoring;
+#[cfg(test)]
+mod stopping;
