@@ -1,6 +1,6 @@
 use status_merge::{
-    Choice, Gateway, MergedObject, Origin, choice_name, count, is_unhandled, merge, merge_comments,
-    merge_downtimes, rank, read_query, select,
+    Choice, Gateway, MergedObject, Origin, Sort, choice_name, count, is_unhandled, merge,
+    merge_comments, merge_downtimes, rank, read_query, select, sort_name, sort_rows,
 };
 use status_reading::{ReadFault, State, read_status_page};
 use std::alloc::{AllocError, Global};
@@ -92,6 +92,20 @@ fn a_query_selects(rt: HostRuntime) -> Result<(), Fail> {
 }
 
 #[test]
+fn selected_rows_are_sorted(rt: HostRuntime) -> Result<(), Fail> {
+    let query = read_query(rt.alloc(), "sort=LAST&sort=Host", 30)?;
+    let objects = merge(rt.alloc(), &gateways(rt.alloc())?)?;
+    let mut rows = select(rt.alloc(), objects.as_slice(), &query)?;
+    sort_rows(&mut rows, query.sort)?;
+    let text = names(rt.alloc(), rows.as_slice())?;
+    assert_eq!(rt;
+        text.as_slice(),
+        b"west db1 \neast web1 \nwest web1 HTTP\n".as_slice()
+    );
+    Ok(())
+}
+
+#[test]
 fn comments_are_merged(rt: HostRuntime) -> Result<(), Fail> {
     let query = read_query(rt.alloc(), "host=web", 30)?;
     let lines = merge_comments(rt.alloc(), &gateways(rt.alloc())?, &query)?;
@@ -121,4 +135,5 @@ fn downtimes_are_merged(rt: HostRuntime) -> Result<(), Fail> {
 #[test]
 fn words_are_named(rt: HostRuntime) {
     assert_eq!(rt; choice_name(Choice::In(State::Down)), "down");
+    assert_eq!(rt; sort_name(Sort::Last), "last");
 }

@@ -25,44 +25,50 @@ mp;B</a></h1><nav aria-label=\"Pages\"><a href=\"/\">Status</a> <a href=\"/chang
 </time></p></header>\n<main>\n<nav class=\"counts\" aria-label=\"Counts\"><div class=\"group\
 \"><span class=\"of\">All</span><a class=\"tile unhandled zero\" href=\"/?state=unhandled\">\
 <b>0</b> unhandled</a><a class=\"tile stale\" href=\"/?state=stale\"><b>1</b> stale</a><a cl\
-ass=\"tile pending zero\" href=\"/?state=pending\"><b>0</b> pending</a><a class=\"tile all\" \
-aria-current=\"true\" href=\"/?state=all\"><b>2</b> objects</a></div><div class=\"group\"><s\
-pan class=\"of\">Hosts</span><a class=\"tile down zero\" href=\"/?state=down\"><b>0</b> down\
-</a><a class=\"tile unreachable zero\" href=\"/?state=unreachable\"><b>0</b> unreachable</a>\
-<a class=\"tile up\" href=\"/?state=up\"><b>1</b> up</a></div><div class=\"group\"><span cla\
-ss=\"of\">Services</span><a class=\"tile critical\" href=\"/?state=critical\"><b>1</b> criti\
-cal</a><a class=\"tile warning zero\" href=\"/?state=warning\"><b>0</b> warning</a><a class=\
-\"tile unknown zero\" href=\"/?state=unknown\"><b>0</b> unknown</a><a class=\"tile ok zero\" \
-href=\"/?state=ok\"><b>0</b> ok</a></div></nav>\n<form method=\"get\" action=\"/\" role=\"se\
-arch\" aria-label=\"Objects\"><label>State <select name=\"state\"><option selected>all</opti\
-on><option>problems</option><option>unhandled</option><option>stale</option><option>critical\
-</option><option>warning</option><option>unknown</option><option>ok</option><option>down</op\
-tion><option>unreachable</option><option>up</option><option>pending</option></select></label\
-> <label>Host <input name=\"host\" value=\"\"></label> <label>Refresh <input name=\"refresh\
-\" type=\"number\" min=\"0\" max=\"3600\" value=\"30\"></label> <details><summary>Filters</s\
-ummary><label>Service <input name=\"service\" value=\"\"></label> <label>Output <input name=\
-\"output\" value=\"\"></label> <label>Gateway <input name=\"gateway\" value=\"\"></label> <l\
-abel>Acknowledged <select name=\"acknowledged\"><option selected>any</option><option>yes</op\
-tion><option>no</option></select></label> <label>In downtime <select name=\"downtime\"><opti\
-on selected>any</option><option>yes</option><option>no</option></select></label></details> <\
-button>Show</button></form>\n<table><caption><h2>Hosts and services</h2>2 of 2 shown <a href\
-=\"/marks?state=all&amp;host=&amp;service=&amp;output=&amp;gateway=&amp;acknowledged=any&amp\
-;downtime=any&amp;refresh=30&amp;page=1\">Mark rows</a></caption>\n<thead><tr><th scope=\"co\
-l\">State</th><th scope=\"col\">Object</th><th scope=\"col\">Marks</th><th scope=\"col\">Sin\
-ce</th><th scope=\"col\">Last result</th><th scope=\"col\">Output</th></tr></thead><tbody>\n\
-<tr class=\"up handled\"><td class=\"cell\"><span class=\"badge state\">UP</span></td><td cl\
-ass=\"name\"><a href=\"/object?host=web%2F1&amp;service=\"><bdi>web/1</bdi></a></td><td clas\
-s=\"cell\"></td><td class=\"num cell\" data-name=\"since\" title=\"2026-11-23 20:11:00Z\">4 \
-min ago</td><td class=\"num cell\" title=\"2026-11-23 20:14:00Z\">60 s ago</td><td class=\"o\
-ut\"> <span class=\"soft perf\"></span></td></tr>\n<tr class=\"critical handled\"><td class=\
-\"cell\"><span class=\"badge state\">CRITICAL</span></td><td class=\"name\"><a href=\"/objec\
-t?host=web%2F1&amp;service=HTTP\"><bdi>web/1</bdi> <span class=\"soft\">/</span> <bdi>HTTP</\
-bdi></a></td><td class=\"cell\"><span class=\"badge stale\">stale</span> <span class=\"badge\
-\">acknowledged, sticky</span> <span class=\"badge\">downtime 1</span> </td><td class=\"num \
-cell\" data-name=\"since\" title=\"2026-11-23 20:15:00Z\">0 s ago</td><td class=\"num cell\" \
-title=\"2026-11-23 20:13:30Z\">90 s ago</td><td class=\"out\">a &lt;b&gt;\n10s <span class=\
-\"soft perf\"></span></td></tr>\n</tbody></table>\n</main><footer><a href=\"/status.json\">s\
-tatus.json</a> &middot; <a href=\"/metrics\">metrics</a></footer>\n</body></html>\n";
+ass=\"tile pending zero\" href=\"/?state=pending\"><b>0</b> pending</a><a class=\"tile all\
+\" aria-current=\"true\" href=\"/?state=all\"><b>2</b> objects</a></div><div class=\"group\"\
+><span class=\"of\">Hosts</span><a class=\"tile down zero\" href=\"/?state=down\"><b>0</b> d\
+own</a><a class=\"tile unreachable zero\" href=\"/?state=unreachable\"><b>0</b> unreachable<\
+/a><a class=\"tile up\" href=\"/?state=up\"><b>1</b> up</a></div><div class=\"group\"><span \
+class=\"of\">Services</span><a class=\"tile critical\" href=\"/?state=critical\"><b>1</b> cr\
+itical</a><a class=\"tile warning zero\" href=\"/?state=warning\"><b>0</b> warning</a><a cla\
+ss=\"tile unknown zero\" href=\"/?state=unknown\"><b>0</b> unknown</a><a class=\"tile ok zer\
+o\" href=\"/?state=ok\"><b>0</b> ok</a></div></nav>\n<form method=\"get\" action=\"/\" role=\
+\"search\" aria-label=\"Objects\"><input type=\"hidden\" name=\"sort\" value=\"worst\"><labe\
+l>State <select name=\"state\"><option selected>all</option><option>problems</option><option\
+>unhandled</option><option>stale</option><option>critical</option><option>warning</option><o\
+ption>unknown</option><option>ok</option><option>down</option><option>unreachable</option><o\
+ption>up</option><option>pending</option></select></label> <label>Host <input name=\"host\" \
+value=\"\"></label> <label>Refresh <input name=\"refresh\" type=\"number\" min=\"0\" max=\"3\
+600\" value=\"30\"></label> <details><summary>Filters</summary><label>Service <input name=\"\
+service\" value=\"\"></label> <label>Output <input name=\"output\" value=\"\"></label> <labe\
+l>Gateway <input name=\"gateway\" value=\"\"></label> <label>Acknowledged <select name=\"ack\
+nowledged\"><option selected>any</option><option>yes</option><option>no</option></select></l\
+abel> <label>In downtime <select name=\"downtime\"><option selected>any</option><option>yes<\
+/option><option>no</option></select></label></details> <button>Show</button></form>\n<table>\
+<caption><h2>Hosts and services</h2>2 of 2 shown <a href=\"/marks?state=all&amp;host=&amp;se\
+rvice=&amp;output=&amp;gateway=&amp;acknowledged=any&amp;downtime=any&amp;sort=worst&amp;ref\
+resh=30&amp;page=1\">Mark rows</a></caption>\n<thead><tr><th scope=\"col\" aria-sort=\"desce\
+nding\">State</th><th scope=\"col\"><a href=\"/?state=all&amp;host=&amp;service=&amp;output=\
+&amp;gateway=&amp;acknowledged=any&amp;downtime=any&amp;sort=host&amp;refresh=30&amp;page=1\
+\">Object</a></th><th scope=\"col\">Marks</th><th scope=\"col\"><a href=\"/?state=all&amp;ho\
+st=&amp;service=&amp;output=&amp;gateway=&amp;acknowledged=any&amp;downtime=any&amp;sort=sin\
+ce&amp;refresh=30&amp;page=1\">Since</a></th><th scope=\"col\"><a href=\"/?state=all&amp;hos\
+t=&amp;service=&amp;output=&amp;gateway=&amp;acknowledged=any&amp;downtime=any&amp;sort=last\
+&amp;refresh=30&amp;page=1\">Last result</a></th><th scope=\"col\">Output</th></tr></thead><\
+tbody>\n<tr class=\"up handled\"><td class=\"cell\"><span class=\"badge state\">UP</span></t\
+d><td class=\"name\"><a href=\"/object?host=web%2F1&amp;service=\"><bdi>web/1</bdi></a></td>\
+<td class=\"cell\"></td><td class=\"num cell\" data-name=\"since\" title=\"2026-11-23 20:11:\
+00Z\">4 min ago</td><td class=\"num cell\" title=\"2026-11-23 20:14:00Z\">60 s ago</td><td c\
+lass=\"out\"> <span class=\"soft perf\"></span></td></tr>\n<tr class=\"critical handled\"><t\
+d class=\"cell\"><span class=\"badge state\">CRITICAL</span></td><td class=\"name\"><a href=\
+\"/object?host=web%2F1&amp;service=HTTP\"><bdi>web/1</bdi> <span class=\"soft\">/</span> <bd\
+i>HTTP</bdi></a></td><td class=\"cell\"><span class=\"badge stale\">stale</span> <span class\
+=\"badge\">acknowledged, sticky</span> <span class=\"badge\">downtime 1</span> </td><td clas\
+s=\"num cell\" data-name=\"since\" title=\"2026-11-23 20:15:00Z\">0 s ago</td><td class=\"nu\
+m cell\" title=\"2026-11-23 20:13:30Z\">90 s ago</td><td class=\"out\">a &lt;b&gt;\n10s <spa\
+n class=\"soft perf\"></span></td></tr>\n</tbody></table>\n</main><footer><a href=\"/status.\
+json\">status.json</a> &middot; <a href=\"/metrics\">metrics</a></footer>\n</body></html>\n";
 
 // The page for a browser of one gateway's page.
 fn shown(alloc: Global) -> Result<Vec<u8>, ReadFault> {
@@ -184,36 +190,36 @@ h scope=\"col\">Gateway</th></tr></thead><tbody>\n<tr class=\"critical handled\"
 \"cell\"><span class=\"badge state\">CRITICAL</span></td><td class=\"name\"><a href=\"/objec\
 t?host=web%2F1&amp;service=HTTP\"><bdi>web/1</bdi> <span class=\"soft\">/</span> <bdi>HTTP</\
 bdi></a></td><td class=\"cell\"><span class=\"badge stale\">stale</span> <span class=\"badge\
-\">acknowledged, sticky</span> <span class=\"badge\">downtime 1</span> </td><td class=\"num \
-cell\" data-name=\"since\" title=\"2026-11-23 20:15:00Z\">0 s ago</td><td class=\"num cell\
-\" title=\"2026-11-23 20:13:30Z\">90 s ago</td><td class=\"out\">a &lt;b&gt;\n10s <span clas\
-s=\"soft perf\"></span></td><td class=\"cell soft\" data-name=\"at\">east</td></tr>\n</tbody\
-></table>\n<p>acknowledged by <bdi>ann</bdi> at <time datetime=\"2026-11-23 20:14:10Z\">2026\
--11-23 20:14:10Z</time>: a&amp;b</p>\n<table><caption><h2>Comments</h2></caption><thead><tr>\
-<th scope=\"col\">Object</th><th scope=\"col\">Source</th><th scope=\"col\">Time</th><th sco\
-pe=\"col\">Author</th><th scope=\"col\">Text</th><th scope=\"col\">Id</th></tr></thead><tbod\
-y>\n<tr><td class=\"name\"><bdi>web/1</bdi> <span class=\"soft\">/</span> <bdi>HTTP</bdi></t\
-d><td class=\"cell\">ack, persistent</td><td class=\"num cell\"><time datetime=\"2026-11-23 \
-20:14:10Z\">2026-11-23 20:14:10Z</time></td><td class=\"cell\" data-name=\"by\">ann</td><td \
-class=\"out\">a&amp;b</td><td class=\"cell soft\" data-name=\"id\">2 at <bdi>east</bdi></td>\
-</tr>\n</tbody></table>\n<table><caption><h2>Downtime</h2></caption><thead><tr><th scope=\"c\
-ol\">Object</th><th scope=\"col\">Kind</th><th scope=\"col\">Window</th><th scope=\"col\">Be\
-gan</th><th scope=\"col\">Author</th><th scope=\"col\">Text</th><th scope=\"col\">Id</th></t\
-r></thead><tbody>\n<tr><td class=\"name\"><bdi>web/1</bdi> <span class=\"soft\">/</span> <bd\
-i>HTTP</bdi></td><td class=\"cell\">fixed</td><td class=\"cell\"><time datetime=\"2026-11-2\
-3 20:13:20Z\">2026-11-23 20:13:20Z</time> to <time datetime=\"2026-11-23 20:16:40Z\">2026-11\
--23 20:16:40Z</time></td><td class=\"num cell\" data-name=\"began\">100 s ago</td><td class=\
-\"cell\" data-name=\"by\">ann</td><td class=\"out\">x</td><td class=\"cell soft\" data-name=\
-\"id\">1 at <bdi>east</bdi></td></tr>\n</tbody></table>\n<table><caption><h2>Changes of stat\
-es</h2>1 shown, the newest first: of each gateway the last 1,000 since this program started<\
-/caption>\n<thead><tr><th scope=\"col\">Time</th><th scope=\"col\">Object</th><th scope=\"co\
-l\">From</th><th scope=\"col\">To</th><th scope=\"col\">Gateway</th></tr></thead><tbody>\n<t\
-r class=\"critical\"><td class=\"num cell\"><time datetime=\"2026-11-23 20:15:00Z\">2026-11-\
-23 20:15:00Z</time></td><td class=\"name\"><a href=\"/?host=web%2F1\"><bdi>web/1</bdi></a> <\
-span class=\"soft\">/</span> <bdi>HTTP</bdi></td><td class=\"cell\" data-name=\"from\">OK</t\
-d><td class=\"cell\"><span class=\"badge state\">CRITICAL</span></td><td class=\"cell soft\
-\" data-name=\"at\">east</td></tr>\n</tbody></table>\n</main><footer><a href=\"/status.json\
-\">status.json</a> &middot; <a href=\"/metrics\">metrics</a></footer>\n</body></html>\n";
+\">acknowledged, sticky</span> <span class=\"why\">by <bdi>ann</bdi>: a&amp;b</span> <span c\
+lass=\"badge\">downtime 1</span> </td><td class=\"num cell\" data-name=\"since\" title=\"202\
+6-11-23 20:15:00Z\">0 s ago</td><td class=\"num cell\" title=\"2026-11-23 20:13:30Z\">90 s a\
+go</td><td class=\"out\">a &lt;b&gt;\n10s <span class=\"soft perf\"></span></td><td class=\"\
+cell soft\" data-name=\"at\">east</td></tr>\n</tbody></table>\n<table><caption><h2>Comments<\
+/h2></caption><thead><tr><th scope=\"col\">Object</th><th scope=\"col\">Source</th><th scope\
+=\"col\">Time</th><th scope=\"col\">Author</th><th scope=\"col\">Text</th><th scope=\"col\">\
+Id</th></tr></thead><tbody>\n<tr><td class=\"name\"><bdi>web/1</bdi> <span class=\"soft\">/<\
+/span> <bdi>HTTP</bdi></td><td class=\"cell\">ack, persistent</td><td class=\"num cell\"><ti\
+me datetime=\"2026-11-23 20:14:10Z\">2026-11-23 20:14:10Z</time></td><td class=\"cell\" data\
+-name=\"by\">ann</td><td class=\"out\">a&amp;b</td><td class=\"cell soft\" data-name=\"id\">\
+2 at <bdi>east</bdi></td></tr>\n</tbody></table>\n<table><caption><h2>Downtime</h2></caption\
+><thead><tr><th scope=\"col\">Object</th><th scope=\"col\">Kind</th><th scope=\"col\">Window\
+</th><th scope=\"col\">Began</th><th scope=\"col\">Author</th><th scope=\"col\">Text</th><th \
+scope=\"col\">Id</th></tr></thead><tbody>\n<tr><td class=\"name\"><bdi>web/1</bdi> <span cla\
+ss=\"soft\">/</span> <bdi>HTTP</bdi></td><td class=\"cell\">fixed</td><td class=\"cell\"><ti\
+me datetime=\"2026-11-23 20:13:20Z\">2026-11-23 20:13:20Z</time> to <time datetime=\"2026-11\
+-23 20:16:40Z\">2026-11-23 20:16:40Z</time></td><td class=\"num cell\" data-name=\"began\">1\
+00 s ago</td><td class=\"cell\" data-name=\"by\">ann</td><td class=\"out\">x</td><td class=\
+\"cell soft\" data-name=\"id\">1 at <bdi>east</bdi></td></tr>\n</tbody></table>\n<table><cap\
+tion><h2>Changes of states</h2>1 shown, the newest first: of each gateway the last 1,000 sin\
+ce this program started</caption>\n<thead><tr><th scope=\"col\">Time</th><th scope=\"col\">O\
+bject</th><th scope=\"col\">From</th><th scope=\"col\">To</th><th scope=\"col\">Gateway</th>\
+</tr></thead><tbody>\n<tr class=\"critical\"><td class=\"num cell\"><time datetime=\"2026-11\
+-23 20:15:00Z\">2026-11-23 20:15:00Z</time></td><td class=\"name\"><a href=\"/?host=web%2F1\
+\"><bdi>web/1</bdi></a> <span class=\"soft\">/</span> <bdi>HTTP</bdi></td><td class=\"cell\" \
+data-name=\"from\">OK</td><td class=\"cell\"><span class=\"badge state\">CRITICAL</span></td\
+><td class=\"cell soft\" data-name=\"at\">east</td></tr>\n</tbody></table>\n</main><footer><\
+a href=\"/status.json\">status.json</a> &middot; <a href=\"/metrics\">metrics</a></footer>\n\
+</body></html>\n";
 
 // The page of a service that one gateway shows.
 fn object_shown(alloc: Global) -> Result<Vec<u8>, ReadFault> {
