@@ -357,6 +357,8 @@ def test_since(now):
             soon(lambda: gateway.count >= count + 2)
             found = {row['service'] or '': row['since'] for row in web.json()['objects']}
             test(f'since when, of page {number + 1}', found == since, (found, since))
+        found = shown_in(web.text('/?sort=since'))
+        test('the latest first', found == ['web1', 'web1/SSH', 'web1/HTTP'], found)
 
 
 def test_changes(now):
@@ -471,6 +473,14 @@ QUERIES = {
     'state=warning&service=SSH&gateway=west&acknowledged=no&downtime=no': 'web2/ssh',
 }
 
+# The order of what these queries select of them.
+ORDERS = {
+    '': 'db web2/ssh web1/HTTP web1 web1/disk web2',
+    'sort=HOST': 'db web1/HTTP web1 web1/disk web2/ssh web2',
+    'sort=host&sort=output': 'db web2/ssh web1/HTTP web1 web1/disk web2',
+    'sort=host&host=web&downtime=no': 'web1 web1/disk web2/ssh web2',
+}
+
 
 def shown_in(page):
     """The objects of a page's list, each as the link of its row names it."""
@@ -494,6 +504,15 @@ def test_filters(now):
             found = [row['host'] + ('/' + row['service'] if row['service'] else '')
                      for row in web.json('/status.json?' + query)['objects']]
             test(f'the same for scripts of {query}', found == shown_in(page), found)
+        for query, wanted in ORDERS.items():
+            test(f'the order of {query}', shown_in(web.text('/?' + query)) == wanted.split(), wanted)
+        text = web.text('/?sort=host&gateway=west').decode()
+        heads = re.findall('<th scope="col"(?: aria-sort="([a-z]*)")?>(?:<a href="([^"]*)">)?([^<]*)', text)[:5]
+        orders = {name: urllib.parse.parse_qs(html.unescape(link)[2:]) for _, link, name in heads if link}
+        test('the heads of the columns', [head[0] for head in heads] == ['', 'ascending', '', '', '']
+             and {name: order['sort'] + order['gateway'] + order['page'] for name, order in orders.items()} == {
+                 'State': ['worst', 'west', '1'], 'Since': ['since', 'west', '1'], 'Last result': ['last', 'west', '1']}, heads)
+        test('scripts have one order', web.json('/status.json?sort=host') == web.json())
         folded = [b'<details open>' in web.text('/?' + query)
                   for query in ['', 'host=a&state=up', 'service=a', 'output=a', 'gateway=a', 'acknowledged=no', 'downtime=yes']]
         test('filters that select are not folded', folded == [False] * 2 + [True] * 5, folded)
@@ -509,7 +528,7 @@ def test_rows(now):
         f'object;{name.replace("/", ";")};OK;{now};fresh;-;0;x\n' if '/' in name else f'object;{name};;UP;{now};fresh;-;0;x\n'
         for name in names)
     with Web(('east', shows(page.encode()).port)) as web:
-        text = web.text('/?host=HOST&refresh=7&downtime=no').decode()
+        text = web.text('/?host=HOST&refresh=7&downtime=no&sort=host').decode()
         test('a page has 500 rows', shown_in(text.encode()) == names[:500] and '</h2>500 of 1201 shown<' in text, text[:2000])
         links = re.search('<nav class="pages" aria-label="Rows">1201 selected, page (.*)</nav>', text).group(1)
         others = [html.unescape(link) for link in re.findall('<a href="([^"]*)">', links)]
@@ -518,6 +537,7 @@ def test_rows(now):
         pages = [web.text(link) for link in others]
         test('they show the rest', [name for other in pages for name in shown_in(other)] == names[500:], others)
         test('they keep the query', all(b'content="7"' in other and b'value="HOST"' in other
+                                        and b'name="sort" value="host"' in other
                                         and b'<b aria-current="page">%d</b>' % number in other
                                         for number, other in enumerate(pages, 2)), others)
         test('500 rows are one page', b'class="pages"' not in web.text('/?host=host00')
