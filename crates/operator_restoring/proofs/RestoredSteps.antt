@@ -1,5 +1,5 @@
 -- What status 0 rests on: where nothing is named, no row was foreseen to be missing.
-use Rattle.std.proofs.Common.{◌≡◌, ◌⊎◌, ℕ, ◌+◌, Bool, List, map, inl, inr, ap, ◌∙◌, subst, arith}
+use Rattle.std.proofs.Common.{◌≡◌, ℕ, ◌+◌, Bool, List, map, inl, inr, ap, ◌∙◌, subst, arith}
 use Rattle.std.specs.Prelude.{min}
 use Rattle.gate_model.specs.declared.object.ObjectLine.{ObjectLine}
 use Rattle.gate_model.specs.declared.record.Moment.{Moment}
@@ -14,7 +14,7 @@ use Rattle.operator_restore.specs.Naming.{row_count, left_count}
 use Rattle.status_reading.specs.declared.page.StatusPage.{StatusPage}
 use Rattle.page_return.specs.declared.comparing.Missing.{Missing}
 use Rattle.page_return.specs.declared.returning.Unforeseen.{Unforeseen}
-use Rattle.operator_restoring.specs.Restored.{IsShownBack, IsOfLog, IsOfPage, IsPlanned, IsSentOn, IsRestored}
+use Rattle.operator_restoring.specs.Restored.{IsShownBack, IsPlanned, IsSentOn, IsRestored}
 use Rattle.operator_restoring.specs.inner.Found.{IsFound}
 
 pub of_log : (fresh configured : List ObjectLine) (page log : List ℕ) (now : Moment) (prospect : Prospect)
