@@ -1,7 +1,12 @@
-ghost use Rattle.std.specs.Prelude.{◌≡◌, IfOk, OnOk, true, false, length, map, string_bytes, codes};
+ghost use Rattle.std.specs.Prelude.{◌≡◌, ◌≢◌, IsOk, IfOk, IfErr, OnOk, OnErr, false, map, string_bytes, codes};
+ghost use Rattle.std.specs.List.{IsDistinct};
+ghost use Rattle.std.specs.Str.{bytes_eq};
 ghost use Rattle.clap.specs.Walk.{texts};
-ghost use Rattle.clap.specs.Words.{new_app, app_of, rule_of, found_of, rows_of};
-ghost use Rattle.desk_words.specs.Words.{option_of, list_of, unnamed, program, value_of, values_of, IsLoopbackText, have_ports, Sets, AskFor};
+ghost use Rattle.clap.specs.Words.{new_app, app_of, rule_of, found_of, kind_of, rows_of};
+ghost use Rattle.clap.specs.declared.error.Error.{Error as Refusal};
+ghost use Rattle.page_watching.specs.Places.{name_of, NameAll};
+ghost use Rattle.desk_words.specs.declared.words.WordsFault.TheVariants.{Refused, Bad};
+ghost use Rattle.desk_words.specs.Words.{option_of, list_of, unnamed, program, value_of, values_of, IsLoopbackText, HavePorts, Sets, AskFor, IsListenFault, IsPlacesFault, IsFaultIn, IsWordsFault};
 
 use crate::operators::{have_ports, users_in};
 use clap::error::ErrorKind;
@@ -73,16 +78,6 @@ impl From<AllocError> for WordsFault {
 
     fn from(_: AllocError) -> WordsFault {
         WordsFault::OutOfMemory
-    }
-}
-
-impl From<PlacesFault> for WordsFault {
-    fn from(fault: PlacesFault) -> WordsFault {
-        match fault {
-            PlacesFault::BadPlace => WordsFault::Bad(BadValue::Gateway),
-            PlacesFault::SameName => WordsFault::Bad(BadValue::SameName),
-            PlacesFault::OutOfMemory => WordsFault::OutOfMemory,
-        }
     }
 }
 
@@ -185,18 +180,36 @@ fn values_of<'a>(
 }
 
 fn listen_in(text: &str) -> Result<SocketAddr, WordsFault>
-    ensures { IfOk result (IsLoopbackText text.now) }
+    ensures listen { IfOk result (IsLoopbackText text.now) }
+    ensures refused { IfErr result (IsListenFault text.now) }
 {
-    match address_in(text) {
-        Some(address) if address.ip().is_loopback() => Ok(address),
-        Some(_) => Err(WordsFault::Bad(BadValue::NotLoopback)),
-        None => Err(WordsFault::Bad(BadValue::Listen)),
+    let Some(address) = address_in(text) else {
+        return Err(WordsFault::Bad(BadValue::Listen));
+    };
+    if address.ip().is_loopback() {
+        Ok(address)
+    } else {
+        Err(WordsFault::Bad(BadValue::NotLoopback))
+    }
+}
+
+fn places_of<'a>(alloc: Global, values: &[&'a str]) -> Result<Vec<Place<'a>>, WordsFault>
+    ensures places { IfOk result (λ places. NameAll (texts values.now) places.items) }
+    ensures distinct { IsOk result → IsDistinct bytes_eq (map name_of (texts values.now)) }
+    ensures refused { IfErr result (IsPlacesFault (texts values.now)) }
+{
+    match places_in(alloc, values) {
+        Ok(places) => Ok(places),
+        Err(PlacesFault::BadPlace) => Err(WordsFault::Bad(BadValue::Gateway)),
+        Err(PlacesFault::SameName) => Err(WordsFault::Bad(BadValue::SameName)),
+        Err(PlacesFault::OutOfMemory) => Err(WordsFault::OutOfMemory),
     }
 }
 
 fn check_ports(places: &[Place<'_>], ports: &[Place<'_>]) -> Result<(), WordsFault>
-    ensures ports { OnOk result (have_ports places.now ports.now ≡ true) }
-    ensures no_more { OnOk result (length ports.now ≡ length places.now) }
+    ensures ports { OnOk result (HavePorts places.now ports.now) }
+    ensures none { OnErr result (HavePorts places.now ports.now → ⊥) }
+    ensures refused { IfErr result (λ fault. fault ≡ Bad BadValue.Operators) }
 {
     if ports.len() == places.len() && have_ports(places, ports) {
         Ok(())
@@ -206,7 +219,8 @@ fn check_ports(places: &[Place<'_>], ports: &[Place<'_>]) -> Result<(), WordsFau
 }
 
 fn settings_in<'a>(alloc: Global, matches: &ArgMatches<'a>) -> Result<Settings<'a>, WordsFault>
-    ensures { IfOk result (Sets (rows_of (found_of matches.now))) }
+    ensures found { IfOk result (Sets (rows_of (found_of matches.now))) }
+    ensures refused { IfErr result (IsFaultIn (rows_of (found_of matches.now))) }
 {
     let listen = listen_in(value_of(matches, "listen", "127.0.0.1:8081"))?;
     let gateways = values_of(alloc, matches, "gateway")?;
@@ -225,9 +239,9 @@ fn settings_in<'a>(alloc: Global, matches: &ArgMatches<'a>) -> Result<Settings<'
         return Err(WordsFault::Bad(BadValue::NoUsers));
     }
     let users = users_in(alloc, users.as_bytes())?;
-    let places = places_in(alloc, named)?;
+    let places = places_of(alloc, named)?;
     let ports = values_of(alloc, matches, "operators")?;
-    let operators = places_in(alloc, ports.as_slice())?;
+    let operators = places_of(alloc, ports.as_slice())?;
     check_ports(places.as_slice(), operators.as_slice())?;
     Ok(Settings {
         listen,
@@ -243,7 +257,11 @@ fn settings_in<'a>(alloc: Global, matches: &ArgMatches<'a>) -> Result<Settings<'
 }
 
 // The fault of words that clap refuses.
-fn fault_of(error: Error) -> WordsFault {
+fn fault_of(error: Error) -> WordsFault
+    ensures bad { (value : BadValue) → result ≡ Bad value → ⊥ }
+    ensures refused { (other : Refusal) → result ≡ Refused other
+        → (error ≡ other) × (kind_of error ≢ ErrorKind.OutOfMemory) }
+{
     match error.kind() {
         ErrorKind::OutOfMemory => WordsFault::OutOfMemory,
         _ => WordsFault::Refused(error),
@@ -255,7 +273,8 @@ fn fault_of(error: Error) -> WordsFault {
 /// `Refused`: clap refuses them, or they ask for help. `Bad`: this value. `OutOfMemory` may be
 /// returned in place of any answer.
 pub fn read_words<'a>(alloc: Global, words: &'a [String]) -> Result<Settings<'a>, WordsFault>
-    ensures { IfOk result (AskFor (map string_bytes words.entry.now)) }
+    ensures asked { IfOk result (AskFor (map string_bytes words.entry.now)) }
+    ensures refused { IfErr result (IsWordsFault (map string_bytes words.entry.now)) }
 {
     let Ok(command) = command_line(alloc) else {
         return Err(WordsFault::OutOfMemory);
