@@ -12,6 +12,7 @@ use Rattle.desk_view.specs.declared.marks.MarksPage.{MarksPage}
 use Rattle.desk_view.specs.declared.fields.TheConstants.{MARKED}
 use Rattle.desk_view.specs.Parts.{PartView}
 use Rattle.status_view.specs.Layout.{Markup, Text, Number}
+use Rattle.status_view.specs.Filling.{words_of, performance_of}
 use Rattle.desk_view.specs.Page.{stale_mark, acknowledgement_mark, again_part, note_parts}
 
 -- between a host and a service
@@ -39,7 +40,7 @@ box_parts index row =
     ∷ Text row.service
     ∷ []
 
--- its state, marks and output
+-- its state, marks and output, the performance data apart
 unfoldable pub shown_parts : ObjectView → List PartView
 shown_parts row =
     Markup (codes "</label></td><td class=\"cell\"><span class=\"badge state\">")
@@ -49,13 +50,16 @@ shown_parts row =
     ∷ Markup (acknowledgement_mark row.acknowledgement)
     ∷ Markup (downtime_mark row.depth)
     ∷ Markup (codes "</td><td class=\"out\">")
-    ∷ Text row.output
+    ∷ Text (words_of row.output)
+    ∷ Markup (codes " <span class=\"soft perf\">")
+    ∷ Text (performance_of row.output)
+    ∷ Markup (codes "</span>")
     ∷ []
 
 -- its link
 unfoldable pub link_parts : List ℕ → List PartView
 link_parts link =
-    Markup (codes "</td><td class=\"cell\"><a href=\"")
+    Markup (codes "</td><td class=\"num cell\"><a href=\"")
     ∷ Text link
     ∷ Markup (codes "\">open</a></td></tr>\n")
     ∷ []

@@ -153,7 +153,8 @@ unfoldable pub head_parts : DeskPage → List PartView
 head_parts page =
     Markup (codes "<!doctype html><html lang=\"en\"><head><meta charset=\"utf-8\"><title>")
     ∷ Text page.of.host.now
-    ∷ Markup (codes "</title><meta name=\"referrer\" content=\"same-origin\"><link rel=\"stylesheet\" href=\"/style.css\">")
+    ∷ Markup (codes "</title><meta name=\"viewport\" content=\"width=device-width,initial-scale=1\">")
+    ∷ Markup (codes "<meta name=\"referrer\" content=\"same-origin\"><link rel=\"stylesheet\" href=\"/style.css\">")
     ∷ Markup (again_part page.again)
     ∷ Markup (codes "</head><body><main><p><a href=\"/\">")
     ∷ Text page.title.now

@@ -1,9 +1,9 @@
 //! The page of many objects, with one form for those that are marked.
 
-ghost use Rattle.std.specs.Prelude.{◌≡◌, ◌++◌, IfOk, OnOk, map, take};
-ghost use Rattle.std.specs.List.{flat_map};
+ghost use Rattle.std.specs.Prelude.{◌≡◌, ◌<◌, ◌==◌, ◌++◌, IfOk, IfSome, OnOk, length, map, take};
+ghost use Rattle.std.specs.List.{flat_map, position};
 ghost use Rattle.status_reading.specs.Rows.{object_view};
-ghost use Rattle.status_view.specs.Filling.{html_bytes};
+ghost use Rattle.status_view.specs.Filling.{html_bytes, words_of, performance_of};
 ghost use Rattle.desk_view.specs.Marks.{slash_before, downtime_mark, box_parts, shown_parts, link_parts, mark_row, rows_parts, top_parts, form_parts, table_parts, marks_parts};
 
 use crate::fields::MARKED;
@@ -81,10 +81,29 @@ fn put_box<'x>(html: &mut Html, index: usize, row: &ShownObject<'x>) -> Result<(
     )
 }
 
+fn bar(output: &[u8]) -> Option<usize>
+    ensures offset { result ≡ position (λ byte. byte == 124) output.now }
+    ensures within { IfSome result (λ offset. offset < length output.now) }
+{
+    output.iter().position(|byte| *byte == b'|')
+}
+
+// An output's words, and its performance data.
+fn halves_of(output: &[u8]) -> (&[u8], &[u8])
+    ensures words { result.0.now ≡ words_of output.entry.now }
+    ensures performance { result.1.now ≡ performance_of output.entry.now }
+{
+    match bar(output) {
+        Some(offset) => (&output[..offset], &output[offset + 1..]),
+        None => (output, &[]),
+    }
+}
+
 #[tactic(auto, unfolding(crate::specs::Marks::shown_parts))]
 fn put_shown<'x>(html: &mut Html, row: &ShownObject<'x>) -> Result<(), AllocError>
     ensures { OnOk result (html.new ≡ html.old ++ html_bytes (shown_parts (object_view row.now))) }
 {
+    let (words, performance) = halves_of(row.output);
     put(
         html,
         &[
@@ -95,7 +114,10 @@ fn put_shown<'x>(html: &mut Html, row: &ShownObject<'x>) -> Result<(), AllocErro
             Part::Markup(acknowledgement_mark(row.acknowledgement)),
             Part::Markup(downtime_mark(row.depth)),
             Part::Markup("</td><td class=\"out\">"),
-            Part::Text(row.output),
+            Part::Text(words),
+            Part::Markup(" <span class=\"soft perf\">"),
+            Part::Text(performance),
+            Part::Markup("</span>"),
         ],
     )
 }
@@ -107,7 +129,7 @@ fn put_link(html: &mut Html, link: &[u8]) -> Result<(), AllocError>
     put(
         html,
         &[
-            Part::Markup("</td><td class=\"cell\"><a href=\""),
+            Part::Markup("</td><td class=\"num cell\"><a href=\""),
             Part::Text(link),
             Part::Markup("\">open</a></td></tr>\n"),
         ],

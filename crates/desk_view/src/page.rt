@@ -266,7 +266,10 @@ fn put_head(html: &mut Html, page: DeskPage<'_, '_>) -> Result<(), AllocError>
             Part::Markup("<!doctype html><html lang=\"en\"><head><meta charset=\"utf-8\"><title>"),
             Part::Text(page.of.host),
             Part::Markup(
-                "</title><meta name=\"referrer\" content=\"same-origin\"><link rel=\"stylesheet\" href=\"/style.css\">",
+                "</title><meta name=\"viewport\" content=\"width=device-width,initial-scale=1\">",
+            ),
+            Part::Markup(
+                "<meta name=\"referrer\" content=\"same-origin\"><link rel=\"stylesheet\" href=\"/style.css\">",
             ),
             Part::Markup(again_part(page.again)),
             Part::Markup("</head><body><main><p><a href=\"/\">"),

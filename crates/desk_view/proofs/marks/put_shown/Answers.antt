@@ -3,4 +3,12 @@ use Rattle.desk_view.proofs.marks.put_shown.Goals as goal
 
 pub returns : goal.returns
 unfolding shown_parts
-returns c = rw (c.state_name.ensures, c.stale_mark.ensures, c.acknowledgement_mark.ensures, c.downtime_mark.ensures) at c.put.ensures
+returns c =
+    rw (
+      c.state_name.ensures,
+      c.stale_mark.ensures,
+      c.acknowledgement_mark.ensures,
+      c.downtime_mark.ensures,
+      c.halves_of.ensures.words,
+      c.halves_of.ensures.performance,
+    ) at c.put.ensures
