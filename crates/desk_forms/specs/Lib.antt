@@ -1,6 +1,7 @@
 pub mod Fields
 pub mod Moments
 pub mod Requests
+pub mod Faults
 pub mod Offers
 pub mod Sender
 pub mod Admitted

@@ -1,4 +1,3 @@
 -- For proofs and private functions alone.
 pub mod Reading
 pub mod Commands
-pub mod Texts

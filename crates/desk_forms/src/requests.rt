@@ -1,13 +1,13 @@
 //! The request of a form, by its button.
 
-ghost use Rattle.std.specs.Prelude.{◌≡◌, ◌∷◌, [], Some, IfOk, IfErr, codes, map, find, option_map};
+ghost use Rattle.std.specs.Prelude.{◌≡◌, ◌∷◌, [], Some, None, IfOk, IfErr, codes, map, find, option_map};
 ghost use Rattle.std.specs.Str.{bytes_eq};
 ghost use Rattle.status_reading.specs.Rows.{object_view, comment_view, downtime_view, page_view};
 ghost use Rattle.desk_forms.specs.Fields.{given};
 ghost use Rattle.desk_forms.specs.Moments.{time_of};
 ghost use Rattle.desk_forms.specs.Requests.{action_of, is_row, object_of, object_on, remark_in, window_in, shows_comment, shows_downtime, request_for, request_of, status_of, IsMissing};
+ghost use Rattle.desk_forms.specs.Faults.{needing, object_fault, remark_fault, fault_for, first_fault, IsFirst, request_words, words_of};
 ghost use Rattle.desk_forms.specs.Offers.{IsOn, IsOffered};
-ghost use Rattle.desk_forms.specs.inner.Texts.{text_of};
 
 use crate::fields::Field;
 use crate::lookup::{is_checked, text_in, value_or_empty};
@@ -17,40 +17,30 @@ use gate_model::Text;
 use operator_commands::{Object, Remark, Request, RequestFault, Texts, Window};
 use status_reading::{ShownComment, ShownDowntime, ShownObject, StatusPage, plain_bytes};
 use std::alloc::{AllocError, AllocFailed, Global};
-use thiserror::Error;
 
 /// Why a form asks for no command.
-#[derive(Clone, Copy, Debug, PartialEq, Eq, Error)]
+#[derive(Clone, Copy, Debug, PartialEq, Eq)]
 pub enum FormFault {
     /// It names no action.
-    #[error("the form names no action")]
     NoAction,
     /// The page shows no object of these names.
-    #[error("the page doesn't show this object")]
     NoObject,
     /// The comment is missing.
-    #[error("the comment is missing")]
     NoText,
     /// The page shows no comment or downtime entry of this id.
-    #[error("the page doesn't show this entry")]
     NoEntry,
     /// It marks no object.
-    #[error("the form marks no object")]
     NoMarks,
     /// It marks more than 256 objects.
-    #[error("the form marks more than 256 objects")]
     TooManyMarks,
     /// A time, a span or a setting is none.
-    #[error("{text}", text = text_of(*.0))]
     Request(RequestFault),
     /// Memory ran out.
-    #[error("out of memory")]
     OutOfMemory,
 }
 
-// What a fault of a request is in the words of a form.
-fn text_of(fault: RequestFault) -> &'static str
-    ensures { result.now ≡ text_of fault }
+fn request_words(fault: RequestFault) -> &'static str
+    ensures { result.now ≡ request_words fault }
 {
     match fault {
         RequestFault::BadSetting => "passive checks are on or off",
@@ -86,6 +76,22 @@ impl<T: Drop> From<AllocFailed<T>> for FormFault {
 }
 
 impl FormFault {
+    /// The words for it.
+    pub fn words(self) -> &'static str
+        ensures { result.now ≡ words_of self }
+    {
+        match self {
+            FormFault::NoAction => "the form names no action",
+            FormFault::NoObject => "the page doesn't show this object",
+            FormFault::NoText => "the comment is missing",
+            FormFault::NoEntry => "the page doesn't show this entry",
+            FormFault::NoMarks => "the form marks no object",
+            FormFault::TooManyMarks => "the form marks more than 256 objects",
+            FormFault::Request(cause) => request_words(cause),
+            FormFault::OutOfMemory => "out of memory",
+        }
+    }
+
     /// The status of the answer (RFC 9110, section 15). Own rule: which one.
     pub fn status(self) -> u16
         ensures { result ≡ status_of self }
@@ -166,7 +172,7 @@ fn object_of(alloc: Global, row: &ShownObject<'_>) -> Result<Object, AllocError>
 fn object_on(alloc: Global, page: &StatusPage<'_>, fields: &[Field]) -> Result<Object, FormFault>
     ensures object { IfOk result (λ object. object_on (page_view page.now) fields.now ≡ Some object) }
     ensures shown { IfOk result (IsOn (page_view page.now)) }
-    ensures refused { IfErr result (IsMissing (object_on (page_view page.now) fields.now)) }
+    ensures refused { IfErr result (IsFirst (object_fault (page_view page.now) fields.now)) }
 {
     let host = value_or_empty(fields, "host");
     let service = value_or_empty(fields, "service");
@@ -179,7 +185,7 @@ fn object_on(alloc: Global, page: &StatusPage<'_>, fields: &[Field]) -> Result<O
 // What a form says of it.
 fn remark_in(alloc: Global, fields: &[Field]) -> Result<Remark, FormFault>
     ensures remark { IfOk result (λ remark. remark_in fields.now ≡ Some remark) }
-    ensures refused { IfErr result (IsMissing (remark_in fields.now)) }
+    ensures refused { IfErr result (IsFirst (needing (remark_in fields.now) FormFault.NoText None)) }
 {
     match text_in(alloc, fields, "text")? {
         Some(text) => Ok(Remark { text, author: None }),
@@ -251,7 +257,7 @@ fn acknowledgement(
         request_for Action.Acknowledge (page_view page.now) fields.now ≡ Some request) }
     ensures offered { IfOk result (IsOffered (page_view page.now)) }
     ensures refused { IfErr result
-        (IsMissing (request_for Action.Acknowledge (page_view page.now) fields.now)) }
+        (IsFirst (fault_for Action.Acknowledge (page_view page.now) fields.now)) }
 {
     let object = object_on(alloc, page, fields)?;
     let remark = remark_in(alloc, fields)?;
@@ -268,7 +274,7 @@ fn removal(alloc: Global, page: &StatusPage<'_>, fields: &[Field]) -> Result<Req
         request_for Action.Unacknowledge (page_view page.now) fields.now ≡ Some request) }
     ensures offered { IfOk result (IsOffered (page_view page.now)) }
     ensures refused { IfErr result
-        (IsMissing (request_for Action.Unacknowledge (page_view page.now) fields.now)) }
+        (IsFirst (fault_for Action.Unacknowledge (page_view page.now) fields.now)) }
 {
     let object = object_on(alloc, page, fields)?;
     Ok(Request::Unack { object })
@@ -279,7 +285,7 @@ fn comment(alloc: Global, page: &StatusPage<'_>, fields: &[Field]) -> Result<Req
         request_for Action.Comment (page_view page.now) fields.now ≡ Some request) }
     ensures offered { IfOk result (IsOffered (page_view page.now)) }
     ensures refused { IfErr result
-        (IsMissing (request_for Action.Comment (page_view page.now) fields.now)) }
+        (IsFirst (fault_for Action.Comment (page_view page.now) fields.now)) }
 {
     let object = object_on(alloc, page, fields)?;
     let remark = remark_in(alloc, fields)?;
@@ -299,7 +305,7 @@ fn comment_deletion(
         request_for Action.Uncomment (page_view page.now) fields.now ≡ Some request) }
     ensures offered { IfOk result (IsOffered (page_view page.now)) }
     ensures refused { IfErr result
-        (IsMissing (request_for Action.Uncomment (page_view page.now) fields.now)) }
+        (IsFirst (fault_for Action.Uncomment (page_view page.now) fields.now)) }
 {
     let Some(word) = text_in(alloc, fields, "id")? else {
         return Err(FormFault::NoEntry);
@@ -318,7 +324,7 @@ fn downtime(alloc: Global, page: &StatusPage<'_>, fields: &[Field]) -> Result<Re
         request_for Action.Downtime (page_view page.now) fields.now ≡ Some request) }
     ensures offered { IfOk result (IsOffered (page_view page.now)) }
     ensures refused { IfErr result
-        (IsMissing (request_for Action.Downtime (page_view page.now) fields.now)) }
+        (IsFirst (fault_for Action.Downtime (page_view page.now) fields.now)) }
 {
     let object = object_on(alloc, page, fields)?;
     let remark = remark_in(alloc, fields)?;
@@ -340,7 +346,7 @@ fn cancellation(
         request_for Action.Cancel (page_view page.now) fields.now ≡ Some request) }
     ensures offered { IfOk result (IsOffered (page_view page.now)) }
     ensures refused { IfErr result
-        (IsMissing (request_for Action.Cancel (page_view page.now) fields.now)) }
+        (IsFirst (fault_for Action.Cancel (page_view page.now) fields.now)) }
 {
     let Some(word) = text_in(alloc, fields, "id")? else {
         return Err(FormFault::NoEntry);
@@ -358,7 +364,7 @@ fn passive(alloc: Global, page: &StatusPage<'_>, fields: &[Field]) -> Result<Req
         request_for Action.Passive (page_view page.now) fields.now ≡ Some request) }
     ensures offered { IfOk result (IsOffered (page_view page.now)) }
     ensures refused { IfErr result
-        (IsMissing (request_for Action.Passive (page_view page.now) fields.now)) }
+        (IsFirst (fault_for Action.Passive (page_view page.now) fields.now)) }
 {
     let object = object_on(alloc, page, fields)?;
     match text_in(alloc, fields, "setting")? {
@@ -380,6 +386,7 @@ pub fn request_of(
     ensures request { IfOk result (λ request.
         request_of (page_view page.now) fields.now ≡ Some request) }
     ensures offered { IfOk result (IsOffered (page_view page.now)) }
+    ensures fault { IfErr result (IsFirst (first_fault (page_view page.now) fields.now)) }
     ensures refused { IfErr result (IsMissing (request_of (page_view page.now) fields.now)) }
 {
     let word = value_or_empty(fields, "action");

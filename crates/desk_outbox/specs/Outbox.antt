@@ -8,6 +8,8 @@ use Rattle.operator_lines.specs.declared.asking.AskFault.TheVariants.{Unsent, Wr
 use Rattle.desk_sending.specs.Answers.{answer_text}
 use Rattle.desk_outbox.specs.declared.labels.Label.{Label}
 use Rattle.desk_outbox.specs.declared.outbox.Settled.{Settled}
+use Rattle.desk_outbox.specs.declared.outbox.TakeFault.{TakeFault}
+use Rattle.desk_outbox.specs.declared.outbox.TakeFault.TheVariants.{Full, OutOfMemory}
 use Rattle.desk_outbox.specs.Labels.{LabelledView}
 
 -- the orders that wait, the oldest first; the label of the one that is under way; and what came of the last ones, the oldest
@@ -19,6 +21,11 @@ pub record OutboxView : Type 0 where
 
 abbrev pub empty : OutboxView
 empty = record { waiting = []; under_way = None; settled = [] }
+
+-- the words for an order that is not taken in
+abbrev pub take_words : TakeFault → List ℕ
+take_words Full = codes "1024 commands wait for this gateway"
+take_words OutOfMemory = codes "out of memory"
 
 -- ---- what came of an order
 

@@ -1,7 +1,7 @@
 ghost use Rattle.std.specs.Prelude.{◌≡◌, ◌≢◌, ◌<◌, ◌≤◌, [], ◌∷◌, ◌++◌, length, Ok, Err, None, Some, IfOk, OnOk, OnErr, ◌==◌};
 ghost use Rattle.circular_buffer.specs.Buffer.{keep_last};
 ghost use Rattle.desk_outbox.specs.Labels.{LabelledView};
-ghost use Rattle.desk_outbox.specs.Outbox.{empty, is_queued, prefix_of, settled_text, settled_of, lapsed_of};
+ghost use Rattle.desk_outbox.specs.Outbox.{empty, take_words, is_queued, prefix_of, settled_text, settled_of, lapsed_of};
 
 use crate::labels::{Label, Labelled};
 use crate::receipts::Receipt;
@@ -12,7 +12,6 @@ use operator_lines::{AskFault, Reply};
 use std::alloc::{AllocError, Global};
 use std::collections::VecDeque;
 use std::marker::Model;
-use thiserror::Error;
 
 // How many orders wait at most.
 const MOST_WAITING: usize = 1024;
@@ -21,14 +20,24 @@ const MOST_WAITING: usize = 1024;
 const MOST_SETTLED: usize = 1024;
 
 /// Why an order is not taken in: it is not sent.
-#[derive(Clone, Copy, Debug, PartialEq, Eq, Error)]
+#[derive(Clone, Copy, Debug, PartialEq, Eq)]
 pub enum TakeFault {
     /// 1,024 orders wait.
-    #[error("1024 commands wait for this gateway")]
     Full,
     /// Memory ran out.
-    #[error("out of memory")]
     OutOfMemory,
+}
+
+impl TakeFault {
+    /// The words for it.
+    pub fn words(self) -> &'static str
+        ensures { result.now ≡ take_words self }
+    {
+        match self {
+            TakeFault::Full => "1024 commands wait for this gateway",
+            TakeFault::OutOfMemory => "out of memory",
+        }
+    }
 }
 
 /// What came of an order.

@@ -1,5 +1,5 @@
 -- The command of a form at a gateway (`IsOrder`), and why there is none (`IsObjection`). Own rules.
-use Rattle.std.specs.Prelude.{◌≡◌, ◌≢◌, ◌⊎◌, ℕ, Bool, true, List, ◌++◌, codes, ⊤}
+use Rattle.std.specs.Prelude.{◌≡◌, ◌≢◌, ℕ, Bool, true, List, codes, ⊤}
 use Rattle.std.specs.Option.{option_map_or}
 use Rattle.std.specs.Str.{bytes_eq}
 use Rattle.gate_model.specs.declared.record.Moment.{Moment}
@@ -20,6 +20,7 @@ use Rattle.desk_forms.specs.declared.fields.Field.{Field}
 use Rattle.desk_forms.specs.Fields.{given}
 use Rattle.desk_forms.specs.Sender.{Sender}
 use Rattle.desk_forms.specs.Commands.{IsCommandOf}
+use Rattle.desk_forms.specs.Faults.{IsFormFault, words_of}
 use Rattle.desk_forms.specs.Offers.{IsAllowed}
 use Rattle.desk_sending.specs.declared.orders.Objection.{Objection}
 use Rattle.desk_sending.specs.declared.orders.Objection.TheVariants.{Form, Refused, Unwritable, OutOfMemory}
@@ -50,16 +51,16 @@ IsUnwritable command other = ⊥
 
 -- why there is none
 abbrev pub IsObjection : PageView → Moment → Sender → Objection → Type 0
-IsObjection page now form (Form fault) = ⊤
+IsObjection page now form (Form fault) = IsFormFault page form.fields fault
 IsObjection page now form (Refused body outcome) =
     IsCommandOf page now form body × (outcome_on page body ≡ outcome) × (outcome ≢ Accepted)
 IsObjection page now form (Unwritable body) =
     IsCommandOf page now form body × (¬ IsWritable (record { entered = now; body = body }))
 IsObjection page now form OutOfMemory = ⊤
 
--- what is said of it; the words of a form's fault are those of its Display
-abbrev pub Says : Objection → List ℕ → List ℕ → Type 0
-Says (Form fault) before after = ⊤
-Says (Refused body outcome) before after = after ≡ before ++ message body (ending.Refused outcome)
-Says (Unwritable body) before after = after ≡ before ++ message body (ending.NoAnswer (Unsent send.Unwritable))
-Says OutOfMemory before after = after ≡ before ++ codes "out of memory"
+-- the words for it
+abbrev pub objection_text : Objection → List ℕ
+objection_text (Form fault) = words_of fault
+objection_text (Refused body outcome) = message body (ending.Refused outcome)
+objection_text (Unwritable body) = message body (ending.NoAnswer (Unsent send.Unwritable))
+objection_text OutOfMemory = codes "out of memory"

@@ -1,8 +1,8 @@
-ghost use Rattle.std.specs.Prelude.{◌≡◌, IfOk, IfErr, OnOk, codes};
+ghost use Rattle.std.specs.Prelude.{◌≡◌, ◌++◌, IfOk, IfErr, OnOk, codes};
 ghost use Rattle.std.specs.Str.{bytes_eq};
 ghost use Rattle.gate_grammar.specs.Canonical.{canonical_line};
 ghost use Rattle.status_reading.specs.Rows.{page_view};
-ghost use Rattle.desk_sending.specs.Orders.{is_asked, IsOneLine, IsUnwritable, IsOrder, IsObjection, Says};
+ghost use Rattle.desk_sending.specs.Orders.{is_asked, IsOneLine, IsUnwritable, IsOrder, IsObjection, objection_text};
 
 use desk_forms::{AdmittedForm, FormFault, command_on, given};
 use gate_grammar::{Command, round_trip, writable, write_line};
@@ -120,15 +120,11 @@ pub fn order_on(
 }
 
 /// Appends why nothing is sent, without an end of a line. The only error is out of memory.
-pub fn push_objection(
-    out: &mut Vec<u8>,
-    alloc: Global,
-    objection: &Objection,
-) -> Result<(), AllocError>
-    ensures { OnOk result (Says objection.now out.old.items out.new.items) }
+pub fn push_objection(out: &mut Vec<u8>, objection: &Objection) -> Result<(), AllocError>
+    ensures { OnOk result (out.new.items ≡ out.old.items ++ objection_text objection.now) }
 {
     match objection {
-        Objection::Form(fault) => out.extend_from_slice(fault.to_string(alloc)?.as_bytes()),
+        Objection::Form(fault) => out.extend_from_slice(fault.words().as_bytes()),
         Objection::Refused(body, outcome) => push_message(out, body, Ending::Refused(*outcome)),
         Objection::Unwritable(body) => {
             let unsent = AskFault::Unsent(SendFault::Unwritable);

@@ -1,24 +1,75 @@
 -- What became of a form at a gateway.
-use Rattle.std.proofs.Common.{◌≡◌, ℕ, ◌+◌, ◌<◌, ◌≤◌, true, List, [], ◌∷◌, ◌++◌, length, get_or, drop, sym, subst, append_assoc, append-nil}
+use Rattle.std.proofs.Common.{◌≡◌, ℕ, ◌+◌, ◌<◌, ◌≤◌, Bool, true, false, if◌then◌else◌, List, [], ◌∷◌, ◌++◌, length, get_or, drop, Some, inl, inr, refl, sym, subst, append_assoc, append-nil}
+use Rattle.std.proofs.lemmas.Bool.{cases_Bool}
 use Rattle.std.proofs.lemmas.List.{drop_more, drop_all}
+use Rattle.gate_model.specs.declared.record.Moment.{Moment}
 use Rattle.status_reading.specs.Rows.{PageView}
+use Rattle.operator_commands.specs.declared.bodies.RequestFault.{RequestFault}
 use Rattle.page_watching.specs.declared.watching.Seen.{Seen}
+use Rattle.desk_forms.specs.declared.requests.FormFault.{FormFault}
+use Rattle.desk_forms.specs.declared.requests.FormFault.TheVariants as fault
+use Rattle.desk_forms.specs.Faults.{first_fault, IsFormFault}
 use Rattle.desk_forms.specs.Sender.{Sender}
-use Rattle.desk_sending.specs.Orders.{is_asked}
+use Rattle.desk_sending.specs.declared.orders.Objection.{Objection}
+use Rattle.desk_sending.specs.declared.orders.Objection.TheVariants as objection
+use Rattle.desk_sending.specs.Orders.{is_asked, IsObjection}
 use Rattle.desk_outbox.specs.Labels.{LabelledView, IsLabelledOf}
 use Rattle.statusdesk.specs.declared.commanding.Done.{Done}
 use Rattle.statusdesk.specs.declared.commanding.Done.TheVariants.{NotAsked, Objected, Untaken, Taken}
+use Rattle.statusdesk.specs.Posted.{PostedView}
 use Rattle.statusdesk.specs.Kept.{IsKeptOf}
-use Rattle.statusdesk.specs.Commanding.{IsDone, AreDone}
-use Rattle.statusdesk.specs.inner.Carrying.{IsPosted}
+use Rattle.statusdesk.specs.Commanding.{is_elsewhere, IsElsewhere, IsDone, AreDone}
+use Rattle.statusdesk.specs.inner.Carrying.{IsPosted, objected}
 
-pub done_of : (clock : ℕ) (form : Sender) (seen : Seen) (order : LabelledView) (page : PageView) (done : Done)
-    → is_asked seen.place.name.now form.fields ≡ true → IsKeptOf seen page
-    → IsLabelledOf page (record { 0 = clock }) form order → IsPosted order done → IsDone clock form seen done
-done_of clock form seen order page NotAsked asked kept is posted = tt
-done_of clock form seen order page (Objected objection) asked kept is posted = absurd posted
-done_of clock form seen order page (Untaken fault) asked kept is posted = tt
-done_of clock form seen order page (Taken receipt) asked kept is posted = (asked, (page, kept, subst (λ (one : LabelledView). IsLabelledOf page (record { 0 = clock }) form one) (sym posted) is))
+-- ---- a page that doesn't show what a form names
+
+module _ (page : PageView) (now : Moment) (form : Sender) where
+  not_shown : (why : FormFault) → IsFormFault page form.fields why → (why ≡ fault.OutOfMemory → ⊥)
+      → ((cause : RequestFault) → why ≡ fault.Request cause → ⊥) → first_fault page form.fields ≡ Some why
+  not_shown why (inl (inl memory)) ample words = absurd (ample memory)
+  not_shown why (inl (inr is)) ample words = is
+  not_shown why (inr (cause, is, none)) ample words = absurd (words cause is)
+
+  elsewhere : (why : Objection) → IsObjection page now form why → is_elsewhere why ≡ true → IsElsewhere page form
+  elsewhere (objection.Form fault.NoObject) is away = inl (not_shown fault.NoObject is (λ same. cc) (λ cause same. cc))
+  elsewhere (objection.Form fault.NoEntry) is away = inr (not_shown fault.NoEntry is (λ same. cc) (λ cause same. cc))
+  elsewhere (objection.Form fault.NoAction) is away = cc
+  elsewhere (objection.Form fault.NoText) is away = cc
+  elsewhere (objection.Form fault.NoMarks) is away = cc
+  elsewhere (objection.Form fault.TooManyMarks) is away = cc
+  elsewhere (objection.Form (fault.Request cause)) is away = cc
+  elsewhere (objection.Form fault.OutOfMemory) is away = cc
+  elsewhere (objection.Refused body outcome) is away = cc
+  elsewhere (objection.Unwritable body) is away = cc
+  elsewhere objection.OutOfMemory is away = cc
+
+module _ (clock : ℕ) (form : Sender) (seen : Seen) (page : PageView)
+    (asked : is_asked seen.place.name.now form.fields ≡ true) (kept : IsKeptOf seen page) where
+  -- a page objects to a form
+  pub objected_done : (why : Objection) → IsObjection page (record { 0 = clock }) form why
+      → IsDone clock form seen (objected why)
+  objected_done why is = elim (cases_Bool (is_elsewhere why)) [
+    | inl away ↦
+        subst (λ (is_there : Bool). IsDone clock form seen (if is_there then NotAsked else Objected why)) (sym away)
+        (inr (inr (page, kept, elsewhere page (record { 0 = clock }) form why is away)))
+    | inr here ↦
+        subst (λ (is_there : Bool). IsDone clock form seen (if is_there then NotAsked else Objected why)) (sym here)
+        (asked, (here, inr (page, kept, is)))
+  ]
+
+  -- its order was put into an outbox
+  pub posted_done : (order : LabelledView) (done : Done) → IsLabelledOf page (record { 0 = clock }) form order
+      → IsPosted seen.place.name.now order done → IsDone clock form seen done
+  posted_done order NotAsked is posted = absurd posted
+  posted_done order (Objected why) is posted =
+      (asked, (subst (λ (why : Objection). is_elsewhere why ≡ false) (sym posted) refl, inl posted))
+  posted_done order (Untaken cause) is posted =
+      (order, record { asked = asked; page = page; kept = kept; labelled = is })
+  posted_done order (Taken other) is posted =
+      subst (λ (one : PostedView). IsDone clock form seen (Taken one)) (sym posted)
+      (refl, record { asked = asked; page = page; kept = kept; labelled = is })
+
+-- ---- each gateway
 
 pub done_step : (clock : ℕ) (form : Sender) (gateways : List Seen) (index : ℕ) (seen : Seen) (all more : List Done) (done : Done)
     → index < length gateways → seen ≡ get_or gateways index seen → IsDone clock form seen done

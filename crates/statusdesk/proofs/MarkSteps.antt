@@ -1,17 +1,19 @@
 -- What became of a form for each of its marks.
-use Rattle.std.proofs.Common.{◌≡◌, ℕ, Result, ◌+◌, ◌<◌, ◌≤◌, List, [], ◌∷◌, ◌++◌, length, map, get_or, drop, sym, subst, append_assoc, append-nil, zero, suc, refl, arith}
+use Rattle.std.proofs.Common.{◌≡◌, inl, ℕ, Result, ◌+◌, ◌<◌, ◌≤◌, List, [], ◌∷◌, ◌++◌, length, map, get_or, drop, sym, subst, append_assoc, append-nil, zero, suc, refl, arith}
 use Rattle.std.proofs.lemmas.List.{drop_more, drop_all}
 use Rattle.std.specs.Borrow.{Bor}
 use Rattle.http.specs.declared.request.Request.{Request}
 use Rattle.http_server.specs.declared.response.Response.{Response}
 use Rattle.page_watching.specs.declared.watching.Seen.{Seen}
+use Rattle.page_watching.specs.Watching.{seen_place}
 use Rattle.desk_forms.specs.declared.admitting.AdmitFault.{AdmitFault}
 use Rattle.desk_forms.specs.Sender.{Sender}
-use Rattle.desk_forms.specs.Marks.{sender_for}
+use Rattle.desk_forms.specs.Marks.{marks_of, sender_for}
 use Rattle.statusdesk.specs.declared.commanding.Done.{Done}
 use Rattle.statusdesk.specs.Objects.{DeskView}
 use Rattle.statusdesk.specs.Commanding.{AreDone, IsTested}
-use Rattle.statusdesk.specs.Marking.{AreMarked, query_of, IsMarksAnswerTo, IsCommandsAnswer}
+use Rattle.statusdesk.specs.Said.{said_of_marks}
+use Rattle.statusdesk.specs.Marking.{AreMarked, AreCarriedOut, ReportsMarks, IsMarked, marks_code, query_of, IsMarksAnswerTo, IsCommandsAnswer}
 
 -- the texts of these marks
 abbrev pub texts_in : List (Bor (List ℕ)) → List (List ℕ)
@@ -44,6 +46,22 @@ module _ (clock : ℕ) (form : Sender) (seen : List Seen) (marks : List (Bor (Li
   mark_all index all over so_far =
       subst (λ (whole : List (List Done)). AreMarked clock form seen (texts_in marks) whole) (append-nil all)
       (so_far [] (subst (λ (left : List (Bor (List ℕ))). AreMarked clock form seen (texts_in left) []) (sym (drop_all index marks over)) tt))
+
+-- the form was carried out for the marks that it has
+pub marked : (desk : DeskView) (clock : ℕ) (form : Sender) (seen : List Seen) (query : List ℕ) (marks : List (List ℕ)) (all : List (List Done))
+    (response : Response)
+    → map seen_place seen ≡ desk.places → marks ≡ marks_of form.fields → AreMarked clock form seen marks all
+    → ReportsMarks desk clock seen form.user query (said_of_marks seen marks all) (marks_code all) response
+    → IsMarked desk clock form query response
+marked desk clock form seen query marks all response at are each reported =
+    let carried : AreCarriedOut desk clock form seen query response = record {
+      all = all;
+      each = subst (λ (marks : List (List ℕ)). AreMarked clock form seen marks all) are each;
+      reported = subst
+          (λ (marks : List (List ℕ)). ReportsMarks desk clock seen form.user query (said_of_marks seen marks all) (marks_code all) response)
+          are reported;
+    } in
+    (seen, at, inl carried)
 
 -- what is answered to a tested request, by the query that it has
 pub answered : (desk : DeskView) (clock : ℕ) (request : Request (List ℕ)) (query : List ℕ) (tested : Result Sender AdmitFault) (response : Response)

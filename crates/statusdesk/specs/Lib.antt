@@ -1,8 +1,10 @@
 pub mod Fault
+pub mod Posted
 pub mod Responses
 pub mod Notes
 pub mod Kept
 pub mod Objects
+pub mod Said
 pub mod Commanding
 pub mod Marks
 pub mod Marking

@@ -1,6 +1,6 @@
 -- What is answered to a request for `/commands` (`IsCommandsAnswer`): it is refused, or its form is admitted, and for each
 -- mark of it in order the form for that mark is carried out as at `/command`. Own rules.
-use Rattle.std.specs.Prelude.{◌≡◌, ◌⊎◌, ℕ, Bool, false, List, [], ◌∷◌, map, Option, Some, None, Result, Ok, Err, codes, if◌then◌else◌, unwrap_or, ⊤}
+use Rattle.std.specs.Prelude.{◌≡◌, ◌⊎◌, ℕ, false, List, [], ◌∷◌, map, Option, Some, None, Result, Ok, Err, codes, if◌then◌else◌, unwrap_or, ⊤}
 use Rattle.std.specs.declared.alloc.Global.{Global}
 use Rattle.std.specs.Prelude.{Vec}
 use Rattle.std.specs.List.{list_any}
@@ -19,7 +19,9 @@ use Rattle.desk_forms.specs.Requests as requests
 use Rattle.statusdesk.specs.declared.commanding.Done.{Done}
 use Rattle.statusdesk.specs.Responses.{IsSentTo}
 use Rattle.statusdesk.specs.Objects.{DeskView}
-use Rattle.statusdesk.specs.Commanding.{AreDone, first_code, is_taken, IsFaultAnswer, IsTested}
+use Rattle.statusdesk.specs.Notes.{SaidView, note_of}
+use Rattle.statusdesk.specs.Said.{is_taken, said_of_marks, said_of_fault}
+use Rattle.statusdesk.specs.Commanding.{AreDone, first_code, IsFaultAnswer, IsTested}
 use Rattle.statusdesk.specs.Marks.{marks_link, marks_after, IsMarksPage}
 
 -- what became of the form for each of these marks, in their order, at the gateways
@@ -46,25 +48,28 @@ abbrev pub marks_code : List (List Done) → Option ℕ
 marks_code [] = None
 marks_code (all ∷ more) = elim (mark_code all) [ Some code ↦ Some code | None ↦ marks_code more ]
 
--- the page of many objects says what became of the form
-pub record IsMarksNoted (desk : DeskView) (clock code : ℕ) (seen : List Seen) (user query : List ℕ) (response : Response)
+-- the page of many objects says this of the form
+pub record IsMarksNoted (desk : DeskView) (clock code : ℕ) (seen : List Seen) (user query : List ℕ)
+    (said : List SaidView) (response : Response)
     : Type 0 where
-  pub notes : List (List ℕ × List ℕ × Bool)
   pub body : List ℕ
-  pub page : IsMarksPage desk clock seen user query notes false body
+  pub page : IsMarksPage desk clock seen user query (map note_of said) false body
   pub sent : IsSent code (codes "text/html; charset=utf-8") body response
 
--- the way to that page where each mark was taken by each gateway that shows its object, and otherwise that page
-abbrev pub ReportsMarks : DeskView → ℕ → List Seen → List ℕ → List ℕ → Option ℕ → Response → Type 0
-ReportsMarks desk clock seen user query (Some code) response = IsMarksNoted desk clock code seen user query response
-ReportsMarks desk clock seen user query None response = IsSentTo (marks_after clock query) response
+-- the way to that page where each mark was taken by each gateway that shows its object, and otherwise that page, which says
+-- this of the marks
+abbrev pub ReportsMarks : DeskView → ℕ → List Seen → List ℕ → List ℕ → List SaidView → Option ℕ → Response → Type 0
+ReportsMarks desk clock seen user query said (Some code) response =
+    IsMarksNoted desk clock code seen user query said response
+ReportsMarks desk clock seen user query said None response = IsSentTo (marks_after clock query) response
 
 -- the form was carried out for its marks
 pub record AreCarriedOut (desk : DeskView) (clock : ℕ) (form : Sender) (seen : List Seen) (query : List ℕ)
     (response : Response) : Type 0 where
   pub all : List (List Done)
   pub each : AreMarked clock form seen (marks_of form.fields) all
-  pub reported : ReportsMarks desk clock seen form.user query (marks_code all) response
+  pub reported : ReportsMarks desk clock seen form.user query (said_of_marks seen (marks_of form.fields) all)
+      (marks_code all) response
 
 -- it was, or it has no marks that count, and then nothing is sent
 abbrev pub IsMarked : DeskView → ℕ → Sender → List ℕ → Response → Type 0
@@ -72,7 +77,7 @@ IsMarked desk clock form query response =
     (seen : List Seen) × (map seen_place seen ≡ desk.places)
     × (AreCarriedOut desk clock form seen query response
     ⊎ ((fault : FormFault) × IsMarksFault form.fields fault
-    × IsMarksNoted desk clock (requests.status_of fault) seen form.user query response))
+    × IsMarksNoted desk clock (requests.status_of fault) seen form.user query (said_of_fault fault) response))
 
 -- what is answered to the form that a request is admitted with, or to why it isn't: nothing is sent then
 abbrev pub IsMarksAnswerTo : DeskView → ℕ → List ℕ → Result Sender AdmitFault → Response → Type 0

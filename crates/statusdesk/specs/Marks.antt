@@ -38,6 +38,7 @@ pub record IsMarksPage (desk : DeskView) (clock : ℕ) (seen : List Seen) (user 
   pub gateways : List Gateway
   pub page : MarksPage
   pub shown : AllZip (IsShown clock) seen gateways
+  pub title_is : page.title.now ≡ desk.heading.title.now
   pub rows_are : page.rows.now ≡ map row_of (asked_of gateways query)
   pub user_is : page.user.now ≡ user
   pub token : page.token.now ≡ token_of desk.guard.key user (clock / 3600)

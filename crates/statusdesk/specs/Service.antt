@@ -30,7 +30,7 @@ use Rattle.desk_outbox.specs.Labels.{host_in, service_in}
 use Rattle.statusdesk.specs.declared.service.Route.{Route}
 use Rattle.statusdesk.specs.declared.service.Route.TheVariants.{Status, Changes, Style, Object, Marks}
 use Rattle.statusdesk.specs.Responses.{IsRefusedWith}
-use Rattle.statusdesk.specs.Objects.{DeskView, IsObjectPage}
+use Rattle.statusdesk.specs.Objects.{DeskView, AreKnown, IsObjectPage}
 use Rattle.statusdesk.specs.Notes.{SaidView, AreOwn, note_of, are_settled}
 use Rattle.statusdesk.specs.Commanding.{IsCommandAnswer}
 use Rattle.statusdesk.specs.Marks.{IsMarksPage}
@@ -75,23 +75,25 @@ pub record IsOfQuery (query : List ℕ) (asked : Asked) : Type 0 where
 
 -- the page of the object says what the outboxes show of the orders that are asked for, and a browser loads it again where
 -- those of one moment are asked for and some of that may change
-pub record IsNotedPage (desk : DeskView) (asked : Asked) (body : List ℕ) : Type 0 where
+pub record IsNotedPage (desk : DeskView) (seen : List Seen) (asked : Asked) (body : List ℕ) : Type 0 where
   pub said : List SaidView
   pub own : AreOwn asked desk.ports said
-  pub page : IsObjectPage desk asked.clock asked.user.now asked.host.now asked.service.now (map note_of said)
+  pub page : IsObjectPage desk asked.clock seen asked.user.now asked.host.now asked.service.now (map note_of said)
       (is_some asked.at && not (are_settled said)) body
 
--- that page of the object that a query names, for the user of the request
+-- that page of the object that a query names, of what is kept of the gateways, for the user of the request
 pub record IsObjectSent (desk : DeskView) (clock : ℕ) (request : Request (List ℕ)) (query : List ℕ) (response : Response)
     : Type 0 where
   pub user : List ℕ
+  pub seen : List Seen
   pub asked : Asked
   pub body : List ℕ
   pub asks : user_of desk.guard request ≡ Some user
   pub may : first_failed (user_tests desk.guard request) ≡ None
   pub of_query : IsOfQuery query asked
   pub asked_by : IsAskedBy user query false clock asked
-  pub page : IsNotedPage desk asked body
+  pub at : map seen_place seen ≡ desk.places
+  pub page : IsNotedPage desk seen asked body
   pub sent : IsSent 200 (codes "text/html; charset=utf-8") body response
 
 -- why there is no page: the user may not send commands, or the query is no form
@@ -101,10 +103,18 @@ IsNoPage desk request query response =
     × IsRefusedWith (refusal.status_of given) response)
     ⊎ ((fault : FieldsFault) × IsFaultOf query fault × IsRefusedWith (status_of (Form fault)) response)
 
+-- no gateway shows the object that a query names
+abbrev pub IsNowhere : DeskView → List ℕ → Response → Type 0
+IsNowhere desk query response =
+    (seen : List Seen) × (map seen_place seen ≡ desk.places)
+    × AreKnown (host_in (fields_of query)) (service_in (fields_of query)) seen []
+    × IsRefusal 404 [] response
+
 -- that page, or why there is none: the same, or no gateway shows the object
 abbrev pub IsObjectAnswer : DeskView → ℕ → Request (List ℕ) → List ℕ → Response → Type 0
 IsObjectAnswer desk clock request query response =
-    IsObjectSent desk clock request query response ⊎ (IsNoPage desk request query response ⊎ IsRefusal 404 [] response)
+    IsObjectSent desk clock request query response
+    ⊎ (IsNoPage desk request query response ⊎ IsNowhere desk query response)
 
 -- ---- many objects
 

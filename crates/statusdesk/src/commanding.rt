@@ -1,6 +1,6 @@
 //! A form that is posted: its command is sent to the gateways that it is for.
 
-ghost use Rattle.std.specs.Prelude.{◌≡◌, ◌<◌, ◌++◌, length, IfOk, IfErr, OnOk};
+ghost use Rattle.std.specs.Prelude.{◌≡◌, [], IfOk, OnOk};
 ghost use Rattle.std.specs.List.{list_any};
 ghost use Rattle.http.specs.Request.{body_of};
 ghost use Rattle.http_server.specs.Response.{IsBlank};
@@ -9,22 +9,24 @@ ghost use Rattle.desk_outbox.specs.Labels.{host_in, service_in};
 ghost use Rattle.status_view.specs.Links.{object_link};
 ghost use Rattle.statusdesk.specs.Responses.{IsSentTo};
 ghost use Rattle.statusdesk.specs.Objects.{desk_view};
-ghost use Rattle.statusdesk.specs.Commanding.{IsDone, AreDone, code_of, first_code, is_taken, link_of, location_after, IsNoted, IsTakenAnswer, Reports, IsCommanded, IsTested, IsFaultAnswer, IsCommandAnswer};
+ghost use Rattle.statusdesk.specs.Commanding.{is_elsewhere, IsDone, AreDone, code_of, first_code, link_of, location_after, IsNoted, IsTakenAnswer, Reports, IsCommanded, IsTested, IsFaultAnswer, IsCommandAnswer};
 ghost use Rattle.statusdesk.specs.inner.Repeating.{is_repeated};
-ghost use Rattle.statusdesk.specs.inner.Carrying.{IsPosted};
+ghost use Rattle.statusdesk.specs.Said.{is_taken, said_of};
+ghost use Rattle.statusdesk.specs.inner.Carrying.{IsPosted, objected};
 
-use crate::notes::{Said, notes_of};
+use crate::notes::notes_of;
 use crate::objects::{known_of, object_body, pages_of};
 use crate::pages::ReadPage;
-use crate::posts::post_of;
+use crate::posts::{Posted, post_of};
 use crate::responses::{refuse_with, send_to};
+use crate::said::{is_taken, said_of};
 use crate::service::{Desk, named_in};
 use bytes::Bytes;
 use desk_forms::{AdmitFault, AdmittedForm, FormFault, admit_form, read_fields};
 use desk_guard::Refusal;
-use desk_outbox::{Labelled, Receipt, TakeFault, labelled_order};
-use desk_sending::{Objection, is_asked, push_objection};
-use gate_model::{Moment, Text, push_number};
+use desk_outbox::{Labelled, TakeFault, labelled_order};
+use desk_sending::{Objection, is_asked};
+use gate_model::{Moment, push_number};
 use http::{HeaderValue, Request, StatusCode};
 use http_server::Response;
 use page_watching::Seen;
@@ -35,7 +37,7 @@ use web_answers::send;
 
 /// What became of a form at a gateway.
 #[derive(Drop)]
-pub enum Done {
+pub enum Done<'a> {
     /// The form is not for it.
     NotAsked,
     /// Nothing is sent.
@@ -43,25 +45,50 @@ pub enum Done {
     /// Nothing is sent: its outbox takes no more.
     Untaken(TakeFault),
     /// Its outbox has taken in the order.
-    Taken(Receipt),
+    Taken(Posted<'a>),
 }
 
-// Puts an order into the gateway's outbox.
-fn post_order<R: Wait>(desk: &Desk<'_, R>, name: &str, order: Labelled) -> Done
-    ensures { IsPosted order result }
+// Puts an order into the outbox of the gateway of this name.
+fn post_order<'a, R: Wait>(desk: &Desk<'a, R>, name: &str, order: Labelled) -> Done<'a>
+    ensures { IsPosted name.now order result }
 {
     let Some(post) = post_of(desk.posts, name) else {
-        return Done::NotAsked;
+        // Each gateway has one.
+        return Done::Objected(Objection::OutOfMemory);
     };
     match post.put(desk.site.rt, order) {
-        Ok(receipt) => Done::Taken(receipt),
+        Ok(posted) => Done::Taken(posted),
         Err(fault) => Done::Untaken(fault),
+    }
+}
+
+fn is_elsewhere(objection: &Objection) -> bool
+    ensures { result ≡ is_elsewhere objection.now }
+{
+    match objection {
+        Objection::Form(FormFault::NoObject | FormFault::NoEntry) => true,
+        _ => false,
+    }
+}
+
+fn objected<'a>(objection: Objection) -> Done<'a>
+    ensures { result ≡ objected objection }
+{
+    if is_elsewhere(&objection) {
+        Done::NotAsked
+    } else {
+        Done::Objected(objection)
     }
 }
 
 // Carries out the form at a gateway, where it is for it. An objection there keeps no other gateway from
 // it.
-fn carry_out<R: Wait>(desk: &Desk<'_, R>, now: u32, form: &AdmittedForm, at: &ReadPage<'_>) -> Done
+fn carry_out<'a, R: Wait>(
+    desk: &Desk<'a, R>,
+    now: u32,
+    form: &AdmittedForm,
+    at: &ReadPage<'_>,
+) -> Done<'a>
     ensures { IsDone now form.now at.now result }
 {
     if !is_asked(form, at.name()) {
@@ -71,19 +98,18 @@ fn carry_out<R: Wait>(desk: &Desk<'_, R>, now: u32, form: &AdmittedForm, at: &Re
         return Done::NotAsked;
     };
     match labelled_order(desk.site.alloc, &known.page, Moment(now), form) {
-        Ok(order) => post_order(desk, known.name, order),
-        Err(Objection::Form(FormFault::NoObject | FormFault::NoEntry)) => Done::NotAsked,
-        Err(objection) => Done::Objected(objection),
+        Ok(order) => post_order(desk, at.name(), order),
+        Err(objection) => objected(objection),
     }
 }
 
 /// Carries out the form at each gateway.
-pub fn carry_out_all<R: Wait>(
-    desk: &Desk<'_, R>,
+pub fn carry_out_all<'a, R: Wait>(
+    desk: &Desk<'a, R>,
     now: u32,
     form: &AdmittedForm,
     pages: &[ReadPage<'_>],
-) -> Result<Vec<Done>, AllocError>
+) -> Result<Vec<Done<'a>>, AllocError>
     ensures { IfOk result (λ all. AreDone now form.now pages.now all.items) }
 {
     let mut all = Vec::with_capacity(desk.site.alloc, pages.len())?;
@@ -93,36 +119,8 @@ pub fn carry_out_all<R: Wait>(
     Ok(all)
 }
 
-/// Whether its outbox has taken in the order.
-pub fn is_taken(done: &Done) -> bool
-    ensures { result ≡ is_taken done.now }
-{
-    match done {
-        Done::Taken(_) => true,
-        _ => false,
-    }
-}
-
-/// What became of a form at a gateway, as the page shows it; an empty text for one that it isn't for.
-pub fn text_of(alloc: Global, done: &Done) -> Result<Text, AllocError> {
-    let mut text = Vec::new(alloc);
-    match done {
-        Done::NotAsked => {}
-        Done::Objected(objection) => {
-            text.extend_from_slice(b"not sent: ")?;
-            push_objection(&mut text, alloc, objection)?;
-        }
-        Done::Untaken(fault) => {
-            text.extend_from_slice(b"not sent: ")?;
-            text.extend_from_slice(fault.to_string(alloc)?.as_bytes())?;
-        }
-        Done::Taken(_) => text.extend_from_slice(b"being sent")?,
-    }
-    Ok(Text::new(text))
-}
-
 // The code of the answer for what became of a form at a gateway that didn't take it.
-fn code_of(done: &Done) -> Option<u16>
+fn code_of(done: &Done<'_>) -> Option<u16>
     ensures { result ≡ code_of done.now }
 {
     match done {
@@ -134,7 +132,7 @@ fn code_of(done: &Done) -> Option<u16>
 }
 
 /// The code of the first gateway that didn't take the form.
-pub fn first_code(all: &[Done]) -> Option<u16>
+pub fn first_code(all: &[Done<'_>]) -> Option<u16>
     ensures { result ≡ first_code all.now }
 {
     for done in all {
@@ -145,43 +143,24 @@ pub fn first_code(all: &[Done]) -> Option<u16>
     None
 }
 
-fn said_of<'t>(
-    alloc: Global,
-    seen: &'t [Seen<'_>],
-    all: &[Done],
-) -> Result<Vec<Said<'t>>, AllocError> {
-    let mut said = Vec::new(alloc);
-    for (one, done) in seen.iter().zip(all.iter()) {
-        let text = text_of(alloc, done)?;
-        if !text.bytes().is_empty() {
-            said.push(Said {
-                gateway: one.place.name,
-                text,
-                is_settled: true,
-                is_alarm: !is_taken(done),
-            })?;
-        }
-    }
-    Ok(said)
-}
-
 // Answers with the object's page, with what became of the form at each gateway.
-fn send_notes<R>(
+fn send_notes<'t, R>(
     desk: &Desk<'_, R>,
     now: u32,
     form: &AdmittedForm,
-    seen: &[Seen<'_>],
-    all: &[Done],
+    seen: &'t [Seen<'t>],
+    all: &[Done<'_>],
     code: u16,
     response: &mut Response,
 ) -> Result<(), AllocError>
     requires { IsBlank response.old }
-    ensures { OnOk result (IsNoted (desk_view desk.now) now code form.now response.new) }
+    ensures { OnOk result (IsNoted (desk_view desk.now) now code form.now seen.now
+        (said_of [] seen.now all.now) response.new) }
 {
     let alloc = desk.site.alloc;
     let named = named_in(form.fields());
     let known = known_of(alloc, seen, named)?;
-    let said = said_of(alloc, seen, all)?;
+    let said = said_of(alloc, &[], seen, all)?;
     let notes = notes_of(alloc, said.as_slice())?;
     let user = form.user().bytes();
     let body = object_body(
@@ -212,7 +191,7 @@ fn location_after(alloc: Global, form: &AdmittedForm, now: u32) -> Result<Vec<u8
 }
 
 /// Whether a gateway has taken it.
-pub fn is_any_taken(all: &[Done]) -> bool
+pub fn is_any_taken(all: &[Done<'_>]) -> bool
     ensures { result ≡ list_any is_taken all.now }
 {
     all.iter().any(is_taken)
@@ -238,17 +217,17 @@ fn send_on(
 }
 
 // Answers with what became of the form at the gateways.
-fn report<R>(
+fn report<'t, R>(
     desk: &Desk<'_, R>,
     now: u32,
     form: &AdmittedForm,
-    seen: &[Seen<'_>],
-    all: &[Done],
+    seen: &'t [Seen<'t>],
+    all: &[Done<'_>],
     response: &mut Response,
 ) -> Result<(), AllocError>
     requires { IsBlank response.old }
-    ensures { OnOk result (Reports (desk_view desk.now) now form.now all.now (first_code all.now)
-        response.new) }
+    ensures { OnOk result (Reports (desk_view desk.now) now form.now seen.now all.now
+        (first_code all.now) response.new) }
 {
     match first_code(all) {
         Some(code) => send_notes(desk, now, form, seen, all, code, response),

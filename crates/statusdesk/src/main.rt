@@ -13,6 +13,7 @@ mod objects;
 mod pages;
 mod posts;
 mod responses;
+mod said;
 mod service;
 
 use clap::Error;

@@ -6,24 +6,22 @@ ghost use Rattle.page_watching.specs.Watching.{seen_place};
 ghost use Rattle.desk_forms.specs.Marks.{marks_of, sender_for};
 ghost use Rattle.desk_forms.specs.Requests.{status_of};
 ghost use Rattle.statusdesk.specs.Objects.{desk_view};
+ghost use Rattle.statusdesk.specs.Notes.{said_view};
+ghost use Rattle.statusdesk.specs.Said.{said_of_marks, said_of_fault};
 ghost use Rattle.statusdesk.specs.Commanding.{AreDone, IsFaultAnswer};
 ghost use Rattle.statusdesk.specs.Marks.{marks_link};
 ghost use Rattle.statusdesk.specs.Marking.{AreMarked, mark_code, marks_code, dones_in, IsMarksNoted, ReportsMarks, IsMarked, IsCommandsAnswer};
 
-use crate::commanding::{
-    Done, admit, carry_out_all, first_code, is_any_taken, is_repeated, is_taken, text_of,
-};
+use crate::commanding::{Done, admit, carry_out_all, first_code, is_any_taken, is_repeated};
 use crate::marks::{marks_after, marks_body, marks_link};
 use crate::notes::{Said, notes_of};
 use crate::objects::pages_of;
 use crate::pages::ReadPage;
 use crate::responses::{refuse_with, send_to};
+use crate::said::{said_of_fault, said_of_marks};
 use crate::service::Desk;
 use bytes::Bytes;
-use desk_forms::{
-    AdmitFault, AdmittedForm, FormFault, after_byte, before_byte, form_for, read_marks,
-};
-use gate_model::Text;
+use desk_forms::{AdmitFault, AdmittedForm, FormFault, form_for, read_marks};
 use http::{HeaderValue, Request, StatusCode};
 use http_server::Response;
 use page_watching::Seen;
@@ -32,13 +30,13 @@ use std::sync::Wait;
 use web_answers::send;
 
 // Carries out the form for one mark at each gateway.
-fn carry_out_mark<R: Wait>(
-    desk: &Desk<'_, R>,
+fn carry_out_mark<'a, R: Wait>(
+    desk: &Desk<'a, R>,
     now: u32,
     form: &AdmittedForm,
     mark: &[u8],
     pages: &[ReadPage<'_>],
-) -> Result<Vec<Done>, AllocError>
+) -> Result<Vec<Done<'a>>, AllocError>
     ensures { IfOk result (λ all.
         AreDone now (sender_for mark.now form.now) pages.now all.items) }
 {
@@ -47,13 +45,13 @@ fn carry_out_mark<R: Wait>(
 }
 
 // Carries out the form for each mark, in their order.
-fn carry_out_marks<R: Wait>(
-    desk: &Desk<'_, R>,
+fn carry_out_marks<'a, R: Wait>(
+    desk: &Desk<'a, R>,
     now: u32,
     form: &AdmittedForm,
     marks: &[&[u8]],
     pages: &[ReadPage<'_>],
-) -> Result<Vec<Vec<Done>>, AllocError>
+) -> Result<Vec<Vec<Done<'a>>>, AllocError>
     ensures { IfOk result (λ all. AreMarked now form.now pages.now
         (map (λ mark. mark.now) marks.now) (dones_in all.items)) }
 {
@@ -65,7 +63,7 @@ fn carry_out_marks<R: Wait>(
 }
 
 // The code for what became of a mark.
-fn mark_code(all: &[Done]) -> Option<u16>
+fn mark_code(all: &[Done<'_>]) -> Option<u16>
     ensures { result ≡ mark_code all.now }
 {
     match first_code(all) {
@@ -76,7 +74,7 @@ fn mark_code(all: &[Done]) -> Option<u16>
 }
 
 // That of the first mark that not each gateway has taken.
-fn marks_code(all: &[Vec<Done>]) -> Option<u16>
+fn marks_code(all: &[Vec<Done<'_>>]) -> Option<u16>
     ensures { result ≡ marks_code (dones_in all.now) }
 {
     for one in all {
@@ -85,63 +83,6 @@ fn marks_code(all: &[Vec<Done>]) -> Option<u16>
         }
     }
     None
-}
-
-// The names of a mark's object, and this.
-fn named_text(alloc: Global, mark: &[u8], text: &[u8]) -> Result<Text, AllocError> {
-    let mut named = Vec::from_slice(alloc, before_byte(mark, b';'))?;
-    let service = after_byte(mark, b';');
-    if !service.is_empty() {
-        named.push(b' ')?;
-        named.extend_from_slice(service)?;
-    }
-    named.extend_from_slice(b": ")?;
-    named.extend_from_slice(text)?;
-    Ok(Text::new(named))
-}
-
-// Appends what became of a mark at each gateway, or that no gateway shows its object.
-fn push_mark<'t>(
-    alloc: Global,
-    seen: &'t [Seen<'_>],
-    mark: &[u8],
-    all: &[Done],
-    said: &mut Vec<Said<'t>>,
-) -> Result<(), AllocError> {
-    let before = said.len();
-    for (one, done) in seen.iter().zip(all.iter()) {
-        let text = text_of(alloc, done)?;
-        if !text.bytes().is_empty() {
-            said.push(Said {
-                gateway: one.place.name,
-                text: named_text(alloc, mark, text.bytes())?,
-                is_settled: true,
-                is_alarm: !is_taken(done),
-            })?;
-        }
-    }
-    if said.len() == before {
-        said.push(Said {
-            gateway: "",
-            text: named_text(alloc, mark, b"not sent: no gateway shows it")?,
-            is_settled: true,
-            is_alarm: true,
-        })?;
-    }
-    Ok(())
-}
-
-fn said_of_marks<'t>(
-    alloc: Global,
-    seen: &'t [Seen<'_>],
-    marks: &[&[u8]],
-    all: &[Vec<Done>],
-) -> Result<Vec<Said<'t>>, AllocError> {
-    let mut said = Vec::new(alloc);
-    for (mark, one) in marks.iter().zip(all.iter()) {
-        push_mark(alloc, seen, *mark, one.as_slice(), &mut said)?;
-    }
-    Ok(said)
 }
 
 // Answers with the page of many objects, and what became of the form.
@@ -157,7 +98,7 @@ fn send_marks_notes<'t, R>(
 ) -> Result<(), AllocError>
     requires { IsBlank response.old }
     ensures { OnOk result (IsMarksNoted (desk_view desk.now) now code seen.now form.now.user query.now
-        response.new) }
+        (map said_view said.now) response.new) }
 {
     let alloc = desk.site.alloc;
     let notes = notes_of(alloc, said)?;
@@ -178,11 +119,12 @@ fn report_marks<'t, R>(
     query: &str,
     seen: &'t [Seen<'t>],
     marks: &[&[u8]],
-    all: &[Vec<Done>],
+    all: &[Vec<Done<'_>>],
     response: &mut Response,
 ) -> Result<(), AllocError>
     requires { IsBlank response.old }
     ensures { OnOk result (ReportsMarks (desk_view desk.now) now seen.now form.now.user query.now
+        (said_of_marks seen.now (map (λ mark. mark.now) marks.now) (dones_in all.now))
         (marks_code (dones_in all.now)) response.new) }
 {
     let alloc = desk.site.alloc;
@@ -219,16 +161,9 @@ fn send_fault<'t, R>(
 ) -> Result<(), AllocError>
     requires { IsBlank response.old }
     ensures { OnOk result (IsMarksNoted (desk_view desk.now) now (status_of fault) seen.now
-        form.now.user query.now response.new) }
+        form.now.user query.now (said_of_fault fault) response.new) }
 {
-    let alloc = desk.site.alloc;
-    let mut said = Vec::new(alloc);
-    said.push(Said {
-        gateway: "",
-        text: Text::new(fault.to_string(alloc)?.into_bytes()),
-        is_settled: true,
-        is_alarm: true,
-    })?;
+    let said = said_of_fault(desk.site.alloc, fault)?;
     send_marks_notes(
         desk,
         now,

@@ -1,9 +1,11 @@
 //! The page of an object.
-ghost use Rattle.std.specs.Prelude.{◌≡◌, map, IfOk, IfSome};
+ghost use Rattle.std.specs.Prelude.{◌≡◌, ◌++◌, List, map, IfOk, IfSome, OnOk, MatchOption};
+ghost use Rattle.std.specs.Option.{option_to_list};
+ghost use Rattle.page_watching.specs.declared.watching.Seen.{Seen as Memory};
 ghost use Rattle.status_reading.specs.Rows.{page_view};
 ghost use Rattle.statusdesk.specs.Notes.{note_view};
-ghost use Rattle.statusdesk.specs.Kept.{IsKeptOf};
-ghost use Rattle.statusdesk.specs.Objects.{desk_view, IsObjectPage};
+ghost use Rattle.statusdesk.specs.Kept.{is_memory, IsKeptOf, IsNotKept};
+ghost use Rattle.statusdesk.specs.Objects.{desk_view, known_view, IsKnownAt, AreKnown, IsObjectPage};
 
 use crate::pages::ReadPage;
 use crate::service::Desk;
@@ -27,9 +29,21 @@ pub struct Named<'a> {
     pub service: &'a [u8],
 }
 
+fn is_memory(fault: ReadFault) -> bool
+    ensures { result ≡ is_memory fault }
+{
+    match fault {
+        ReadFault::OutOfMemory => true,
+        _ => false,
+    }
+}
+
 /// The page that is kept of a gateway, if one is.
 pub fn page_of<'t>(alloc: Global, seen: &'t Seen<'t>) -> Result<Option<Known<'t>>, AllocError>
-    ensures { IfOk result (λ found. IfSome found (λ known. IsKeptOf seen.now (page_view known.page))) }
+    ensures page { IfOk result (λ found. MatchOption found (IsNotKept seen.now)
+        (λ known. IsKeptOf seen.now (page_view known.page))) }
+    ensures name { IfOk result (λ found. IfSome found (λ known.
+        known.name.now ≡ seen.now.place.name.now)) }
 {
     let Some(kept) = &seen.memory.last else {
         return Ok(None);
@@ -39,8 +53,13 @@ pub fn page_of<'t>(alloc: Global, seen: &'t Seen<'t>) -> Result<Option<Known<'t>
             name: seen.place.name,
             page,
         })),
-        Err(ReadFault::OutOfMemory) => Err(AllocError),
-        Err(ReadFault::NoStatus | ReadFault::BadLine(_) | ReadFault::BadRow(..)) => Ok(None),
+        Err(fault) => {
+            if is_memory(fault) {
+                Err(AllocError)
+            } else {
+                Ok(None)
+            }
+        }
     }
 }
 
@@ -55,19 +74,47 @@ pub fn pages_of<'t>(alloc: Global, seen: &'t [Seen<'t>]) -> Result<Vec<ReadPage<
     Ok(pages)
 }
 
+// The page that is kept of a gateway, if it shows an object.
+fn known_at<'t>(
+    alloc: Global,
+    seen: &'t Seen<'t>,
+    named: Named<'_>,
+) -> Result<Option<Known<'t>>, AllocError>
+    ensures { IfOk result (λ found. IsKnownAt named.entry.host.now named.entry.service.now
+        seen.now (map known_view (option_to_list found))) }
+{
+    let Some(known) = page_of(alloc, seen)? else {
+        return Ok(None);
+    };
+    if shows(known.page.objects.as_slice(), named.host, named.service) {
+        Ok(Some(known))
+    } else {
+        Ok(None)
+    }
+}
+
+fn push_known<'t>(found: Option<Known<'t>>, all: &mut Vec<Known<'t>>) -> Result<(), AllocError>
+    ensures { OnOk result (map known_view all.new.items
+        ≡ map known_view all.old.items ++ map known_view (option_to_list found.entry)) }
+{
+    if let Some(known) = found {
+        all.push(known)?;
+    }
+    Ok(())
+}
+
 /// The gateways that show an object.
 pub fn known_of<'t>(
     alloc: Global,
-    seen: &'t [Seen<'_>],
+    seen: &'t [Seen<'t>],
     named: Named<'_>,
-) -> Result<Vec<Known<'t>>, AllocError> {
+) -> Result<Vec<Known<'t>>, AllocError>
+    ensures { IfOk result (λ all. AreKnown named.entry.host.now named.entry.service.now
+        seen.now (map known_view all.items)) }
+{
     let mut all = Vec::new(alloc);
     for one in seen {
-        match page_of(alloc, one)? {
-            Some(known) if shows(known.page.objects.as_slice(), named.host, named.service) =>
-                all.push(known)?,
-            _ => {}
-        }
+        push_known(known_at(alloc, one, named)?, &mut all)?;
     }
     Ok(all)
 }
@@ -82,7 +129,9 @@ pub fn object_body<R>(
     notes: &[Note<'_>],
     again: bool,
 ) -> Result<Vec<u8>, AllocError>
-    ensures { IfOk result (λ body. IsObjectPage (desk_view desk.now) now user.now
+    ensures { (seen : List Memory)
+        → AreKnown named.entry.host.now named.entry.service.now seen (map known_view known.now)
+        → IfOk result (λ body. IsObjectPage (desk_view desk.now) now seen user.now
         named.entry.host.now named.entry.service.now (map note_view notes.now) again body.items) }
 {
     let alloc = desk.site.alloc;

@@ -1,7 +1,7 @@
 //! The page that is kept of a gateway, read once for several forms.
-ghost use Rattle.std.specs.Prelude.{◌≡◌, IfOk, IfSome};
+ghost use Rattle.std.specs.Prelude.{◌≡◌, IfOk, MatchOption};
 ghost use Rattle.status_reading.specs.Rows.{page_view};
-ghost use Rattle.statusdesk.specs.Kept.{IsKeptOf};
+ghost use Rattle.statusdesk.specs.Kept.{IsKeptOf, IsNotKept};
 
 use crate::objects::{Known, page_of};
 use page_watching::Seen;
@@ -16,16 +16,16 @@ pub struct ReadPage<'t> {
 }
 
 impl<'t> Model for ReadPage<'t> {
-    ghost use Rattle.std.specs.Prelude.{IfSome};
+    ghost use Rattle.std.specs.Prelude.{MatchOption};
     ghost use Rattle.status_reading.specs.Rows.{page_view};
     ghost use Rattle.page_watching.specs.declared.watching.Seen.{Seen};
-    ghost use Rattle.statusdesk.specs.Kept.{IsKeptOf};
+    ghost use Rattle.statusdesk.specs.Kept.{IsKeptOf, IsNotKept};
 
     ghost Value = { Seen };
 
     ghost view = { λ read. read.seen.now };
 
-    ghost invariant = { λ read. IfSome read.known (λ known.
+    ghost invariant = { λ read. MatchOption read.known (IsNotKept read.seen.now) (λ known.
         IsKeptOf read.seen.now (page_view known.page)) };
 }
 
@@ -48,7 +48,8 @@ impl<'t> ReadPage<'t> {
 
     /// The page.
     pub fn known(&self) -> Option<&Known<'t>>
-        ensures { IfSome result (λ known. IsKeptOf self.now (page_view known.now.page)) }
+        ensures { MatchOption result (IsNotKept self.now)
+            (λ known. IsKeptOf self.now (page_view known.now.page)) }
     {
         match &self.known {
             Some(known) => Some(known),

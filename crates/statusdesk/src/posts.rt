@@ -12,6 +12,7 @@ use operator_lines::{AskFault, Reply};
 use page_fetching::Timed;
 use page_watching::{Place, clock};
 use std::alloc::{AllocError, Global};
+use std::marker::Model;
 use std::net::{Net, SocketAddr, TcpListener, TcpStream};
 use std::sync::atomic::{AtomicBool, Ordering};
 use std::sync::{Condvar, Mutex, Wait};
@@ -32,6 +33,22 @@ pub struct Post<'a> {
     // An order was taken in, or the program ends.
     news: Condvar,
     is_over: AtomicBool,
+}
+
+/// An order that the outbox of a gateway has taken in: contracts see it with this gateway's name.
+/// `Post::put` alone makes one.
+#[derive(Drop)]
+pub struct Posted<'a> {
+    gateway: &'a str,
+    receipt: Receipt,
+}
+
+impl<'a> Model for Posted<'a> {
+    ghost use Rattle.statusdesk.specs.Posted.{PostedView};
+
+    ghost Value = { PostedView };
+
+    ghost view = { λ posted. record { gateway = posted.gateway.now; order = posted.receipt } };
 }
 
 // Sends an order over a connection of its own.
@@ -79,12 +96,19 @@ impl<'a> Post<'a> {
     }
 
     /// Puts an order into the outbox.
-    pub fn put<R: Wait>(&self, rt: &R, order: Labelled) -> Result<Receipt, TakeFault>
-        ensures { IfOk result (λ receipt. receipt ≡ order) }
+    pub fn put<R: Wait>(&self, rt: &R, order: Labelled) -> Result<Posted<'a>, TakeFault>
+        ensures { IfOk result (λ posted.
+            posted ≡ record { gateway = self.now.place.name.now; order = order }) }
     {
         let taken = self.outbox.lock(rt).take_in(order);
         self.news.notify_one();
-        taken
+        match taken {
+            Ok(receipt) => Ok(Posted {
+                gateway: self.place.name,
+                receipt,
+            }),
+            Err(fault) => Err(fault),
+        }
     }
 
     /// What a user sees of their orders for an object. The only error is out of memory.

@@ -1,11 +1,11 @@
 //! What is answered to a request.
-ghost use Rattle.std.specs.Prelude.{◌≡◌, Some, IfOk, OnOk, codes};
+ghost use Rattle.std.specs.Prelude.{◌≡◌, Some, IfOk, OnOk, codes, map};
 ghost use Rattle.http.specs.Request.{head_of};
 ghost use Rattle.http.specs.Uri.{uri_path};
 ghost use Rattle.http_header.specs.HeaderMap.{get};
 ghost use Rattle.http_server.specs.Response.{IsBlank};
 ghost use Rattle.web_answers.specs.Hosts.{answers_host};
-ghost use Rattle.statusdesk.specs.Objects.{desk_view};
+ghost use Rattle.statusdesk.specs.Objects.{desk_view, known_view, AreKnown};
 ghost use Rattle.desk_outbox.specs.Labels.{host_in, service_in};
 ghost use Rattle.desk_forms.specs.Fields.{fields_of};
 ghost use Rattle.statusdesk.specs.Service.{route_of, at_in, IsNotedPage, AreNotedMarks, body_asked, is_command, is_commands, IsObjectAnswer, IsMarksAnswer, IsMethodAnswer, IsOtherAnswer, IsPathAnswer, IsAnswerAt, IsAnswer};
@@ -108,15 +108,17 @@ fn at_in(fields: &[Field]) -> Option<u32>
     }
 }
 
-// The page of an object, with what the outboxes show of the orders that are asked for. Without a moment
-// it is not loaded again, so that somebody can fill in a form there.
+// The page of an object, of the gateways that show it, with what the outboxes show of the orders that
+// are asked for. Without a moment it is not loaded again, so that somebody can fill in a form there.
 fn noted_body<R: Wait>(
     desk: &Desk<'_, R>,
     seen: &[Seen<'_>],
     known: &[Known<'_>],
     asked: Asked<'_>,
 ) -> Result<Vec<u8>, AllocError>
-    ensures { IfOk result (λ body. IsNotedPage (desk_view desk.now) asked.entry body.items) }
+    requires { AreKnown asked.host.now asked.service.now seen.now
+        (map known_view known.now) }
+    ensures { IfOk result (λ body. IsNotedPage (desk_view desk.now) seen.now asked.entry body.items) }
 {
     let alloc = desk.site.alloc;
     let said = orders_said(desk.site.rt, alloc, desk.posts, seen, asked)?;
@@ -354,7 +356,7 @@ fn answer<R: Wait>(
 }
 
 impl<'a, R: Clock + Wait> Service for Desk<'a, R> {
-    ghost use Rattle.statusdesk.specs.Objects.{desk_view};
+    ghost use Rattle.statusdesk.specs.Objects.{desk_view, known_view, AreKnown};
     ghost use Rattle.statusdesk.specs.Service.{IsAnswer};
 
     ghost answers = { λ old request response new. IsAnswer (desk_view old) request response };

@@ -1,5 +1,7 @@
 use crate::guard::{ANN, GOOD, NOW, guard, request};
-use desk_forms::{AdmittedForm, FieldsFault, admit_form, command_on, read_fields};
+use desk_forms::{
+    AdmittedForm, FieldsFault, admit_form, command_on, form_for, read_fields, read_marks,
+};
 use desk_guard::SentForms;
 use gate_grammar::write_body;
 use gate_model::Moment;
@@ -30,10 +32,14 @@ fn line(alloc: Global, fields: &str) -> Option<Vec<u8>> {
         Ok(form) => form,
         Err(text) => return Some(text.into_bytes()),
     };
+    line_of(alloc, &form)
+}
+
+fn line_of(alloc: Global, form: &AdmittedForm) -> Option<Vec<u8>> {
     let page = read_status_page(alloc, PAGE.as_bytes()).ok()?;
-    match command_on(alloc, &page, Moment(1000), &form) {
+    match command_on(alloc, &page, Moment(1000), form) {
         Ok(body) => write_body(alloc, &body).ok(),
-        Err(fault) => Some(fault.to_string(alloc).ok()?.into_bytes()),
+        Err(fault) => Vec::from_slice(alloc, fault.words().as_bytes()).ok(),
     }
 }
 
@@ -97,4 +103,22 @@ fn a_form_has_at_most_16384_bytes(rt: HostRuntime) -> Result<(), Fail> {
         Some(FieldsFault::TooLong)
     );
     Ok(())
+}
+
+// The line of the command for the first mark of a form.
+fn line_of_mark(alloc: Global, fields: &str) -> Option<Vec<u8>> {
+    let form = form_of(alloc, fields)?.ok()?;
+    let marks = read_marks(alloc, form.fields()).ok()?;
+    let one = form_for(alloc, &form, *marks.first()?).ok()?;
+    line_of(alloc, &one)
+}
+
+#[test]
+fn a_mark_names_its_object(rt: HostRuntime) {
+    let form = "action=comment&text=hi&host=web2&mark.x=web1%3Ba+b%5C%5Cc";
+    let line = line_of_mark(rt.alloc(), form);
+    assert!(rt;
+        line.is_some_and(|line| line.as_slice()
+            == b"ADD_SVC_COMMENT;web1;a b\\c;0;ann;hi".as_slice())
+    );
 }

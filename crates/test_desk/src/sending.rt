@@ -26,7 +26,7 @@ fn said(alloc: Global, fields: &str) -> Option<Vec<u8>> {
     let page = read_status_page(alloc, PAGE.as_bytes()).ok()?;
     let objection = order_on(alloc, &page, Moment(1000), &form).err()?;
     let mut said = Vec::new(alloc);
-    push_objection(&mut said, alloc, &objection).ok()?;
+    push_objection(&mut said, &objection).ok()?;
     Some(said)
 }
 

@@ -21,6 +21,7 @@ returns g c =
       gateways = c.in_ok-gateways.gateways.items;
       page = page;
       shown = rw c.from.ensures at c.in_ok-gateways.ensures;
+      title_is = refl;
       rows_are = c.as_slice-2.ensures.value ∙ c.in_ok-rows.ensures
           ∙ ap (λ (gateways : List Gateway). map row_of (asked_of gateways c.args.query.now)) c.as_slice.ensures.value;
       user_is = refl;
