@@ -334,7 +334,7 @@ fn stop<'a>(alloc: Global) -> Result<Command<'a>, AllocError>
 fn restore<'a>(alloc: Global) -> Result<Command<'a>, AllocError>
     ensures { IfOk result (IsCommand restore) }
 {
-    on_page(alloc, "restore", "Bring about what was kept")?
+    on_page(alloc, "restore", "Restore what was kept")?
         .arg(option(alloc, "agents", false, "The address of the agents' port"))?
         .arg(flag(
             alloc,
