@@ -1,4 +1,5 @@
 """What the tests of the running daemon share: the daemon, its clients' sockets, and the count of checks."""
+import ctypes
 import os
 import random
 import socket
@@ -26,6 +27,13 @@ freshness = 300
 """
 
 TIME_LIMIT = 20.0  # seconds
+
+# Of the system's ptrace.h and wait.h.
+PTRACE_DETACH = 17
+PTRACE_SEIZE = 0x4206
+PTRACE_INTERRUPT = 0x4207
+WAIT_FOR_THREADS = 0x40000000
+
 passed = 0
 failed = 0
 
@@ -128,6 +136,25 @@ def ask(daemon, *lines):
         connection.sendall("".join(line + "\n" for line in lines).encode("latin-1"))
         connection.shutdown(socket.SHUT_WR)
         return read_all(connection).decode("latin-1").splitlines()
+
+
+def applier_of(daemon):
+    """The applier's thread, which is the first one that is started."""
+    ask(daemon, "[1] x")  # all threads have started
+    return sorted(int(thread) for thread in os.listdir(f"/proc/{daemon.process.pid}/task"))[1]
+
+
+def hold(thread, wait):
+    """Lets one thread of a child process stand still until this call returns: whether the system let it."""
+    trace = ctypes.CDLL(None).ptrace
+    trace.argtypes = [ctypes.c_long] * 4
+    trace.restype = ctypes.c_long
+    if trace(PTRACE_SEIZE, thread, 0, 0) != 0:
+        return False
+    trace(PTRACE_INTERRUPT, thread, 0, 0)
+    os.waitpid(thread, WAIT_FOR_THREADS)
+    wait()
+    return trace(PTRACE_DETACH, thread, 0, 0) == 0
 
 
 def end_tests():

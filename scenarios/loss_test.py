@@ -8,7 +8,7 @@ import tempfile
 import threading
 import time
 
-from daemon_clients import TIME_LIMIT, ask, check, end_tests, packet, read_all, read_exactly
+from daemon_clients import TIME_LIMIT, applier_of, ask, check, end_tests, hold, packet, read_all, read_exactly
 from unit_player import Unit, addresses
 
 GREETING = 132  # bytes
@@ -222,6 +222,50 @@ def play_agents(make, services=4000, workers=4):
         unit.stop()
 
 
+def is_connected(port):
+    """Whether a client is connected to this port of the machine."""
+    with open("/proc/net/tcp", encoding="ascii") as file:
+        rows = [line.split() for line in file]
+    return any(row[1].endswith(f":{port:04X}") and row[3] == "01" for row in rows[1:])
+
+
+def play_a_late_applier(make, services=60):
+    """Results that are queued before a restore and applied late show no kept one, and agents that wait meanwhile lose none."""
+    for sent in (20, 40):
+        unit = make(configuration(services))
+        unit.start()
+        submit(unit.daemon, 0, [(number, b"kept") for number in range(services)])
+        page_of(unit.daemon, lambda page: page.count(";kept\n") == services)
+        unit.stop()
+        held, is_queued, agents = [], threading.Event(), Agents(unit, list(range(20, sent)), 1)
+
+        def wait_for_restore():
+            is_queued.wait(TIME_LIMIT)
+            end = time.monotonic() + TIME_LIMIT
+            while not is_connected(unit.daemon.ports["agents"]) and time.monotonic() < end:
+                time.sleep(0.01)
+            agents.start()
+            time.sleep(2.0)
+
+        def stand_still():
+            unit.daemon.wait_until_serving()
+            applier = applier_of(unit.daemon)
+            threading.Thread(target=lambda: held.append(hold(applier, wait_for_restore))).start()
+            time.sleep(0.3)
+            submit(unit.daemon, 2, [(number, b"newer") for number in range(20)])
+            is_queued.set()
+        unit.start(stand_still)
+        agents.join(100)
+        page = objects(page_of(unit.daemon, lambda page: page.count(";newer\n") == sent))
+        if held == [True]:
+            check(f"{sent} newer results and a late applier", [page[f"s{number}"][1] for number in range(services)],
+                  ["newer"] * sent + ["kept"] * (services - sent))
+            check("no comment is left", comments(unit.daemon.page()), [])
+        else:
+            print("a late applier ... skipped: the system lets nobody hold a thread", flush=True)
+        unit.stop()
+
+
 def play_quiet_agents(make, services=4000):
     """The same without agents: all results are there again."""
     unit = make(configuration(services, workers=4))
@@ -421,8 +465,8 @@ def play_quick_restarts(make):
 
 
 PLAYS = {"crash": play_a_crash, "shutdown": play_an_operators_shutdown, "readers": play_other_readers, "agents": play_agents,
-         "quiet": play_quiet_agents, "watch": play_a_stop_amid_the_watch, "slow": play_slow_readers, "disabled": play_disabled_checks,
-         "large": play_a_large_page, "typo": play_a_typo, "quick": play_quick_restarts}
+         "late": play_a_late_applier, "quiet": play_quiet_agents, "watch": play_a_stop_amid_the_watch, "slow": play_slow_readers,
+         "disabled": play_disabled_checks, "large": play_a_large_page, "typo": play_a_typo, "quick": play_quick_restarts}
 
 
 def main():

@@ -14,17 +14,12 @@ import threading
 import time
 import traceback
 
-from daemon_clients import CONFIGURATION, TIME_LIMIT, Daemon, ask, check, end_tests, packet, read_all, read_exactly
+from daemon_clients import (CONFIGURATION, TIME_LIMIT, Daemon, applier_of, ask, check, end_tests, hold, packet, read_all,
+                            read_exactly)
 
 END = 15.0  # seconds from the answer `closing` to the end of the daemon, at most
 SENDER = 10.0  # seconds after which a send_nsca gives up
 AT_ONCE = 0.5  # seconds: a tenth where nothing else runs, and more beside the other plays
-
-# Of the system's ptrace.h and wait.h.
-PTRACE_DETACH = 17
-PTRACE_SEIZE = 0x4206
-PTRACE_INTERRUPT = 0x4207
-WAIT_FOR_THREADS = 0x40000000
 
 
 def limited(**keys):
@@ -532,25 +527,6 @@ def end_burst(daemon, senders):
     daemon.page_with("the last one")
 
 
-def applier_of(daemon):
-    """The applier's thread, which is the first one that is started."""
-    ask(daemon, "[1] x")  # all threads have started
-    return sorted(int(thread) for thread in os.listdir(f"/proc/{daemon.process.pid}/task"))[1]
-
-
-def hold(thread, seconds):
-    """Lets one thread of a child process stand still: whether the system let it."""
-    trace = ctypes.CDLL(None).ptrace
-    trace.argtypes = [ctypes.c_long] * 4
-    trace.restype = ctypes.c_long
-    if trace(PTRACE_SEIZE, thread, 0, 0) != 0:
-        return False
-    trace(PTRACE_INTERRUPT, thread, 0, 0)
-    os.waitpid(thread, WAIT_FOR_THREADS)
-    time.sleep(seconds)
-    return trace(PTRACE_DETACH, thread, 0, 0) == 0
-
-
 def play_a_standstill(program, folder):
     """While the applier stands still, a line is answered `full` after 10 seconds; no packet of a burst is lost, nor the first
     one of a connection."""
@@ -560,7 +536,7 @@ def play_a_standstill(program, folder):
     while len(sent) < 8:
         time.sleep(0.001)
     held = []
-    holder = threading.Thread(target=lambda: held.append(hold(applier, 14.0)))
+    holder = threading.Thread(target=lambda: held.append(hold(applier, lambda: time.sleep(14.0))))
     holder.start()
     time.sleep(0.5)
     check("a standstill: a new sender is greeted", send_one(daemon, b"the first one"), True)

@@ -102,7 +102,7 @@ class Unit:
                 return False
         return True
 
-    def start(self):
+    def start(self, meanwhile=lambda: None):
         """Starts the daemon, and runs what the unit has before and after it; what was written to the journal."""
         self.journal = ""
         self.run("ExecStartPre")
@@ -110,6 +110,7 @@ class Unit:
         with open(self.log, "ab") as log:
             self.daemon = Served(words, log, self.configuration)
         self.environment["MAINPID"] = str(self.daemon.process.pid)
+        meanwhile()
         self.run("ExecStartPost")
         self.daemon.wait_until_serving()
         return self.journal

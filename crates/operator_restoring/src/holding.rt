@@ -1,14 +1,15 @@
 //! The agents' port, held while results are restored: each of its workers serves a connection of
-//! this program, so that no agent's newer result comes between.
+//! this program, so that no agent's newer result comes between. A gateway drops a packet that names
+//! no host, and goes on with its connection; such packets keep it while nothing else is sent.
 
 use gate_model::{Body, Moment};
-use gate_packet::{Packet, encode, encode_short, fits_short};
+use gate_packet::{Packet, SHORT_PACKET_SIZE, crc32, encode, encode_short, fits_short};
 use page_fetching::Timed;
 use std::alloc::Global;
-use std::io;
 use std::io::{ErrorKind, Read, Write};
 use std::net::{Net, Shutdown, SocketAddr, TcpListener, TcpStream};
 use std::time::{Clock, Duration, Instant};
+use std::{io, thread};
 
 // The bytes of a greeting, whose last four are the gateway's moment.
 const GREETING: usize = 132;
@@ -16,45 +17,33 @@ const GREETING: usize = 132;
 const GREETED_WITHIN: u64 = 15;
 // The seconds that packets may take.
 const SENT_WITHIN: u64 = 30;
+// The milliseconds after which a silent connection is sent a packet without a host. While agents wait
+// and no worker is free, a gateway ends one that is silent for a second.
+const SILENT: u64 = 400;
+// The milliseconds between two looks at connections that wait for a greeting.
+const LOOK: u64 = 2;
 
-/// A connection that a worker of the agents' port serves.
+/// A connection to the agents' port.
 #[derive(Drop)]
-pub struct Held {
+struct Held {
     stream: TcpStream,
-    greeted: Moment,
+    // The gateway's moment, once a worker serves this connection.
+    greeted: Option<Moment>,
+    // When bytes went over it, the last time.
+    used: Instant,
+    // How many packets without a host it may take.
+    spare: u32,
 }
 
-// Waits until a worker greets, and reads the gateway's moment.
-fn read_greeting<R: Clock>(rt: &R, stream: &TcpStream) -> io::Result<Moment> {
-    let begun = Instant::now(rt)?;
-    let mut reader = Timed::new(rt, stream, begun, GREETED_WITHIN);
-    let mut greeting = [0; GREETING];
-    reader.read_exact(&mut greeting)?;
-    let moment = [greeting[128], greeting[129], greeting[130], greeting[131]];
-    Ok(Moment(u32::from_be_bytes(moment)))
+/// Connections to the agents' port, one for each of its workers, which serve no other ones.
+#[derive(Drop)]
+pub struct Hold {
+    held: Vec<Held>,
+    // The connection over which the next result goes.
+    turn: usize,
 }
 
-/// Connects so often to the agents' port, and waits until each connection is served. The kernel
-/// gives connections to workers in the order in which they came.
-pub fn hold<R: Net<Listener = TcpListener, Stream = TcpStream> + Clock>(
-    rt: &R,
-    alloc: Global,
-    address: SocketAddr,
-    workers: u32,
-) -> Option<Vec<Held>> {
-    let mut streams = Vec::new(alloc);
-    for _ in 0..workers {
-        let within = Duration::from_secs(GREETED_WITHIN);
-        let stream = TcpStream::connect_timeout(rt, &address, within).ok()?;
-        streams.push(stream).ok()?;
-    }
-    let mut held = Vec::new(alloc);
-    for stream in streams {
-        let greeted = read_greeting(rt, &stream).ok()?;
-        held.push(Held { stream, greeted }).ok()?;
-    }
-    Some(held)
-}
+// ---- packets
 
 // The packet of a result, if one can hold it.
 fn packet_of(alloc: Global, moment: Moment, body: &Body) -> Option<Packet> {
@@ -81,38 +70,205 @@ fn packet_of(alloc: Global, moment: Moment, body: &Body) -> Option<Packet> {
     made.ok()
 }
 
+// A packet of version 3 and of this moment that names no host, with its check word (`data_packet` of
+// NSCA 2.7, `common.h`).
+fn packet_without_host(moment: Moment) -> [u8; SHORT_PACKET_SIZE] {
+    let mut bytes = [0; SHORT_PACKET_SIZE];
+    bytes[1] = 3;
+    let [a, b, c, d] = moment.0.to_be_bytes();
+    bytes[8] = a;
+    bytes[9] = b;
+    bytes[10] = c;
+    bytes[11] = d;
+    let [a, b, c, d] = crc32(&bytes).to_be_bytes();
+    bytes[4] = a;
+    bytes[5] = b;
+    bytes[6] = c;
+    bytes[7] = d;
+    bytes
+}
+
+// ---- one connection
+
 impl Held {
-    /// Whether the worker still serves this connection: nothing can be read, not even its end.
-    pub fn is_held(&self) -> bool {
-        if self.stream.set_nonblocking(true).is_err() {
-            return false;
-        }
-        let is_quiet = match self.stream.peek(&mut [0]) {
-            Ok(_) => false,
-            Err(error) => error.kind() == ErrorKind::WouldBlock,
-        };
-        self.stream.set_nonblocking(false).is_ok() && is_quiet
+    fn connect<R: Net<Listener = TcpListener, Stream = TcpStream> + Clock>(
+        rt: &R,
+        address: SocketAddr,
+        spare: u32,
+    ) -> io::Result<Held> {
+        let within = Duration::from_secs(GREETED_WITHIN);
+        let stream = TcpStream::connect_timeout(rt, &address, within)?;
+        Ok(Held {
+            stream,
+            greeted: None,
+            used: Instant::now(rt)?,
+            spare,
+        })
     }
 
-    /// Sends a result, if a packet can hold it.
-    pub fn send<R: Clock>(&self, rt: &R, alloc: Global, body: &Body) -> io::Result<()> {
-        let Some(packet) = packet_of(alloc, self.greeted, body) else {
+    // How many bytes can be read now, at most as many as a greeting has. None: the connection is open
+    // and there are none.
+    fn readable(&self) -> io::Result<Option<usize>> {
+        self.stream.set_nonblocking(true)?;
+        let found = self.stream.peek(&mut [0; GREETING]);
+        self.stream.set_nonblocking(false)?;
+        match found {
+            Ok(count) => Ok(Some(count)),
+            Err(error) if error.kind() == ErrorKind::WouldBlock => Ok(None),
+            Err(error) => Err(error),
+        }
+    }
+
+    // Whether the worker still serves this connection: nothing can be read, not even its end.
+    fn is_held(&self) -> bool {
+        matches!(self.readable(), Ok(None))
+    }
+
+    fn is_silent<R: Clock>(&self, rt: &R) -> io::Result<bool> {
+        Ok(Duration::from_millis(SILENT) <= self.used.elapsed(rt)?)
+    }
+
+    fn put<R: Clock>(&mut self, rt: &R, bytes: &[u8]) -> io::Result<()> {
+        let now = Instant::now(rt)?;
+        Timed::new(rt, &self.stream, now, SENT_WITHIN).write_all(bytes)?;
+        self.used = now;
+        Ok(())
+    }
+
+    // Reads the greeting, if it is there.
+    fn greet<R: Clock>(&mut self, rt: &R) -> io::Result<()> {
+        match self.readable()? {
+            Some(GREETING) => {}
+            Some(0) => return Err(io::Error::from(ErrorKind::UnexpectedEof)),
+            _ => return Ok(()),
+        }
+        let now = Instant::now(rt)?;
+        let mut greeting = [0; GREETING];
+        Timed::new(rt, &self.stream, now, GREETED_WITHIN).read_exact(&mut greeting)?;
+        let moment = [greeting[128], greeting[129], greeting[130], greeting[131]];
+        self.greeted = Some(Moment(u32::from_be_bytes(moment)));
+        self.used = now;
+        Ok(())
+    }
+
+    // Sends a packet that the gateway drops, if it may, over a connection that is held.
+    fn prolong<R: Clock>(&mut self, rt: &R, moment: Moment) -> io::Result<()> {
+        if !self.is_held() {
+            return Err(io::Error::from(ErrorKind::ConnectionAborted));
+        }
+        if self.spare > 0 {
+            self.spare -= 1;
+            self.put(rt, &packet_without_host(moment))?;
+        }
+        Ok(())
+    }
+
+    // Reads the greeting, if it is there, or goes on with a connection that is greeted.
+    fn keep<R: Clock>(&mut self, rt: &R) -> io::Result<()> {
+        match self.greeted {
+            None => self.greet(rt),
+            Some(moment) => {
+                if self.is_silent(rt)? {
+                    self.prolong(rt, moment)?;
+                }
+                Ok(())
+            }
+        }
+    }
+
+    // Sends a result, if a packet can hold it.
+    fn send<R: Clock>(&mut self, rt: &R, alloc: Global, body: &Body) -> io::Result<()> {
+        let Some(moment) = self.greeted else {
+            return Err(io::Error::from(ErrorKind::NotConnected));
+        };
+        let Some(packet) = packet_of(alloc, moment, body) else {
             return Ok(());
         };
-        let mut writer = Timed::new(rt, &self.stream, Instant::now(rt)?, SENT_WITHIN);
         if fits_short(&packet) {
-            writer.write_all(&encode_short(&packet))
+            self.put(rt, &encode_short(&packet))
         } else {
-            writer.write_all(&encode(&packet))
+            self.put(rt, &encode(&packet))
         }
     }
 
-    /// Lets go of the worker, and waits until it has submitted all that was sent.
-    pub fn release<R: Clock>(self, rt: &R, alloc: Global) -> io::Result<()> {
+    // Lets go of the worker, and waits until it has submitted all that was sent.
+    fn release<R: Clock>(self, rt: &R, alloc: Global) -> io::Result<()> {
         self.stream.shutdown(Shutdown::Write)?;
         let mut rest = Vec::new(alloc);
         let mut reader = Timed::new(rt, &self.stream, Instant::now(rt)?, SENT_WITHIN);
         reader.read_to_end(&mut rest)?;
         Ok(())
+    }
+}
+
+// ---- all of them
+
+impl Hold {
+    /// Connects so often to the agents' port, and waits until each connection is served. The kernel
+    /// gives connections to workers in the order in which they came. Each may take so many packets
+    /// beside its results.
+    pub fn new<R: Net<Listener = TcpListener, Stream = TcpStream> + Clock>(
+        rt: &R,
+        alloc: Global,
+        address: SocketAddr,
+        workers: u32,
+        spare: u32,
+    ) -> io::Result<Hold> {
+        let begun = Instant::now(rt)?;
+        let mut held = Vec::new(alloc);
+        for _ in 0..workers {
+            held.push(Held::connect(rt, address, spare)?)?;
+        }
+        let mut hold = Hold { held, turn: 0 };
+        for _ in 0..u64::MAX {
+            hold.keep(rt)?;
+            if hold.held.iter().all(|one| one.greeted.is_some()) {
+                return Ok(hold);
+            }
+            if Duration::from_secs(GREETED_WITHIN) <= begun.elapsed(rt)? {
+                break;
+            }
+            thread::sleep(rt, Duration::from_millis(LOOK));
+        }
+        Err(io::Error::from(ErrorKind::TimedOut))
+    }
+
+    /// Goes on with each connection: none is ended for its silence where this is called again within
+    /// half a second. It fails where one was ended.
+    pub fn keep<R: Clock>(&mut self, rt: &R) -> io::Result<()> {
+        for one in self.held.iter_mut() {
+            one.keep(rt)?;
+        }
+        Ok(())
+    }
+
+    /// Whether each worker still serves its connection.
+    pub fn is_held(&self) -> bool {
+        self.held.iter().all(|one| one.is_held())
+    }
+
+    /// Sends a result, if a packet can hold it, over each connection in turn.
+    pub fn send<R: Clock>(&mut self, rt: &R, alloc: Global, body: &Body) -> io::Result<()> {
+        self.keep(rt)?;
+        let Some(one) = self.held.get_mut(self.turn) else {
+            return Err(io::Error::from(ErrorKind::NotConnected));
+        };
+        one.send(rt, alloc, body)?;
+        self.turn = if self.turn < self.held.len().saturating_sub(1) {
+            self.turn.saturating_add(1)
+        } else {
+            0
+        };
+        Ok(())
+    }
+
+    /// Lets go of the workers, and waits until they have submitted all that was sent. Returns whether
+    /// each served its connection until then.
+    pub fn release<R: Clock>(self, rt: &R, alloc: Global) -> io::Result<bool> {
+        let was_held = self.is_held();
+        for one in self.held {
+            one.release(rt, alloc)?;
+        }
+        Ok(was_held)
     }
 }

@@ -7,6 +7,7 @@
 mod gateway;
 mod holding;
 mod live;
+mod marking;
 mod missing;
 mod preparing;
 mod restore_fault;

@@ -3,7 +3,8 @@
 ghost use Rattle.std.specs.Prelude.{◌≤◌};
 
 use crate::gateway::Gateway;
-use crate::holding::{Held, hold};
+use crate::holding::Hold;
+use crate::marking::settled_page;
 use crate::restore_fault::RestoreFault;
 use gate_grammar::Command;
 use gate_model::{Body, ObjectTable};
@@ -23,10 +24,10 @@ use std::time::{Clock, Duration, Instant};
 
 // The most packets or lines that are sent over one connection.
 const MOST_ITEMS: u32 = 5000;
+// The most packets without a host that are sent over one connection, each after a silence.
+const MOST_SPARE: u32 = 50;
 // How often a hold is tried, each time for the results that the page doesn't show yet.
-const HOLDS: u32 = 3;
-// The milliseconds in which what was queued before a hold is on the page.
-const SETTLING: u64 = 300;
+const HOLDS: u32 = 10;
 
 /// Where a gateway is, and what it has.
 #[derive(Drop)]
@@ -43,12 +44,18 @@ pub struct Target<'a> {
     pub pid: Option<&'a str>,
 }
 
-// The number of commands that are sent over so many connections at once.
+// The packets without a host that a connection may take, beside its results.
+fn spare_of(target: &Target<'_>) -> u32 {
+    (target.items / 2).min(MOST_SPARE)
+}
+
+// The number of results or commands that are sent over so many connections at once.
 fn part_size(target: &Target<'_>, connections: u32) -> usize
     ensures { 1 ≤ result }
 {
-    let most = target.items.min(MOST_ITEMS) as usize;
-    most.saturating_mul(connections as usize).max(1)
+    let most = target.items.min(MOST_ITEMS);
+    let each = most.saturating_sub(spare_of(target)) as usize;
+    each.saturating_mul(connections as usize).max(1)
 }
 
 // ---- pages
@@ -71,8 +78,8 @@ fn has_gone<F: Files>(files: &F, alloc: Global, pid: Option<&str>) -> bool {
     }
 }
 
-// The next page of a gateway, within the time and while its process runs.
-fn fetch_page<R: Net<Listener = TcpListener, Stream = TcpStream> + Clock + Files>(
+/// The next page of a gateway, within the time and while its process runs.
+pub fn fetch_page<R: Net<Listener = TcpListener, Stream = TcpStream> + Clock + Files>(
     rt: &R,
     alloc: Global,
     target: &Target<'_>,
@@ -91,86 +98,98 @@ fn fetch_page<R: Net<Listener = TcpListener, Stream = TcpStream> + Clock + Files
 
 // ---- results
 
-fn are_held(held: &[Held]) -> bool {
-    held.iter().all(|one| one.is_held())
+// A page of the gateway, whose objects are those of the configuration.
+fn own_page<'a>(
+    alloc: Global,
+    target: &Target<'_>,
+    text: &'a [u8],
+) -> Result<StatusPage<'a>, RestoreFault> {
+    let page = read_status_page(alloc, text)?;
+    if page.objects.len() == target.table.len() {
+        Ok(page)
+    } else {
+        Err(RestoreFault::OtherObjects)
+    }
 }
 
-// Sends the results of objects that have none yet over held connections.
+// Sends the results of objects that have none on this page over held connections.
 fn send_over<R: Clock>(
     rt: &R,
     alloc: Global,
-    held: &[Held],
+    hold: &mut Hold,
     table: &ObjectTable,
     page: &StatusPage<'_>,
     results: &[Body],
 ) -> Result<(), RestoreFault> {
-    let mut turn = 0usize;
     for body in results {
-        if is_pending(table, page, body) {
-            let Some(one) = held.get(turn) else {
-                return Err(RestoreFault::NotHeld);
-            };
-            if one.send(rt, alloc, body).is_err() {
-                return Err(RestoreFault::NotHeld);
-            }
-            turn = if turn < held.len().saturating_sub(1) {
-                turn.saturating_add(1)
-            } else {
-                0
-            };
+        if is_pending(table, page, body) && hold.send(rt, alloc, body).is_err() {
+            return Err(RestoreFault::NotHeld);
         }
     }
     Ok(())
 }
 
-// Holds the agents' workers, and sends the results of objects that have none yet. A worker that was
+// Holds the agents' workers, and sends the results of objects that have none then. A worker that was
 // let go meanwhile may have served an agent, whose result is newer.
+fn send_held<R: Net<Listener = TcpListener, Stream = TcpStream> + Clock + Files>(
+    rt: &R,
+    alloc: Global,
+    target: &Target<'_>,
+    mark: &[u8],
+    results: &[Body],
+) -> Result<(), RestoreFault> {
+    let made = Hold::new(rt, alloc, target.agents, target.workers, spare_of(target));
+    let Ok(mut hold) = made else {
+        return Err(RestoreFault::NotHeld);
+    };
+    let text = settled_page(rt, alloc, target, &mut hold, mark)?;
+    let page = own_page(alloc, target, text.as_slice())?;
+    if !hold.is_held() {
+        return Err(RestoreFault::NotHeld);
+    }
+    send_over(rt, alloc, &mut hold, target.table, &page, results)?;
+    match hold.release(rt, alloc) {
+        Ok(true) => Ok(()),
+        _ => Err(RestoreFault::NotHeld),
+    }
+}
+
+// Sends results, where one of them is of an object that has none yet.
 fn send_part_of_results<R: Net<Listener = TcpListener, Stream = TcpStream> + Clock + Files>(
     rt: &R,
     alloc: Global,
     target: &Target<'_>,
+    mark: &[u8],
     results: &[Body],
 ) -> Result<(), RestoreFault> {
-    let Some(held) = hold(rt, alloc, target.agents, target.workers) else {
-        return Err(RestoreFault::NotHeld);
-    };
-    thread::sleep(rt, Duration::from_millis(SETTLING));
     let text = fetch_page(rt, alloc, target)?;
-    let page = read_status_page(alloc, text.as_slice())?;
-    if page.objects.len() != target.table.len() {
-        return Err(RestoreFault::OtherObjects);
-    }
-    if !are_held(held.as_slice()) {
-        return Err(RestoreFault::NotHeld);
-    }
-    send_over(rt, alloc, held.as_slice(), target.table, &page, results)?;
-    let were_held = are_held(held.as_slice());
-    for one in held {
-        if one.release(rt, alloc).is_err() {
-            return Err(RestoreFault::NotHeld);
-        }
-    }
-    if were_held {
-        Ok(())
+    let page = own_page(alloc, target, text.as_slice())?;
+    let is_due = results
+        .iter()
+        .any(|body| is_pending(target.table, &page, body));
+    if is_due {
+        send_held(rt, alloc, target, mark, results)
     } else {
-        Err(RestoreFault::NotHeld)
+        Ok(())
     }
 }
 
-// Sends results, at most so often as a hold may fail.
+// Sends results, and tries so often as a hold may fail.
 fn hold_and_send<R: Net<Listener = TcpListener, Stream = TcpStream> + Clock + Files>(
     rt: &R,
     alloc: Global,
     target: &Target<'_>,
+    part: usize,
     results: &[Body],
 ) -> Result<(), RestoreFault> {
-    for _ in 1..HOLDS {
-        match send_part_of_results(rt, alloc, target, results) {
+    for turn in 1..=HOLDS {
+        let mark = format!(in alloc; "results are restored: part {part}, try {turn}")?;
+        match send_part_of_results(rt, alloc, target, mark.as_bytes(), results) {
             Err(RestoreFault::NotHeld) => {}
             ended => return ended,
         }
     }
-    send_part_of_results(rt, alloc, target, results)
+    Err(RestoreFault::NotHeld)
 }
 
 // Sends results to a fresh gateway.
@@ -184,8 +203,10 @@ fn send_results<R: Net<Listener = TcpListener, Stream = TcpStream> + Clock + Fil
     if !is_fresh(&read_status_page(alloc, text.as_slice())?) {
         return Err(RestoreFault::NotFresh);
     }
-    for part in results.chunks(part_size(target, target.workers)) {
-        hold_and_send(rt, alloc, target, part)?;
+    let mut part = 0usize;
+    for some in results.chunks(part_size(target, target.workers)) {
+        part = part.saturating_add(1);
+        hold_and_send(rt, alloc, target, part, some)?;
     }
     Ok(())
 }

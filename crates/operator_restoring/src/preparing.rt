@@ -22,19 +22,26 @@ pub struct KeptFiles<'a> {
 }
 
 // The objects of the configuration, which was read before.
+fn table_in<F: Files>(
+    files: &F,
+    alloc: Global,
+    options: &Options,
+) -> Result<ObjectTable, RestoreFault> {
+    match configuration(files, alloc, options) {
+        Ok(config) => Ok(config.table),
+        Err(_) => Err(RestoreFault::Unreadable),
+    }
+}
+
 fn tables_of<F: Files>(
     files: &F,
     alloc: Global,
     options: &Options,
 ) -> Result<Tables, RestoreFault> {
-    let read = configuration(files, alloc, options);
-    match (read, configuration(files, alloc, options)) {
-        (Ok(fresh), Ok(of_log)) => Ok(Tables {
-            fresh: fresh.table,
-            of_log: of_log.table,
-        }),
-        _ => Err(RestoreFault::Unreadable),
-    }
+    Ok(Tables {
+        fresh: table_in(files, alloc, options)?,
+        of_log: table_in(files, alloc, options)?,
+    })
 }
 
 // The kept log: that of the words, or else the one that `stop` kept beside the page, unless the page

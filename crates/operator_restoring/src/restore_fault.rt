@@ -33,6 +33,9 @@ pub enum RestoreFault {
     /// A command was answered otherwise than by `queued`, or ten times by `full`.
     #[error("a command was not queued, and those after it are not sent")]
     NotQueued,
+    /// What was queued isn't on a page in time.
+    #[error("the gateway doesn't show in time what it queued")]
+    NotApplied,
     /// The gateway serves no page.
     #[error("the gateway serves no page")]
     NoPage,
@@ -81,6 +84,7 @@ impl RestoreFault {
             RestoreFault::NotHeld
             | RestoreFault::NoAnswer(_)
             | RestoreFault::NotQueued
+            | RestoreFault::NotApplied
             | RestoreFault::NoPage
             | RestoreFault::Ended
             | RestoreFault::NoClock
