@@ -12,7 +12,7 @@ pub weaker : {R : Type 0} (P Q : R → Type 0) → ((row : R) → P row → Q ro
 weaker P Q more [] all = tt
 weaker P Q more (row ∷ rows) all = (more row all.0, weaker P Q more rows all.1)
 
-or_parts : (one other : Bool) → (one || other) ≡ false → (one ≡ false) × (other ≡ false)
+pub or_parts : (one other : Bool) → (one || other) ≡ false → (one ≡ false) × (other ≡ false)
 or_parts true other e = cc
 or_parts false other e = (refl, e)
 
@@ -31,7 +31,7 @@ module _ {R : Type 0} (same : R → R → Bool) where
   abbrev pub has_like : List R → R → Bool
   has_like rows row = list_any (λ other. same other row) rows
 
-  has_like-more : (before : List R) (next row : R) → has_like (before ++ next ∷ []) row ≡ (has_like before row || (same next row || false))
+  pub has_like-more : (before : List R) (next row : R) → has_like (before ++ next ∷ []) row ≡ (has_like before row || (same next row || false))
   has_like-more before next row = list_any-append (λ other. same other row) before (next ∷ [])
 
   -- the first rows are the same as none before them
@@ -79,7 +79,7 @@ module _ {R : Type 0} {same : R → R → Bool} (laws : IsEquivalence same) wher
   pub like : (one other row : R) → same one other ≡ true → same row one ≡ same row other
   like one other row e = laws.symm row one ∙ laws.congr one other row e ∙ laws.symm other row
 
-  has_like-same : (rows : List R) (one other : R) → same one other ≡ true → has_like same rows one ≡ has_like same rows other
+  pub has_like-same : (rows : List R) (one other : R) → same one other ≡ true → has_like same rows one ≡ has_like same rows other
   has_like-same [] one other e = refl
   has_like-same (row ∷ rows) one other e = rw (like one other row e, has_like-same rows one other e) refl
 

@@ -2,6 +2,7 @@ pub mod GroupSteps
 pub mod LatestSteps
 pub mod FirstLaws
 pub mod MergeLaws
+pub mod NameSteps
 pub mod HostSteps
 pub mod StateLaws
 pub mod MarkLaws

@@ -19,7 +19,7 @@ both true true e = (refl, refl)
 both true false e = cc
 both false other e = cc
 
-names_alike : IsEquivalence same_name
+pub names_alike : IsEquivalence same_name
 names_alike = record {
   refl = λ one. rw (nat_list_eq_equiv.refl one.row.host.now, nat_list_eq_equiv.refl one.row.service.now) refl;
   symm = λ one other. rw (nat_list_eq_equiv.symm one.row.host.now other.row.host.now, nat_list_eq_equiv.symm one.row.service.now other.row.service.now) refl;
@@ -45,7 +45,7 @@ found test (next ∷ rows) row e = elim (cases_Bool (test next)) [
       (rest.0, Contains-append_right (next ∷ []) rows row rest.1)
 ]
 
-kept-some : (known : MergedObject) (rows : List MergedObject) → (row : MergedObject) × (kept (Some known) rows ≡ Some row)
+pub kept-some : (known : MergedObject) (rows : List MergedObject) → (row : MergedObject) × (kept (Some known) rows ≡ Some row)
 kept-some known [] = (known, refl)
 kept-some known (row ∷ rows) = kept-some (if is_later row.row.last known.row.last then row else known) rows
 
@@ -78,10 +78,10 @@ map-twice f g (x ∷ xs) = rw (map-twice f g xs) refl
 
 module _ (rows : List MergedObject) where
   -- the rows of this row's name
-  abbrev of_name : MergedObject → List MergedObject
+  abbrev pub of_name : MergedObject → List MergedObject
   of_name first = filter (λ row. same_name row first) rows
 
-  abbrev shown_for : MergedObject → MergedObject
+  abbrev pub shown_for : MergedObject → MergedObject
   shown_for first = latest (first, of_name first)
 
   -- the row that is shown for a first row has its name, is a row, and none of its name is later
@@ -90,7 +90,7 @@ module _ (rows : List MergedObject) where
     is_row : Contains rows object
     latest : is_latest (of_name object) object ≡ true
 
-  first_of_name : (first : MergedObject) → Contains rows first → Contains (of_name first) first
+  pub first_of_name : (first : MergedObject) → Contains rows first → Contains (of_name first) first
   first_of_name first is = Contains-filter _ rows first is (names_alike.refl first)
 
   shown_is : (first : MergedObject) → Contains rows first → IsShownFor first (shown_for first)
@@ -108,7 +108,7 @@ module _ (rows : List MergedObject) where
   all_shown : AllByRecursion (λ first. IsShownFor first (shown_for first)) (firsts same_name rows)
   all_shown = weaker _ _ shown_is _ (firsts-among same_name [] rows)
 
-  is_picked : merged rows ≡ map shown_for (firsts same_name rows)
+  pub is_picked : merged rows ≡ map shown_for (firsts same_name rows)
   is_picked = map-twice latest (λ first. (first, of_name first)) (firsts same_name rows)
 
   pub merged_lists : IsListOf rows (merged rows)

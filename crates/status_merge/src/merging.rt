@@ -1,23 +1,18 @@
-ghost use Rattle.std.specs.Prelude.{◌≡◌, ◌++◌, OnOk, IfOk, map, find};
-ghost use Rattle.std.specs.List.{All, flat_map};
-ghost use Rattle.status_merge.specs.Objects.{is_later, is_latest, age_of, shown_by, objects_on, merged, is_host_out, with_hosts, unmarked, IsListOf, HasSoundPage, HasOwnState};
+ghost use Rattle.std.specs.Prelude.{◌≡◌, ◌<◌, ◌++◌, OnOk, IfOk, length, map, not, false};
+ghost use Rattle.std.specs.List.{All, flat_map, list_any, position_or_len};
+ghost use Rattle.indexmap.specs.IndexSet.{insert_key};
+ghost use Rattle.status_merge.specs.Objects.{is_later, age_of, shown_by, objects_on, merged, is_host_out, with_hosts, unmarked, IsListOf, HasSoundPage, HasOwnState};
 ghost use Rattle.status_merge.specs.inner.Hosts.{AreHostsOut, is_of};
+ghost use Rattle.status_merge.specs.inner.Names.{key_of, same_key, newer, with_row};
 
 use crate::gateway::{Gateway, MergedObject};
-use crate::groups::{Keyed, grouped};
+use indexmap::IndexSet;
 use status_reading::ShownObject;
 use std::alloc::{AllocError, Global};
 use std::collections::HashSet;
 
-impl<'a> Keyed for MergedObject<'a> {
-    type Key = (&'a [u8], &'a [u8]);
-
-    ghost key_of = { λ object. (object.row.host, object.row.service) };
-
-    fn key(&self) -> (&'a [u8], &'a [u8]) {
-        (self.row.host, self.row.service)
-    }
-}
+/// The names of an object's host and service, which a host has empty.
+type Name<'a> = (&'a [u8], &'a [u8]);
 
 fn is_later(one: Option<u32>, other: Option<u32>) -> bool
     ensures { result ≡ is_later one other }
@@ -27,23 +22,6 @@ fn is_later(one: Option<u32>, other: Option<u32>) -> bool
         (Some(_), None) => true,
         (None, _) => false,
     }
-}
-
-// The first of the rows than which none is later.
-fn latest<'a>(rows: &[MergedObject<'a>]) -> Option<MergedObject<'a>>
-    ensures { result ≡ find (is_latest rows.now) rows.now }
-{
-    let mut latest: Option<MergedObject<'a>> = None;
-    for row in rows {
-        let replaces = match latest {
-            Some(known) => is_later(row.row.last, known.row.last),
-            None => true,
-        };
-        if replaces {
-            latest = Some(*row);
-        }
-    }
-    latest
 }
 
 /// How many seconds ago a page was fetched, where it is old; 0 where it is new.
@@ -109,6 +87,50 @@ fn objects_of<'a>(
     Ok(objects)
 }
 
+// Adds the name of a row, unless it is among these. Returns its place, and whether it is new.
+fn add_name<'a>(
+    names: &mut IndexSet<Name<'a>>,
+    row: &MergedObject<'a>,
+) -> Result<(usize, bool), AllocError>
+    ensures names { OnOk result (names.new.keys
+        ≡ insert_key same_key names.old.keys (key_of row.now)) }
+    ensures place { IfOk result (λ added. added.0
+        ≡ position_or_len (same_key (key_of row.now)) names.old.keys) }
+    ensures new { IfOk result (λ added. added.1
+        ≡ not (list_any (same_key (key_of row.now)) names.old.keys)) }
+{
+    Ok(names.insert_full((row.row.host, row.row.service))?)
+}
+
+// A row, or the one that is known, where the row is no later.
+fn newer<'a>(row: &MergedObject<'a>, known: &MergedObject<'a>) -> MergedObject<'a>
+    ensures { result ≡ newer row.now known.now }
+{
+    if is_later(row.row.last, known.row.last) {
+        *row
+    } else {
+        *known
+    }
+}
+
+// Takes in a row: last where its name is new, and else at the place of its name.
+fn take_in<'a>(
+    shown: &mut Vec<MergedObject<'a>>,
+    place: usize,
+    is_new: bool,
+    row: &MergedObject<'a>,
+) -> Result<(), AllocError>
+    requires { is_new ≡ false → place < length shown.old.items }
+    ensures { OnOk result (shown.new.items ≡ with_row shown.old.items place is_new row.now) }
+{
+    if is_new {
+        shown.push(*row)?;
+    } else {
+        shown[place] = newer(row, &shown[place]);
+    }
+    Ok(())
+}
+
 // Each name of the rows once, by the latest of its rows.
 fn latest_rows<'a>(
     alloc: Global,
@@ -116,11 +138,13 @@ fn latest_rows<'a>(
 ) -> Result<Vec<MergedObject<'a>>, AllocError>
     ensures { IfOk result (λ found. found.items ≡ merged rows.now) }
 {
-    let mut merged = Vec::new(alloc);
-    for group in grouped(alloc, rows)? {
-        merged.push(latest(group.rows.as_slice()).unwrap_or(group.first))?;
+    let mut names = IndexSet::with_capacity(alloc, rows.len())?;
+    let mut shown = Vec::with_capacity(alloc, rows.len())?;
+    for row in rows {
+        let (place, is_new) = add_name(&mut names, row)?;
+        take_in(&mut shown, place, is_new, row)?;
     }
-    Ok(merged)
+    Ok(shown)
 }
 
 fn is_host_out(object: &MergedObject<'_>) -> bool
