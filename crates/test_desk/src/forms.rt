@@ -1,10 +1,13 @@
 use crate::guard::{ANN, GOOD, NOW, guard, request};
+use bytes::Bytes;
 use desk_forms::{
-    AdmittedForm, FieldsFault, admit_form, command_on, form_for, read_fields, read_marks,
+    AdmitFault, AdmittedForm, FieldsFault, FormFault, admit_form, command_on, form_for,
+    read_fields, read_marks,
 };
 use desk_guard::SentForms;
 use gate_grammar::write_body;
-use gate_model::Moment;
+use gate_model::{Body, Moment};
+use http::Request;
 use status_reading::read_status_page;
 use std::alloc::Global;
 use std::test::*;
@@ -14,37 +17,57 @@ const PAGE: &str = "status 1000\nobject;web1;;UP;900;fresh;-;1;\n\
     comment;3;web1;a b\\\\c;user;0;900;ann;seen\n\
     downtime;5;web1;;fixed;0;900;1200;300;900;ann;work\n";
 
-// The form of an admitted request, with the token before these fields, or its fault's text.
-pub fn form_of(alloc: Global, fields: &str) -> Option<Result<AdmittedForm, String>> {
-    let mut body = format!(in alloc; "token={ANN}&").ok()?;
-    body.push_str(fields).ok()?;
-    let request = request(alloc, &GOOD, body.as_bytes())?;
+fn request_of(alloc: Global, fields: &str) -> Option<Request<Bytes>> {
+    let body = format!(in alloc; "token={ANN}&{fields}").ok()?;
+    request(alloc, &GOOD, body.as_bytes())
+}
+
+// What comes of a request whose form has the token before these fields.
+fn admitted(alloc: Global, fields: &str) -> Option<Result<AdmittedForm, AdmitFault>> {
+    let guard = guard(alloc)?;
+    let request = request_of(alloc, fields)?;
     let mut sent = SentForms::new(alloc);
-    match admit_form(alloc, &guard(alloc)?, &mut sent, &request, NOW) {
-        Ok(form) => Some(Ok(form)),
-        Err(fault) => Some(Err(fault.to_string(alloc).ok()?)),
-    }
+    let admitted = admit_form(alloc, &guard, &mut sent, &request, NOW);
+    drop(request);
+    Some(admitted)
 }
 
-// The line of the command of a form, or its fault's text.
-fn line(alloc: Global, fields: &str) -> Option<Vec<u8>> {
-    let form = match form_of(alloc, fields)? {
-        Ok(form) => form,
-        Err(text) => return Some(text.into_bytes()),
-    };
-    line_of(alloc, &form)
+/// The form of an admitted request, with the token before these fields.
+pub fn form_of(alloc: Global, fields: &str) -> Option<AdmittedForm> {
+    admitted(alloc, fields)?.ok()
 }
 
-fn line_of(alloc: Global, form: &AdmittedForm) -> Option<Vec<u8>> {
-    let page = read_status_page(alloc, PAGE.as_bytes()).ok()?;
-    match command_on(alloc, &page, Moment(1000), form) {
-        Ok(body) => write_body(alloc, &body).ok(),
+fn text_of(alloc: Global, command: &Result<Body, FormFault>) -> Option<Vec<u8>> {
+    match command {
+        Ok(body) => write_body(alloc, body).ok(),
         Err(fault) => Vec::from_slice(alloc, fault.words().as_bytes()).ok(),
     }
 }
 
+// The line of the command of a form, or its fault's text.
+fn line_of(alloc: Global, form: &AdmittedForm) -> Option<Vec<u8>> {
+    let page = read_status_page(alloc, PAGE.as_bytes()).ok()?;
+    text_of(alloc, &command_on(alloc, &page, Moment(1000), form))
+}
+
+// The same, of a request whose form has these fields.
+fn line(alloc: Global, fields: &str) -> Option<Vec<u8>> {
+    match admitted(alloc, fields)? {
+        Ok(form) => line_of(alloc, &form),
+        Err(fault) => Some(fault.to_string(alloc).ok()?.into_bytes()),
+    }
+}
+
+/// Whether it is this text.
+pub fn is_text(text: Option<Vec<u8>>, expected: &str) -> bool {
+    match text {
+        Some(text) => text.as_slice() == expected.as_bytes(),
+        None => false,
+    }
+}
+
 #[rattlefmt::skip]
-const CASES: [(&str, &str); 23] = [
+static CASES: [(&str, &str); 23] = [
     // ---- commands
     ("action=acknowledge&host=web1&service=a+b%5C%5Cc&text=on+it%3B+100%25&sticky=on",
         "ACKNOWLEDGE_SVC_PROBLEM;web1;a b\\c;2;1;0;ann;on it; 100%"),
@@ -83,42 +106,41 @@ const CASES: [(&str, &str); 23] = [
 
 #[test]
 fn a_form_asks_for_its_command(rt: HostRuntime) {
-    let alloc = rt.alloc();
-    for (form, expected) in CASES {
-        let line = line(alloc, form);
-        assert!(rt;
-            line.is_some_and(|line| line.as_slice() == expected.as_bytes()),
-            "{form}"
-        );
+    for (form, expected) in CASES.iter() {
+        assert!(rt; is_text(line(rt.alloc(), form), expected), "{form}");
     }
 }
 
-#[test]
-fn a_form_has_at_most_16384_bytes(rt: HostRuntime) -> Result<(), Fail> {
-    let alloc = rt.alloc();
-    let body = vec![in alloc; b'a'; 16385]?;
-    assert_eq!(rt; read_fields(alloc, &body.as_slice()[..16384]).err(), None);
-    assert_eq!(rt;
-        read_fields(alloc, body.as_slice()).err(),
-        Some(FieldsFault::TooLong)
-    );
-    Ok(())
+// Why a form of so many bytes is none.
+fn fault_of(alloc: Global, length: usize) -> Option<Option<FieldsFault>> {
+    let body = vec![in alloc; b'a'; length].ok()?;
+    Some(read_fields(alloc, body.as_slice()).err())
 }
 
-// The line of the command for the first mark of a form.
-fn line_of_mark(alloc: Global, fields: &str) -> Option<Vec<u8>> {
-    let form = form_of(alloc, fields)?.ok()?;
+#[test]
+fn a_form_has_at_most_16384_bytes(rt: HostRuntime) {
+    assert_eq!(rt; fault_of(rt.alloc(), 16384), Some(None));
+    assert_eq!(rt;
+        fault_of(rt.alloc(), 16385),
+        Some(Some(FieldsFault::TooLong))
+    );
+}
+
+// The form for the first mark of a form.
+fn first_marked(alloc: Global, form: &AdmittedForm) -> Option<AdmittedForm> {
     let marks = read_marks(alloc, form.fields()).ok()?;
-    let one = form_for(alloc, &form, *marks.first()?).ok()?;
-    line_of(alloc, &one)
+    form_for(alloc, form, marks.first()?).ok()
+}
+
+// The line of its command.
+fn line_of_mark(alloc: Global, fields: &str) -> Option<Vec<u8>> {
+    let form = form_of(alloc, fields)?;
+    line_of(alloc, &first_marked(alloc, &form)?)
 }
 
 #[test]
 fn a_mark_names_its_object(rt: HostRuntime) {
     let form = "action=comment&text=hi&host=web2&mark.x=web1%3Ba+b%5C%5Cc";
     let line = line_of_mark(rt.alloc(), form);
-    assert!(rt;
-        line.is_some_and(|line| line.as_slice()
-            == b"ADD_SVC_COMMENT;web1;a b\\c;0;ann;hi".as_slice())
-    );
+    assert!(rt; is_text(line, "ADD_SVC_COMMENT;web1;a b\\c;0;ann;hi"));
 }

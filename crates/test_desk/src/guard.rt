@@ -1,7 +1,7 @@
 use bytes::Bytes;
 use desk_guard::{Guard, Refusal, SentForms};
 use http::{HeaderName, HeaderValue, Method, Request};
-use std::alloc::{AllocError, Global};
+use std::alloc::Global;
 use std::test::*;
 
 pub const NOW: u32 = 492000 * 3600 + 59;
@@ -54,11 +54,20 @@ pub fn guard<'a>(alloc: Global) -> Option<Guard<'a>> {
 
 fn add(request: &mut Request<Bytes>, alloc: Global, name: &str, value: &str) -> Option<()> {
     if !value.is_empty() {
-        let name = HeaderName::from_bytes(alloc, name.as_bytes()).ok()?;
         let value = HeaderValue::from_bytes(alloc, value.as_bytes()).ok()?;
+        let name = HeaderName::from_bytes(alloc, name.as_bytes()).ok()?;
         request.headers_mut().append(name, value).ok()?;
     }
     Some(())
+}
+
+fn add_fields(request: &mut Request<Bytes>, alloc: Global, asked: &Asked) -> Option<()> {
+    add(request, alloc, "host", asked.host)?;
+    add(request, alloc, "origin", asked.origin)?;
+    add(request, alloc, "sec-fetch-site", asked.site)?;
+    add(request, alloc, "content-type", asked.kind)?;
+    add(request, alloc, "x-remote-user", asked.users[0])?;
+    add(request, alloc, "x-remote-user", asked.users[1])
 }
 
 /// The request, with this body.
@@ -66,116 +75,58 @@ pub fn request(alloc: Global, asked: &Asked, body: &[u8]) -> Option<Request<Byte
     let body = Bytes::from_vec(Vec::from_slice(alloc, body).ok()?).ok()?;
     let mut request = Request::new(alloc, body);
     *request.method_mut() = Method::POST;
-    add(&mut request, alloc, "host", asked.host)?;
-    add(&mut request, alloc, "origin", asked.origin)?;
-    add(&mut request, alloc, "sec-fetch-site", asked.site)?;
-    add(&mut request, alloc, "content-type", asked.kind)?;
-    add(&mut request, alloc, "x-remote-user", asked.users[0])?;
-    add(&mut request, alloc, "x-remote-user", asked.users[1])?;
+    if add_fields(&mut request, alloc, asked).is_none() {
+        drop(request);
+        return None;
+    }
     Some(request)
 }
 
-fn refusal(alloc: Global, sent: &mut SentForms, asked: &Asked, now: u32) -> Option<Refusal> {
+#[rattlefmt::skip]
+static CASES: [Asked; 17] = [
+    GOOD,
+    Asked { host: "Desk.example:8443", origin: "https://Desk.example:8443", ..GOOD },
+    Asked { host: "[::1]:8443", origin: "https://[::1]:8443", ..GOOD },
+    Asked { host: "evil.example", refusal: Some(Refusal::WrongHost), ..GOOD },
+    Asked { host: "[::1]evil", refusal: Some(Refusal::WrongHost), ..GOOD },
+    Asked { host: "desk.example:8443", refusal: Some(Refusal::OtherSite), ..GOOD },
+    Asked { origin: "https://evil.example", refusal: Some(Refusal::OtherSite), ..GOOD },
+    Asked { origin: "null", refusal: Some(Refusal::OtherSite), ..GOOD },
+    Asked { origin: "", refusal: Some(Refusal::OtherSite), ..GOOD },
+    Asked { origin: "http://desk.example", site: "", ..GOOD },
+    Asked { site: "cross-site", refusal: Some(Refusal::OtherSite), ..GOOD },
+    Asked { kind: "text/plain", refusal: Some(Refusal::WrongKind), ..GOOD },
+    Asked { users: ["", ""], refusal: Some(Refusal::NoUser), ..GOOD },
+    Asked { users: ["ann", "carol"], refusal: Some(Refusal::NoUser), ..GOOD },
+    Asked { users: ["bob", ""], token: BOB, refusal: Some(Refusal::UnknownUser), ..GOOD },
+    Asked { token: BOB, refusal: Some(Refusal::OldToken), ..GOOD },
+    Asked { token: ANN_BEFORE, ..GOOD },
+];
+
+// The refusal of a request; within, None where it is admitted.
+fn refusal(
+    alloc: Global,
+    sent: &mut SentForms,
+    asked: &Asked,
+    now: u32,
+) -> Option<Option<Refusal>> {
     let guard = guard(alloc)?;
     let request = request(alloc, asked, b"action=comment")?;
-    guard
-        .admit(alloc, sent, &request, asked.token.as_bytes(), now)
-        .err()
+    let token = asked.token.as_bytes();
+    let refusal = guard.admit(alloc, sent, &request, token, now).err();
+    drop(request);
+    Some(refusal)
+}
+
+fn is_answered(alloc: Global, asked: &Asked) -> bool {
+    let mut sent = SentForms::new(alloc);
+    refusal(alloc, &mut sent, asked, NOW) == Some(asked.refusal)
 }
 
 #[test]
 fn requests_are_refused_by_their_first_fault(rt: HostRuntime) {
-    let alloc = rt.alloc();
-    let cases = [
-        GOOD,
-        Asked {
-            host: "Desk.example:8443",
-            origin: "https://Desk.example:8443",
-            ..GOOD
-        },
-        Asked {
-            host: "[::1]:8443",
-            origin: "https://[::1]:8443",
-            ..GOOD
-        },
-        Asked {
-            host: "evil.example",
-            refusal: Some(Refusal::WrongHost),
-            ..GOOD
-        },
-        Asked {
-            host: "[::1]evil",
-            refusal: Some(Refusal::WrongHost),
-            ..GOOD
-        },
-        Asked {
-            host: "desk.example:8443",
-            refusal: Some(Refusal::OtherSite),
-            ..GOOD
-        },
-        Asked {
-            origin: "https://evil.example",
-            refusal: Some(Refusal::OtherSite),
-            ..GOOD
-        },
-        Asked {
-            origin: "null",
-            refusal: Some(Refusal::OtherSite),
-            ..GOOD
-        },
-        Asked {
-            origin: "",
-            refusal: Some(Refusal::OtherSite),
-            ..GOOD
-        },
-        Asked {
-            origin: "http://desk.example",
-            site: "",
-            ..GOOD
-        },
-        Asked {
-            site: "cross-site",
-            refusal: Some(Refusal::OtherSite),
-            ..GOOD
-        },
-        Asked {
-            kind: "text/plain",
-            refusal: Some(Refusal::WrongKind),
-            ..GOOD
-        },
-        Asked {
-            users: ["", ""],
-            refusal: Some(Refusal::NoUser),
-            ..GOOD
-        },
-        Asked {
-            users: ["ann", "carol"],
-            refusal: Some(Refusal::NoUser),
-            ..GOOD
-        },
-        Asked {
-            users: ["bob", ""],
-            token: BOB,
-            refusal: Some(Refusal::UnknownUser),
-            ..GOOD
-        },
-        Asked {
-            token: BOB,
-            refusal: Some(Refusal::OldToken),
-            ..GOOD
-        },
-        Asked {
-            token: ANN_BEFORE,
-            ..GOOD
-        },
-    ];
-    for (index, asked) in cases.iter().enumerate() {
-        let mut sent = SentForms::new(alloc);
-        assert_eq!(rt;
-            refusal(alloc, &mut sent, asked, NOW),
-            asked.refusal,
-            "case {index}"
-        );
+    for (index, asked) in CASES.iter().enumerate() {
+        assert!(rt; is_answered(rt.alloc(), asked), "case {index}");
     }
 }
 
@@ -183,12 +134,13 @@ fn requests_are_refused_by_their_first_fault(rt: HostRuntime) {
 fn a_form_is_sent_once_in_ten_minutes(rt: HostRuntime) {
     let alloc = rt.alloc();
     let mut sent = SentForms::new(alloc);
-    assert_eq!(rt; refusal(alloc, &mut sent, &GOOD, NOW), None);
-    assert_eq!(rt;
-        refusal(alloc, &mut sent, &GOOD, NOW + 599),
-        Some(Refusal::Repeated)
-    );
-    assert_eq!(rt; refusal(alloc, &mut sent, &GOOD, NOW + 600), None);
+    for (now, expected) in [
+        (NOW, None),
+        (NOW + 599, Some(Refusal::Repeated)),
+        (NOW + 600, None),
+    ] {
+        assert_eq!(rt; refusal(alloc, &mut sent, &GOOD, now), Some(expected));
+    }
 }
 
 #[test]

@@ -43,29 +43,34 @@ fn page(alloc: Global) -> Option<Vec<u8>> {
     Some(desk_page(alloc, page).ok()?.into_bytes())
 }
 
+static PARTS: [&str; 12] = [
+    "<meta http-equiv=\"refresh\" content=\"2\">",
+    "<p class=\"alarm\" role=\"alert\">&lt;west&gt;: not sent</p>",
+    "<p class=\"soft\" role=\"status\">east: queued 7</p>",
+    "<p class=\"state\">east: DOWN <span class=\"badge stale\">stale</span> \
+<span class=\"badge\">acknowledged, sticky</span> <span class=\"badge\">downtime 1</span>, \
+last result 5 min ago</p><pre>bad</pre>",
+    "name=\"token\" value=\"abc\"><input type=\"hidden\" name=\"page\" value=\"7\">",
+    "name=\"host\" value=\"&lt;db&gt;\"><input type=\"hidden\" name=\"service\" value=\"\">",
+    "<li>a&amp;b: it&#39;s<form",
+    "value=\"uncomment\"><input type=\"hidden\" name=\"gateway\" value=\"east\">",
+    "name=\"id\" value=\"3\"><button>Delete comment</button></form></li>",
+    "name=\"id\" value=\"5\"><button>Cancel downtime</button></form></li>",
+    "value=\"acknowledge\"><h2>Acknowledge</h2>",
+    "value=\"passive\"><h2>Passive checks</h2>",
+];
+
+fn has(html: &Option<Vec<u8>>, part: &str) -> bool {
+    match html {
+        Some(html) => from_utf8(html.as_slice()).is_ok_and(|text| text.contains(part)),
+        None => false,
+    }
+}
+
 #[test]
 fn a_page_has_a_form_for_each_action(rt: HostRuntime) {
     let html = page(rt.alloc());
-    for expected in [
-        "<meta http-equiv=\"refresh\" content=\"2\">",
-        "<p class=\"alarm\" role=\"alert\">&lt;west&gt;: not sent</p>",
-        "<p class=\"soft\" role=\"status\">east: queued 7</p>",
-        "<p class=\"state\">east: DOWN <span class=\"badge stale\">stale</span> \
-<span class=\"badge\">acknowledged, sticky</span> <span class=\"badge\">downtime 1</span>, \
-last result 5 min ago</p><pre>bad</pre>",
-        "name=\"token\" value=\"abc\"><input type=\"hidden\" name=\"page\" value=\"7\">",
-        "name=\"host\" value=\"&lt;db&gt;\"><input type=\"hidden\" name=\"service\" value=\"\">",
-        "<li>a&amp;b: it&#39;s<form",
-        "value=\"uncomment\"><input type=\"hidden\" name=\"gateway\" value=\"east\">",
-        "name=\"id\" value=\"3\"><button>Delete comment</button></form></li>",
-        "name=\"id\" value=\"5\"><button>Cancel downtime</button></form></li>",
-        "value=\"acknowledge\"><h2>Acknowledge</h2>",
-        "value=\"passive\"><h2>Passive checks</h2>",
-    ] {
-        let found = match &html {
-            Some(html) => from_utf8(html.as_slice()).is_ok_and(|text| text.contains(expected)),
-            None => false,
-        };
-        assert!(rt; found);
+    for part in PARTS.iter() {
+        assert!(rt; has(&html, part), "{part}");
     }
 }
