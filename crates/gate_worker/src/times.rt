@@ -31,10 +31,10 @@ const _: () = prove!(FIRST_BYTES_MILLIS + TURN_MILLIS < SEND_NSCA_MILLIS);
 
 const _: () = prove!((100 / 16 + 1) * (CROWDED_MILLIS + TURN_MILLIS) < SEND_NSCA_MILLIS);
 
-/// In what time an operator ends a line, from the end of the one before on.
+/// In what time an operator takes the answers so far and ends its next line.
 pub const LINE_MILLIS: u64 = 60_000;
 
-/// In what time an operator takes its answers.
+/// In what time an operator takes the answers to its last line.
 pub const ANSWER_MILLIS: u64 = 60_000;
 
 /// In what time the reader of a page takes it.
