@@ -1,5 +1,5 @@
 -- A gateway that applies such commands at one moment accepts each, but maybe an acknowledgement.
-use Rattle.std.proofs.Common.{◌≡◌, ℕ, ℤ, ◌+◌, ◌<◌, ◌≤◌, Bool, true, false, List, [], ◌∷◌, ◌++◌, length, reverse, max, refl, sym, ap, ◌∙◌, subst, arith, append_assoc}
+use Rattle.std.proofs.Common.{◌≡◌, ℕ, ℤ, ◌+◌, ◌<◌, ◌≤◌, Bool, true, false, cond, List, [], ◌∷◌, ◌++◌, length, reverse, max, refl, sym, ap, ◌∙◌, subst, arith, append_assoc}
 use Rattle.std.specs.Prelude.{not, ◌&&◌, ◌||◌, ◌==◌, nat_lt, nat_le, Option, Some, None, is_some, option_map, if◌then◌else◌}
 use Rattle.std.specs.Option.{option_to_list}
 use Rattle.std.proofs.lemmas.Bool.{or_parts, leb-false}
@@ -23,13 +23,15 @@ use Rattle.gate_model.specs.Status.{is_passive, is_transition, state_of}
 use Rattle.gate_model.specs.State.{state_of_code, is_problem}
 use Rattle.gate_model.specs.Table.{IsFaultless, place_of, object_kind, object_at}
 use Rattle.gate_model.specs.Downtime.{scheduled_in}
-use Rattle.gate_model.specs.Meaning.{Judged, object_event, object_events, transition_by, plan_of, is_sticky, downtime_events_of_body, downtime_events, is_live_after, outcome_at_place, outcome_for, outcome_of_window, outcome_at, judgement_of, judged}
+use Rattle.gate_model.specs.Meaning.{Judged, object_event, object_events, transition_by, plan_of, is_sticky, downtime_events_of_body, downtime_events, is_live_after, outcome_at_place, outcome_for, outcome_of_window, outcome_at, outcome_after, outcomes_of, judgement_of, judged}
 use Rattle.gate_model.proofs.Hosts.{has_object-host}
+use Rattle.gate_model.proofs.Lists.{position_from-push}
+use Rattle.gate_model.proofs.MeaningSteps.{outcomes_of-append}
 use Rattle.gate_model.proofs.ObjectSteps.{state_of-result}
 use Rattle.restore_plan.specs.declared.entries.Terms.{Terms}
 use Rattle.restore_plan.specs.Entries.{is_over, is_momentary}
-use Rattle.restore_plan.specs.Rehearsal.{records_from}
-use Rattle.restore_plan.specs.Acceptance.{is_acknowledgement, accepts_after, AcceptsAll, AcceptsOthers}
+use Rattle.restore_plan.specs.Rehearsal.{records_from, first_among, first_refusal}
+use Rattle.restore_plan.specs.Acceptance.{is_acknowledgement, accepts_after, AcceptsOthers}
 use Rattle.restore_plan.proofs.LiveSteps.{AreTimely, all_live}
 
 -- ---- such commands
@@ -478,7 +480,31 @@ pub accepts_others : (fresh : List ObjectLine) (now : Moment) (commands : List B
 accepts_others fresh now commands good apt before body after whole is =
     accepts fresh now false commands before body after good apt whole (λ same. sym is ∙ same)
 
+records_more : (now : Moment) (number : ℕ) (before : List Body) (body : Body)
+    → (last : ℕ) × (records_from now number (before ++ body ∷ []) ≡ records_from now number before ++ applied now last body ∷ [])
+records_more now number [] body = (number, refl)
+records_more now number (first ∷ before) body =
+    let rest = records_more now (number + 1) before body in
+    (rest.0, ap (λ records. applied now number first ∷ records) rest.1)
+
+-- where each command is accepted after those before it, none is refused
+none_refused : (fresh : List ObjectLine) (now : Moment) (commands before after : List Body) → commands ≡ before ++ after
+    → ((front : List Body) (body : Body) (back : List Body) → commands ≡ front ++ body ∷ back → accepts_after fresh now front body ≡ true)
+    → first_refusal fresh now before ≡ None → first_refusal fresh now commands ≡ None
+none_refused fresh now commands before [] whole each none = ap (first_refusal fresh now) (whole ∙ append-nil before) ∙ none
+none_refused fresh now commands before (body ∷ after) whole each none =
+    let records = records_from now 1 before in
+    let more = records_more now 1 before body in
+    let outcome = outcome_after fresh records now body in
+    let next : first_refusal fresh now (before ++ body ∷ []) ≡ None =
+    ap (λ list. first_among (outcomes_of fresh list)) more.1
+    ∙ ap first_among (outcomes_of-append fresh records (applied now more.0 body))
+    ∙ position_from-push (λ (one : Outcome). not (is_accepted one)) 0 (outcomes_of fresh records) outcome none
+    ∙ ap (λ (refused : Bool). cond refused (Some (0 + length (outcomes_of fresh records))) None) (ap not (each before body after whole)) in
+    none_refused fresh now commands (before ++ body ∷ []) after (whole ∙ sym (append_assoc before (body ∷ []) after)) each next
+
 pub accepts_all : (fresh : List ObjectLine) (now : Moment) (commands : List Body) → IsFaultless fresh
-    → IsApt fresh now true all_pending false 0 commands → AcceptsAll fresh now commands
-accepts_all fresh now commands good apt before body after whole =
-    accepts fresh now true commands before body after good apt whole (λ same. refl)
+    → IsApt fresh now true all_pending false 0 commands → first_refusal fresh now commands ≡ None
+accepts_all fresh now commands good apt =
+    none_refused fresh now commands [] commands refl
+    (λ before body after whole. accepts fresh now true commands before body after good apt whole (λ same. refl)) refl

@@ -33,7 +33,7 @@ use Rattle.restore_plan.specs.Fates.{sent_to, last_of, acknowledgement_of, has_c
 use Rattle.restore_plan.specs.Entries.{with_id, live_terms, renewals_from, renewals_of, fate_by, fate_in, entry_fate}
 use Rattle.restore_plan.specs.Plan.{result_in, other_in, results_from, results_of, others_of, sent_of, commands_of}
 use Rattle.restore_plan.specs.Scheduling.{sent_terms, AreSchedulable}
-use Rattle.restore_plan.specs.Acceptance.{AcceptsAll}
+use Rattle.restore_plan.specs.Rehearsal.{first_refusal}
 use Rattle.restore_plan.proofs.KeptSteps.{problem_at, IsRecorded, recorded}
 use Rattle.restore_plan.proofs.AcceptSteps.{is_at, state_by, HasProblem, all_pending, accepts_all}
 use Rattle.restore_plan.proofs.PlainSteps.{IsPlainResult, IsPlain, IsAcked, SendsOnly, MaySendOnly, shown_at, shown_by, choice, all_results, all_others, log_plain, plan_apt}
@@ -41,7 +41,7 @@ use Rattle.restore_plan.proofs.PlainSteps.{IsPlainResult, IsPlain, IsAcked, Send
 -- ---- names
 
 -- the object at one place has one pair of names
-one_name : (table : List ObjectLine) (host other : List ℕ) (service last : Option (List ℕ)) (place : ℕ) → place_of table host service ≡ Some place
+pub one_name : (table : List ObjectLine) (host other : List ℕ) (service last : Option (List ℕ)) (place : ℕ) → place_of table host service ≡ Some place
     → place_of table other last ≡ Some place → (other ≡ host) × (last ≡ service)
 one_name table host other service last place is that =
     let one = position_from-found (is_line_of host service) table place is in
@@ -55,7 +55,7 @@ one_name table host other service last place is that =
 
 -- ---- the state that the results leave
 
-shown-append : (fresh : List ObjectLine) (place : ℕ) (state : State) (one more : List Body)
+pub shown-append : (fresh : List ObjectLine) (place : ℕ) (state : State) (one more : List Body)
     → shown_at fresh place state (one ++ more) ≡ shown_at fresh place (shown_at fresh place state one) more
 shown-append fresh place state [] more = refl
 shown-append fresh place state (body ∷ one) more = shown-append fresh place (state_by fresh place body state) one more
@@ -66,7 +66,7 @@ record IsLast (fresh : List ObjectLine) (kept : ApplierView) (place : ℕ) (host
   last_is : last_of kept host service ≡ Some last
   recent : is_outdated (threshold_of fresh (object_of fresh host service)) last.moment kept.moment ≡ false
 
-abbrev sent_bodies : Option Fate → List Body
+abbrev pub sent_bodies : Option Fate → List Body
 sent_bodies fate = filter_map sent_of (option_to_list fate)
 
 -- a record of another kind sends no result
@@ -95,7 +95,7 @@ elsewhere fresh place state object host service code output index (Some last) no
     either false false None = refl
     either false false (Some found) = ap (λ (mine : Bool). if mine then state_of_code (object_kind service) code else state) is
 
-at_place : (place : ℕ) (found : Option ℕ) → is_at place found ≡ true → found ≡ Some place
+pub at_place : (place : ℕ) (found : Option ℕ) → is_at place found ≡ true → found ≡ Some place
 at_place place None is = absurd cc
 at_place place (Some one) is = let same : one ≡ place = grind arith in ap (λ it. Some it) same
 
@@ -322,7 +322,7 @@ acked_body fresh kept index host service sticky notify persistent author text is
     found None at = tt
     found (Some place) at = (ap is_some at, λ one there. problem_again fresh kept host service one force there)
 
-acked_comment : (fresh : List ObjectLine) (shown : ℕ → State) (object : Option ObjectId) (host : List ℕ) (service : Option (List ℕ)) (persistent : ℕ) (author text : List ℕ)
+pub acked_comment : (fresh : List ObjectLine) (shown : ℕ → State) (object : Option ObjectId) (host : List ℕ) (service : Option (List ℕ)) (persistent : ℕ) (author text : List ℕ)
     → SendsOnly (IsAcked fresh shown) (sent_to object (bodies.AddComment host service persistent author text))
 acked_comment fresh shown None host service persistent author text = tt
 acked_comment fresh shown (Some object) host service persistent author text = tt
@@ -403,7 +403,7 @@ acked_entries fresh shown kept (one ∷ left) = (
 
 pub log_accepted : (fresh : List ObjectLine) (kept : ApplierView) (until : Moment) (plan : Plan) → IsFaultless fresh
     → plan.results.items ≡ results_of fresh kept → plan.others.items ≡ others_of fresh kept until
-    → AreSchedulable until 0 (filter_map sent_terms plan.others.items) → AcceptsAll fresh until (commands_of plan)
+    → AreSchedulable until 0 (filter_map sent_terms plan.others.items) → first_refusal fresh until (commands_of plan) ≡ None
 log_accepted fresh kept until plan good results others schedulable =
     let acked : AllByRecursion (SendsOnly (IsAcked fresh (shown_of fresh kept))) (others_of fresh kept until) =
     all_others (IsAcked fresh (shown_of fresh kept)) fresh kept 0 kept.records (renewals_of fresh kept until) (acked_other fresh kept)

@@ -10,3 +10,4 @@ pub mod PlainSteps
 pub mod PlainRows
 pub mod KeptSteps
 pub mod AckSteps
+pub mod MarkSteps

@@ -53,7 +53,7 @@ row_result fresh now row (Some code) (Some last) =
     either false =
         sent_good fresh (plain_bytes row.host.now) (plain_service row.service.now) (IsPlainResult fresh) body (λ known. known)
 
-all_rows : (fresh : List ObjectLine) (now : Moment) (rows : List ShownObject)
+pub all_rows : (fresh : List ObjectLine) (now : Moment) (rows : List ShownObject)
     → AllByRecursion (SendsOnly (IsPlainResult fresh)) (object_fates fresh now rows)
 all_rows fresh now [] = tt
 all_rows fresh now (row ∷ rows) =
@@ -114,25 +114,31 @@ all_renewals fresh now until sent (row ∷ rows) =
     (renewed now until sent (is_some (object_of_fields fresh row.host.now row.service.now)) (plan_of_row row) row.begin one is).is_known in
     (plain_row fresh row terms known, all_renewals fresh now until (with_id sent row.id terms) rows)
 
-all_entries : (fresh : List ObjectLine) (left : List RowRenewal)
-    → AllByRecursion (λ (one : RowRenewal). SendsOnly (IsPlain fresh) (row_fate one)) left
-    → AllByRecursion (SendsOnly (IsPlain fresh)) (map row_fate left)
-all_entries fresh [] all = tt
-all_entries fresh (one ∷ left) all = (all.0, all_entries fresh left all.1)
+all_entries : (good : Body → Type 0) (left : List RowRenewal) → AllByRecursion (λ (one : RowRenewal). SendsOnly good (row_fate one)) left
+    → AllByRecursion (SendsOnly good) (map row_fate left)
+all_entries good [] all = tt
+all_entries good (one ∷ left) all = (all.0, all_entries good left all.1)
 
-all_others : (fresh : List ObjectLine) (now : Moment) (objects : List ShownObject) (comments : List ShownComment) (left : List RowRenewal)
-    → AllByRecursion (λ (one : RowRenewal). SendsOnly (IsPlain fresh) (row_fate one)) left
-    → AllByRecursion (SendsOnly (IsPlain fresh)) (others_among fresh now objects comments left)
-all_others fresh now objects [] left all = all_entries fresh left all
-all_others fresh now objects (row ∷ rows) left all =
-    let good = SendsOnly (IsPlain fresh) in
+pub all_others : (good : Body → Type 0) (fresh : List ObjectLine) (now : Moment) (objects : List ShownObject) (comments : List ShownComment) (left : List RowRenewal)
+    → ((row : ShownComment) (later : List ShownComment) → AllByRecursion (SendsOnly good) (own_fates fresh now objects row later))
+    → AllByRecursion (λ (one : RowRenewal). SendsOnly good (row_fate one)) left
+    → AllByRecursion (SendsOnly good) (others_among fresh now objects comments left)
+all_others good fresh now objects [] left own all = all_entries good left all
+all_others good fresh now objects (row ∷ rows) left own all =
     let taken = taken_by row left in
     let here = map row_fate (take taken left) in
-    let own = own_fates fresh now objects row rows in
+    let mine = own_fates fresh now objects row rows in
     let rest = others_among fresh now objects rows (drop taken left) in
-    each_append good (here ++ own) rest
-    (each_append good here own (all_entries fresh (take taken left) (all_take (λ (one : RowRenewal). SendsOnly (IsPlain fresh) (row_fate one)) taken left all)) (plain_own fresh now objects row rows))
-    (all_others fresh now objects rows (drop taken left) (all_drop (λ (one : RowRenewal). SendsOnly (IsPlain fresh) (row_fate one)) taken left all))
+    each_append (SendsOnly good) (here ++ mine) rest
+    (each_append (SendsOnly good) here mine (all_entries good (take taken left) (all_take (λ (one : RowRenewal). SendsOnly good (row_fate one)) taken left all)) (own row rows))
+    (all_others good fresh now objects rows (drop taken left) own (all_drop (λ (one : RowRenewal). SendsOnly good (row_fate one)) taken left all))
+
+-- what is sent of a page, but for results and acknowledgements
+pub page_plain : (fresh : List ObjectLine) (now until : Moment) (page : StatusPage)
+    → AllByRecursion (SendsOnly (IsPlain fresh)) (page_others fresh now until page)
+page_plain fresh now until page =
+    all_others (IsPlain fresh) fresh now page.objects.items page.comments.items (row_renewals_of fresh now until page.downtimes.items)
+    (plain_own fresh now page.objects.items) (all_renewals fresh now until [] page.downtimes.items)
 
 pub page_accepted : (fresh : List ObjectLine) (now until : Moment) (page : StatusPage) (plan : Plan) → IsFaultless fresh
     → plan.results.items ≡ object_fates fresh now page.objects.items → plan.others.items ≡ page_others fresh now until page
@@ -140,8 +146,5 @@ pub page_accepted : (fresh : List ObjectLine) (now until : Moment) (page : Statu
 page_accepted fresh now until page plan good results others schedulable =
     plan_accepted fresh until plan good
     (subst (AllByRecursion (SendsOnly (IsPlainResult fresh))) (sym results) (all_rows fresh now page.objects.items))
-    (subst (AllByRecursion (SendsOnly (IsPlain fresh))) (sym others) (
-    all_others fresh now page.objects.items page.comments.items (row_renewals_of fresh now until page.downtimes.items)
-    (all_renewals fresh now until [] page.downtimes.items)
-    ))
+    (subst (AllByRecursion (SendsOnly (IsPlain fresh))) (sym others) (page_plain fresh now until page))
     schedulable

@@ -1,5 +1,5 @@
 -- A gateway applies records of one moment as they are.
-use Rattle.std.proofs.Common.{◌≡◌, ℕ, ◌+◌, List, [], ◌∷◌, refl, ap, ◌∙◌, arith}
+use Rattle.std.proofs.Common.{◌≡◌, ℕ, suc, ◌+◌, List, [], ◌∷◌, length, refl, ap, ◌∙◌, arith}
 use Rattle.std.specs.Prelude.{max}
 use Rattle.gate_model.specs.declared.record.Moment.{Moment}
 use Rattle.gate_model.specs.declared.record.Record.{Record}
@@ -40,3 +40,12 @@ pub applied_moment : (now : Moment) (bodies : List Body) (records : List Record)
 applied_moment now bodies records moment from is =
     is ∙ ap (λ list. later (moment_after now list) now) from ∙ ap (λ last. later last now) (moment_same now 1 bodies)
     ∙ later_same now
+
+-- each command has a record
+records_length : (now : Moment) (number : ℕ) (bodies : List Body) → length (records_from now number bodies) ≡ length bodies
+records_length now number [] = refl
+records_length now number (body ∷ bodies) = ap suc (records_length now (number + 1) bodies)
+
+pub same_length : (now : Moment) (bodies : List Body) (records : List Record) → records ≡ records_from now 1 bodies
+    → length records ≡ length bodies
+same_length now bodies records is = ap length is ∙ records_length now 1 bodies

@@ -1,6 +1,6 @@
--- What a gateway makes of commands of one client that it applies all at one moment: `records_from`, `first_refusal`, and
--- which ids it gives to downtime entries: `AreNumbered`.
-use Rattle.std.specs.Prelude.{◌≡◌, ℕ, ◌+◌, not, List, [], ◌∷◌, length, take, Option}
+-- What a gateway makes of commands of one client that it applies all at one moment: `records_from`, `first_refusal`,
+-- `IsUnrehearsed`, and which ids it gives to downtime entries: `AreNumbered`.
+use Rattle.std.specs.Prelude.{◌≡◌, ◌<◌, ℕ, ◌+◌, not, List, [], ◌∷◌, length, take, Option, Some}
 use Rattle.std.specs.List.{position_from, sum_by}
 use Rattle.gate_model.specs.declared.record.Moment.{Moment}
 use Rattle.gate_model.specs.declared.record.Record.{Record}
@@ -11,6 +11,8 @@ use Rattle.gate_model.specs.Record.{is_accepted}
 use Rattle.gate_model.specs.declared.submission.Body.TheVariants.{Schedule, ScheduleServices}
 use Rattle.gate_model.specs.Table.{services_of}
 use Rattle.gate_model.specs.Meaning.{outcomes_of, history_of, next_entry}
+use Rattle.restore_plan.specs.declared.rehearsal.RehearsalFault.{RehearsalFault}
+use Rattle.restore_plan.specs.declared.rehearsal.RehearsalFault.TheVariants.{TooMany, Refused, OutOfMemory}
 
 -- the records of these commands, of which the first has this number
 abbrev pub records_from : Moment → ℕ → List Body → List Record
@@ -26,6 +28,13 @@ first_among outcomes = position_from (λ (outcome : Outcome). not (is_accepted o
 -- the index of the first of these commands that a gateway over these objects refuses, if it refuses one
 abbrev pub first_refusal : List ObjectLine → Moment → List Body → Option ℕ
 first_refusal fresh now commands = first_among (outcomes_of fresh (records_from now 1 commands))
+
+-- why these commands aren't rehearsed with success: no log holds so many, or one is the first that is refused; memory may
+-- run out at any
+abbrev pub IsUnrehearsed : List ObjectLine → Moment → List Body → RehearsalFault → Type 0
+IsUnrehearsed fresh now commands TooMany = 1000000 < length commands
+IsUnrehearsed fresh now commands (Refused index) = first_refusal fresh now commands ≡ Some index
+IsUnrehearsed fresh now commands OutOfMemory = Unit {0}
 
 -- how many downtime entries a command schedules, where it is accepted
 abbrev pub entry_count : List ObjectLine → Body → ℕ

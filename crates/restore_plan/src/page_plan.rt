@@ -1,10 +1,13 @@
 //! The fates of the rows of a kept status page, where there is no log.
 
-ghost use Rattle.std.specs.Prelude.{◌≡◌, ◌++◌, ◌<◌, ◌≤◌, length, take, drop, map, filter_map, IfOk, IfSome, OnOk};
+ghost use Rattle.std.specs.Prelude.{◌≡◌, ◌++◌, ◌<◌, ◌≤◌, length, take, drop, map, filter_map, None, IfOk, IfSome, OnOk};
 ghost use Rattle.status_reading.specs.Plain.{plain_bytes};
+ghost use Rattle.status_reading.specs.RowFaults.{IsSound};
+ghost use Rattle.status_reading.specs.Rows.{page_view};
 ghost use Rattle.gate_model.specs.Table.{IsFaultless};
-ghost use Rattle.restore_plan.specs.Acceptance.{AcceptsOthers};
+ghost use Rattle.restore_plan.specs.Acceptance.{AcceptsOthers, AcknowledgesProblems};
 ghost use Rattle.restore_plan.specs.Plan.{commands_of};
+ghost use Rattle.restore_plan.specs.Rehearsal.{first_refusal};
 ghost use Rattle.restore_plan.specs.Scheduling.{sent_terms, AreSchedulable};
 ghost use Rattle.restore_plan.specs.PagePlan.{plain_service, object_of_fields, code_of, object_fate, object_fates, has_no_result, mark_in, mark_of, is_of_acknowledgement, has_acknowledgement, mark_by, number, comment_body, fate_at, comment_row_fate, plan_of_row, row_terms, row_renewals_of, line_of_row, row_fate, is_entry_of, entry_index, is_of_downtime, taken_by, own_fates, others_among, page_others};
 
@@ -522,9 +525,14 @@ pub fn plan_of_page(
     ensures schedulable { IfOk result (λ plan.
         AreSchedulable until 0 (filter_map sent_terms plan.others.items)) }
 
-    // At that moment, and one after another, none of it is refused but maybe an acknowledgement.
+    // At that moment, and one after another, none of it is refused but maybe an acknowledgement; nor
+    // is one where the page is such as a gateway's: no row has a fault, and only problems are
+    // acknowledged.
     ensures accepted { IfOk result (λ plan. IsFaultless fresh.now
         → AcceptsOthers fresh.now until (commands_of plan)) }
+    ensures acknowledged { IfOk result (λ plan. IsFaultless fresh.now
+        → IsSound (page_view page.now) → AcknowledgesProblems page.now
+        → first_refusal fresh.now until (commands_of plan) ≡ None) }
 {
     let results = object_fates(alloc, fresh, now, page.objects.as_slice())?;
     let others = others_on(alloc, fresh, now, until, page)?;

@@ -1,9 +1,9 @@
 //! The fates of all records, and what is sent.
 
-ghost use Rattle.std.specs.Prelude.{◌≡◌, ◌≤◌, ◌++◌, length, take, drop, filter_map, IfOk, OnOk};
+ghost use Rattle.std.specs.Prelude.{◌≡◌, ◌≤◌, ◌++◌, length, take, drop, filter_map, None, IfOk, OnOk};
 ghost use Rattle.std.specs.Option.{option_to_list};
 ghost use Rattle.gate_model.specs.Table.{IsFaultless};
-ghost use Rattle.restore_plan.specs.Acceptance.{AcceptsAll};
+ghost use Rattle.restore_plan.specs.Rehearsal.{first_refusal};
 ghost use Rattle.restore_plan.specs.Entries.{renewals_of, entry_fate};
 ghost use Rattle.restore_plan.specs.Scheduling.{sent_terms, AreSchedulable};
 ghost use Rattle.restore_plan.specs.Plan.{result_in, other_in, results_from, taken_at, others_from, results_of, others_of, sent_of, commands_of};
@@ -215,7 +215,7 @@ pub fn plan_of(
 
     // At that moment, and one after another, none of it is refused.
     ensures accepted { IfOk result (λ plan. IsFaultless fresh.now
-        → AcceptsAll fresh.now until (commands_of plan)) }
+        → first_refusal fresh.now until (commands_of plan) ≡ None) }
 {
     let renewals = renewals_of(alloc, fresh, kept, until)?;
     let records = kept.records();

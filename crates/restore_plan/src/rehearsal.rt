@@ -1,8 +1,8 @@
 //! What a fresh gateway makes of the commands of a plan, and what it shows then.
 
-ghost use Rattle.std.specs.Prelude.{◌≡◌, ℕ, Some, None, Err, IfOk};
+ghost use Rattle.std.specs.Prelude.{◌≡◌, None, IfErr, IfOk};
 ghost use Rattle.gate_pages.specs.StatusPage.{status_text_at};
-ghost use Rattle.restore_plan.specs.Rehearsal.{records_from, first_among, first_refusal, AreNumbered};
+ghost use Rattle.restore_plan.specs.Rehearsal.{records_from, first_among, first_refusal, IsUnrehearsed, AreNumbered};
 
 use gate_applier::Applier;
 use gate_foresight::{ForesightFault, apply_all};
@@ -68,7 +68,7 @@ fn applied(
     ensures moment { IfOk result (λ applier. applier.moment ≡ now) }
     ensures records { IfOk result (λ applier.
         applier.records ≡ records_from now 1 commands.items) }
-    ensures no_refusal { (index : ℕ) → result ≡ Err (RehearsalFault.Refused index) → ⊥ }
+    ensures fault { IfErr result (IsUnrehearsed fresh now commands.items) }
 {
     let records = records_of(alloc, now, commands)?;
     match apply_all(alloc, fresh, now, records, now) {
@@ -117,8 +117,7 @@ pub fn rehearse(
         text.items ≡ status_text_at fresh now (records_from now 1 commands.items) now) }
     ensures accepted { IfOk result (λ _. first_refusal fresh now commands.items ≡ None) }
     ensures numbered { IfOk result (λ _. AreNumbered fresh now commands.items) }
-    ensures refused { (index : ℕ) → result ≡ Err (RehearsalFault.Refused index)
-        → first_refusal fresh now commands.items ≡ Some index }
+    ensures fault { IfErr result (IsUnrehearsed fresh now commands.items) }
 {
     let gateway = applied(alloc, fresh, now, commands)?;
     if let Some(index) = first_among(gateway.outcomes()) {
