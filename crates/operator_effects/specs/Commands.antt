@@ -1,7 +1,8 @@
 -- The commands that a request is, on a status page (External Command List): `commands_of`. None stands for a command
--- that there is not, since its words are faulty.
-use Rattle.std.specs.Prelude.{ℕ, ◌==◌, Bool, true, false, List, [], ◌∷◌, length, map, find, Option, Some, None, option_map, Result, Ok, Err, if◌then◌else◌}
-use Rattle.std.specs.Result.{result_ok}
+-- that there is not, since its words are faulty; `first_fault` is the first fault of the words. Own rule: the faults.
+use Rattle.std.specs.Prelude.{ℕ, ◌==◌, Bool, true, false, List, [], ◌∷◌, length, map, find, Option, Some, None, option_map, is_none, Result, Ok, Err, if◌then◌else◌}
+use Rattle.std.specs.List.{list_any}
+use Rattle.std.specs.Result.{result_err, result_ok}
 use Rattle.gate_model.specs.declared.object.Kind.{Kind}
 use Rattle.gate_model.specs.declared.object.Kind.TheVariants.{Host, Service}
 use Rattle.gate_model.specs.declared.record.Moment.{Moment}
@@ -14,8 +15,12 @@ use Rattle.operator_commands.specs.declared.request.Remark.{Remark}
 use Rattle.operator_commands.specs.declared.request.Window.{Window}
 use Rattle.operator_commands.specs.declared.request.Request.{Request}
 use Rattle.operator_commands.specs.declared.request.Request.TheVariants as request
+use Rattle.operator_commands.specs.declared.bodies.RequestFault.{RequestFault}
+use Rattle.operator_commands.specs.declared.bodies.RequestFault.TheVariants.{BadId}
 use Rattle.operator_commands.specs.Bodies.{body_for, schedule}
 use Rattle.operator_commands.specs.Times.{times_of}
+use Rattle.operator_effects.specs.declared.commands.PlanFault.{PlanFault}
+use Rattle.operator_effects.specs.declared.commands.PlanFault.TheVariants as fault
 
 -- the kind of the object whose row has this field of the service; a host's is empty, and where there is no row it is one
 abbrev pub kind_of : Option (List ℕ) → Kind
@@ -61,3 +66,32 @@ commands_of page now user (request.Cancel ids) = map (downtime_deletion page) id
 commands_of page now user (request.Downtime object remark window services) =
     downtime user now object remark window services ∷ []
 commands_of page now user other = result_ok (body_for user other) ∷ []
+
+-- ---- the first fault of the words
+
+-- one of the words is no number
+abbrev pub ids_fault : List (List ℕ) → Option PlanFault
+ids_fault words = if list_any (λ word. is_none (number_of word)) words then Some (fault.Request BadId) else None
+
+-- there is neither one word, a host, nor two, a host and a service
+abbrev pub object_fault : List (List ℕ) → Option PlanFault
+object_fault (host ∷ []) = None
+object_fault (host ∷ service ∷ []) = None
+object_fault words = Some fault.NoObject
+
+-- what is wrong with downtime of a window that is asked for now
+abbrev pub downtime_fault : List ℕ → Moment → Object → Remark → Window → Bool → Option RequestFault
+downtime_fault user now object remark window services =
+    elim (times_of now window) [
+      | Ok times ↦ result_err (schedule user object remark times services)
+      | Err cause ↦ Some cause
+    ]
+
+-- the first fault of a request that is asked for now by this user
+abbrev pub first_fault : Moment → List ℕ → Request → Option PlanFault
+first_fault now user (request.Uncomment words true) = object_fault words
+first_fault now user (request.Uncomment words false) = ids_fault words
+first_fault now user (request.Cancel ids) = ids_fault ids
+first_fault now user (request.Downtime object remark window services) =
+    option_map fault.Request (downtime_fault user now object remark window services)
+first_fault now user other = option_map fault.Request (result_err (body_for user other))

@@ -1,7 +1,9 @@
 //! The commands that a request is, on a status page.
 
-ghost use Rattle.std.specs.Prelude.{◌≡◌, ◌∷◌, [], Some, IfOk, map, option_map};
-ghost use Rattle.operator_effects.specs.Commands.{kind_of, comment_service, downtime_service, comment_deletion, downtime_deletion, comments_deletion, downtime, commands_of};
+ghost use Rattle.std.specs.Prelude.{◌≡◌, ◌≢◌, ◌∷◌, [], None, Some, Err, IfErr, IfOk, map, option_map};
+ghost use Rattle.operator_effects.specs.Commands.{kind_of, comment_service, downtime_service, comment_deletion, downtime_deletion, comments_deletion, downtime, commands_of, ids_fault, object_fault, downtime_fault, first_fault};
+ghost use Rattle.gate_grammar.specs.Numbers.{number_of};
+ghost use Rattle.operator_commands.specs.declared.bodies.RequestFault.TheVariants.{BadId};
 ghost use Rattle.status_reading.specs.Rows.{comment_view, downtime_view, page_view};
 
 use gate_grammar::read_number;
@@ -87,7 +89,9 @@ fn downtime_service<'a>(rows: &[ShownDowntime<'a>], id: u32) -> Option<&'a [u8]>
 }
 
 fn comment_deletion(page: &StatusPage<'_>, word: &Text) -> Result<Body, PlanFault>
-    ensures { IfOk result (λ body. comment_deletion (page_view page.now) word.now ≡ Some body) }
+    ensures body { IfOk result (λ body. comment_deletion (page_view page.now) word.now ≡ Some body) }
+    ensures fault { IfErr result (λ fault.
+        (fault ≡ PlanFault.Request BadId) × (number_of word.now ≡ None)) }
 {
     match read_number(word.bytes()) {
         Some(id) => Ok(Body::DelComment {
@@ -99,7 +103,9 @@ fn comment_deletion(page: &StatusPage<'_>, word: &Text) -> Result<Body, PlanFaul
 }
 
 fn downtime_deletion(page: &StatusPage<'_>, word: &Text) -> Result<Body, PlanFault>
-    ensures { IfOk result (λ body. downtime_deletion (page_view page.now) word.now ≡ Some body) }
+    ensures body { IfOk result (λ body. downtime_deletion (page_view page.now) word.now ≡ Some body) }
+    ensures fault { IfErr result (λ fault.
+        (fault ≡ PlanFault.Request BadId) × (number_of word.now ≡ None)) }
 {
     match read_number(word.bytes()) {
         Some(id) => Ok(Body::DelDowntime {
@@ -115,8 +121,10 @@ fn comment_deletions(
     page: &StatusPage<'_>,
     words: &[Text],
 ) -> Result<Vec<Body>, PlanFault>
-    ensures { IfOk result (λ bodies.
+    ensures bodies { IfOk result (λ bodies.
         map Some bodies.items ≡ map (comment_deletion (page_view page.now)) words.now) }
+    ensures fault { IfErr result (λ fault.
+        fault ≢ PlanFault.OutOfMemory → ids_fault words.now ≡ Some fault) }
 {
     let mut bodies = Vec::new(alloc);
     for word in words {
@@ -130,8 +138,10 @@ fn downtime_deletions(
     page: &StatusPage<'_>,
     words: &[Text],
 ) -> Result<Vec<Body>, PlanFault>
-    ensures { IfOk result (λ bodies.
+    ensures bodies { IfOk result (λ bodies.
         map Some bodies.items ≡ map (downtime_deletion (page_view page.now)) words.now) }
+    ensures fault { IfErr result (λ fault.
+        fault ≢ PlanFault.OutOfMemory → ids_fault words.now ≡ Some fault) }
 {
     let mut bodies = Vec::new(alloc);
     for word in words {
@@ -141,7 +151,9 @@ fn downtime_deletions(
 }
 
 fn comments_deletion(alloc: Global, words: &[Text]) -> Result<Body, PlanFault>
-    ensures { IfOk result (λ body. comments_deletion words.now ≡ Some body) }
+    ensures body { IfOk result (λ body. comments_deletion words.now ≡ Some body) }
+    ensures fault { IfErr result (λ fault.
+        fault ≢ PlanFault.OutOfMemory → object_fault words.now ≡ Some fault) }
 {
     match words {
         [host] => Ok(Body::DelAllComments {
@@ -164,8 +176,10 @@ fn downtime(
     window: &Window,
     services: bool,
 ) -> Result<Body, PlanFault>
-    ensures { IfOk result (λ body.
+    ensures body { IfOk result (λ body.
         downtime user now object remark window.now services ≡ Some body) }
+    ensures fault { IfErr result (λ fault. option_map PlanFault.Request
+        (downtime_fault user now object remark window.now services) ≡ Some fault) }
 {
     match times_of(now, window) {
         Ok(times) => match schedule(user, object, remark, times, services) {
@@ -177,7 +191,8 @@ fn downtime(
 }
 
 fn one(alloc: Global, body: Body) -> Result<Vec<Body>, PlanFault>
-    ensures { IfOk result (λ bodies. bodies.items ≡ body ∷ []) }
+    ensures bodies { IfOk result (λ bodies. bodies.items ≡ body ∷ []) }
+    ensures fault { IfErr result (λ fault. fault ≡ PlanFault.OutOfMemory) }
 {
     let mut bodies = Vec::with_capacity(alloc, 1)?;
     bodies.push_reserved(body);
@@ -197,8 +212,10 @@ pub fn commands_for(
     user: Text,
     request: Request,
 ) -> Result<Vec<Body>, PlanFault>
-    ensures { IfOk result (λ bodies.
+    ensures bodies { IfOk result (λ bodies.
         map Some bodies.items ≡ commands_of (page_view page.now) now user request) }
+    ensures fault { IfErr result (λ fault.
+        fault ≢ PlanFault.OutOfMemory → first_fault now user request ≡ Some fault) }
 {
     match request {
         Request::Uncomment { words, all } => {

@@ -15,12 +15,12 @@ returns-in-Ok-clause-allowed c =
     let same = c.in_ok-user.ensures ∙ c.bytes.ensures ∙ c.user.ensures in
     subst (λ (name : List ℕ). AllByRecursion (IsAllowed page name) c.in-Ok.bodies.items) same
     (allowed page c.in_ok-user.user c.args.now c.in_ok-request.request c.in-Ok.bodies.items c.in_ok-request.ensures.offered
-    c.in-Ok.ensures)
+    c.in-Ok.ensures.bodies)
 
 pub returns-in-Ok-clause-one : goal.returns-in-Ok-clause-one
 returns-in-Ok-clause-one c =
     one_command (page_view c.args.page.now) c.in_ok-user.user c.args.now c.in_ok-request.request c.in-Ok.bodies.items
-    c.in_ok-request.ensures.offered c.in-Ok.ensures
+    c.in_ok-request.ensures.offered c.in-Ok.ensures.bodies
 
 pub returns-in-Err-Request-clause-refused : goal.returns-in-Err-Request-clause-refused
 returns-in-Err-Request-clause-refused c =
