@@ -4,6 +4,7 @@ pub mod Pages
 pub mod Kept
 pub mod Naming
 pub mod Prospect
+pub mod Faults
 pub mod Outbox
 pub mod Pending
 pub mod Back

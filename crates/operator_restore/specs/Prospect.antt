@@ -65,6 +65,10 @@ until_of now = record { 0 = min (now.0 + 30) 4294967295 }
 
 -- ---- from a log
 
+-- all that is sent of the records of this gateway
+abbrev pub log_commands : List ObjectLine → ApplierView → List Body
+log_commands fresh kept = sent_by (results_of fresh kept) ++ sent_by (others_of fresh kept (until_of kept.moment))
+
 -- the kept gateway has the objects of a kept page, or these
 abbrev pub AreObjectsOf : List ℕ → List ObjectLine → List ObjectLine → Type 0
 AreObjectsOf page configured table =
@@ -76,11 +80,10 @@ pub record IsLogProspect (fresh configured : List ObjectLine) (page log : List �
   pub kept : ApplierView
   pub objects : AreObjectsOf page configured kept.table
   pub is_kept : IsKept kept.table log now kept
-  pub looked_ahead : let others = others_of fresh kept (until_of kept.moment) in
-      IsProspect (results_of fresh kept) others (until_of kept.moment)
+  pub looked_ahead : let until = until_of kept.moment in
+      IsProspect (results_of fresh kept) (others_of fresh kept until) until
       (status_text_at kept.table kept.opening kept.records kept.moment)
-      (shown_after fresh (until_of kept.moment) (sent_by (results_of fresh kept) ++ sent_by others))
-      [] prospect
+      (shown_after fresh until (log_commands fresh kept)) [] prospect
 
 -- ---- from a page
 
@@ -98,6 +101,11 @@ page_warning age =
     codes "nscagatectl: restoring from a page that is " ++ decimal age
     ++ codes " seconds old, without a log: passive checks that were disabled are enabled\n"
 
+-- all that is sent of a page
+abbrev pub page_commands : List ObjectLine → Moment → StatusPage → List Body
+page_commands fresh now page =
+    sent_by (object_fates fresh now page.objects.items) ++ sent_by (page_others fresh now (until_of now) page)
+
 -- what is sent of a kept page, which is escaped and new
 pub record IsPageProspect (fresh : List ObjectLine) (text : List ℕ) (old : Bool) (now : Moment) (prospect : Prospect)
     : Type 0 where
@@ -105,10 +113,9 @@ pub record IsPageProspect (fresh : List ObjectLine) (text : List ℕ) (old : Boo
   pub is_page : IsTextOf text page
   pub escaped : is_escaped_text text ≡ true
   pub new : is_new (age_of page now) old ≡ true
-  pub looked_ahead : let results = object_fates fresh now page.objects.items in
-      let others = page_others fresh now (until_of now) page in
-      IsProspect results others (until_of now) text
-      (shown_after fresh (until_of now) (sent_by results ++ sent_by others)) (page_warning (age_of page now)) prospect
+  pub looked_ahead : let until = until_of now in
+      IsProspect (object_fates fresh now page.objects.items) (page_others fresh now until page) until text
+      (shown_after fresh until (page_commands fresh now page)) (page_warning (age_of page now)) prospect
 
 -- the line that names what is restored from, where there is a log and a page of this age, or none
 abbrev pub source_line : Option ℕ → List ℕ

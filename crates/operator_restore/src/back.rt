@@ -1,7 +1,8 @@
 //! What of a kept page a gateway shows again.
 
-ghost use Rattle.std.specs.Prelude.{◌≡◌, IfOk};
+ghost use Rattle.std.specs.Prelude.{◌≡◌, ◌⊎◌, IfErr, IfOk};
 ghost use Rattle.operator_restore.specs.Back.{IsCompared, IsBackOn};
+ghost use Rattle.operator_restore.specs.Faults.{IsNoPage};
 ghost use Rattle.operator_restore.specs.Naming.{row_count};
 
 use crate::prospect::ProspectFault;
@@ -22,6 +23,9 @@ pub fn compare(
     // Each row is back where none was foreseen to be missing, and none is.
     ensures back { IfOk result (λ found. row_count foreseen.now ≡ 0
         → row_count found.missing ≡ 0 → IsBackOn kept.now text.now) }
+
+    ensures fault { IfErr result (λ fault. (fault ≡ ProspectFault.OutOfMemory)
+        ⊎ ((fault ≡ ProspectFault.BadPage) × IsNoPage text.now)) }
 {
     let page = read_status_page(alloc, text)?;
     Ok(find_unforeseen(alloc, foreseen, kept, &page)?)

@@ -1,9 +1,9 @@
 //! The gateway that wrote a kept log, as its last record left it.
 
-ghost use Rattle.std.specs.Prelude.{◌≡◌, IfOk};
+ghost use Rattle.std.specs.Prelude.{◌≡◌, ◌≢◌, ◌⊎◌, IfErr, IfOk};
 ghost use Rattle.std.specs.List.{list_all};
 ghost use Rattle.gate_model.specs.Record.{is_accepted};
-ghost use Rattle.operator_restore.specs.Kept.{IsKept};
+ghost use Rattle.operator_restore.specs.Kept.{IsGatewayFault, IsKept, IsKeptFault};
 ghost use Rattle.operator_restore.specs.Pages.{kept_lines};
 
 use crate::pages::kept_table;
@@ -45,6 +45,12 @@ impl From<AllocError> for KeptFault {
 }
 
 impl From<ForesightFault> for KeptFault {
+    ghost use Rattle.gate_foresight.specs.declared.foresight.ForesightFault.TheVariants as foresight;
+    ghost use Rattle.operator_restore.specs.declared.kept.KeptFault.TheVariants.{OutOfMemory, TooMany};
+
+    ghost from_gives = { λ fault kept.
+        (kept ≡ OutOfMemory) ⊎ ((fault ≡ foresight.TooMany) × (kept ≡ TooMany)) };
+
     fn from(fault: ForesightFault) -> KeptFault {
         match fault {
             ForesightFault::TooMany => KeptFault::TooMany,
@@ -54,15 +60,29 @@ impl From<ForesightFault> for KeptFault {
 }
 
 impl From<TableFault> for KeptFault {
+    ghost use Rattle.gate_model.specs.declared.table.TableFault.TheVariants as table;
+    ghost use Rattle.operator_restore.specs.declared.kept.KeptFault.TheVariants.{BadTable, OutOfMemory};
+
+    ghost from_gives = { λ fault kept.
+        (kept ≡ OutOfMemory) ⊎ ((fault ≢ table.OutOfMemory) × (kept ≡ BadTable)) };
+
     fn from(fault: TableFault) -> KeptFault {
         match fault {
             TableFault::OutOfMemory => KeptFault::OutOfMemory,
-            _ => KeptFault::BadTable,
+            TableFault::BadName(_)
+            | TableFault::NoSuchHost(_)
+            | TableFault::DuplicateHost(_)
+            | TableFault::DuplicateService(_)
+            | TableFault::TooMany(_) => KeptFault::BadTable,
         }
     }
 }
 
 impl From<LogFault> for KeptFault {
+    ghost use Rattle.operator_restore.specs.declared.kept.KeptFault.TheVariants.{BadLog, OutOfMemory};
+
+    ghost from_gives = { λ fault kept. (kept ≡ OutOfMemory) ⊎ (kept ≡ BadLog fault) };
+
     fn from(fault: LogFault) -> KeptFault {
         match fault {
             LogFault::OutOfMemory => KeptFault::OutOfMemory,
@@ -96,6 +116,7 @@ pub fn kept_over(
     now: Moment,
 ) -> Result<Applier, KeptFault>
     ensures kept { IfOk result (λ applier. IsKept table log.now now applier) }
+    ensures fault { IfErr result (IsKeptFault table log.now) }
 {
     let log = read_log_page(alloc, log)?;
     let records = accepted_records(alloc, log)?;
@@ -117,6 +138,7 @@ pub fn kept_gateway(
     now: Moment,
 ) -> Result<Applier, KeptFault>
     ensures kept { IfOk result (λ applier. IsKept (kept_lines page.now) log.now now applier) }
+    ensures fault { IfErr result (IsGatewayFault (kept_lines page.now) log.now) }
 {
     kept_over(alloc, kept_table(alloc, page)?, log, now)
 }

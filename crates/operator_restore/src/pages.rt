@@ -1,7 +1,8 @@
 //! What a status page says of the gateway that wrote it.
 
-ghost use Rattle.std.specs.Prelude.{◌≡◌, IfOk, map};
+ghost use Rattle.std.specs.Prelude.{◌≡◌, ◌≢◌, IfErr, IfOk, map};
 ghost use Rattle.std.specs.List.{list_all};
+ghost use Rattle.gate_model.specs.Table.{IsFaultless, IsFaultOf};
 ghost use Rattle.operator_restore.specs.Pages.{kept_service, kept_line, kept_lines, is_unmarked, is_fresh};
 
 use gate_model::{ObjectLine, ObjectTable, TableFault, Text};
@@ -45,7 +46,11 @@ fn kept_lines(alloc: Global, rows: &[ShownObject<'_>]) -> Result<Vec<ObjectLine>
 /// no page shows. `OutOfMemory` may come in the place of any other answer; the other faults name a
 /// row by its number from 1.
 pub fn kept_table(alloc: Global, page: &StatusPage<'_>) -> Result<ObjectTable, TableFault>
-    ensures { IfOk result (λ table. table ≡ kept_lines page.now) }
+    ensures table { IfOk result (λ table. table ≡ kept_lines page.now) }
+    ensures fault { IfErr result (λ fault.
+        fault ≢ TableFault.OutOfMemory → IsFaultOf (kept_lines page.now) fault) }
+    ensures faulty { IfErr result (λ fault.
+        fault ≢ TableFault.OutOfMemory → ¬ IsFaultless (kept_lines page.now)) }
 {
     let Ok(lines) = kept_lines(alloc, page.objects.as_slice()) else {
         return Err(TableFault::OutOfMemory);

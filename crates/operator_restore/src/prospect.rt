@@ -1,6 +1,6 @@
 //! What restoring sends, and what it can't bring back, before anything is sent.
 
-ghost use Rattle.std.specs.Prelude.{◌≡◌, ◌<◌, ◌↔◌, ◌+◌, ◌++◌, ℕ, List, [], false, true, Err, IfOk, filter_map, map, codes};
+ghost use Rattle.std.specs.Prelude.{◌≡◌, ◌≢◌, ◌⊎◌, ◌<◌, ◌↔◌, ◌+◌, ◌++◌, ℕ, List, [], false, true, Err, IfErr, IfOk, filter_map, map, codes};
 ghost use Rattle.std.specs.Option.{option_map};
 ghost use Rattle.gate_model.specs.declared.object.ObjectLine.{ObjectLine};
 ghost use Rattle.gate_pages.specs.StatusPage.{status_text_at};
@@ -8,7 +8,8 @@ ghost use Rattle.status_reading.specs.declared.page.StatusPage.{StatusPage as Pa
 ghost use Rattle.restore_plan.specs.Plan.{results_of, others_of, commands_of};
 ghost use Rattle.restore_plan.specs.PagePlan.{object_fates, page_others};
 ghost use Rattle.operator_restore.specs.Escapes.{is_escaped_text};
-ghost use Rattle.operator_restore.specs.Kept.{IsKept};
+ghost use Rattle.operator_restore.specs.Faults.{IsNoPage, IsUnforeseen, IsPageFault, IsLogFault};
+ghost use Rattle.operator_restore.specs.Kept.{IsKept, IsKeptFault};
 ghost use Rattle.operator_restore.specs.Naming.{left_lines, left_count, row_lines, row_count};
 ghost use Rattle.operator_restore.specs.Pages.{kept_lines};
 ghost use Rattle.operator_restore.specs.Printed.{HasNoPage, IsLastPage};
@@ -67,6 +68,10 @@ impl From<AllocError> for ProspectFault {
 }
 
 impl From<RehearsalFault> for ProspectFault {
+    ghost use Rattle.operator_restore.specs.declared.prospect.ProspectFault.TheVariants.{OutOfMemory, Unrehearsed};
+
+    ghost from_gives = { λ fault other. (other ≡ OutOfMemory) ⊎ (other ≡ Unrehearsed fault) };
+
     fn from(fault: RehearsalFault) -> ProspectFault {
         match fault {
             RehearsalFault::OutOfMemory => ProspectFault::OutOfMemory,
@@ -76,6 +81,10 @@ impl From<RehearsalFault> for ProspectFault {
 }
 
 impl From<KeptFault> for ProspectFault {
+    ghost use Rattle.operator_restore.specs.declared.prospect.ProspectFault.TheVariants.{Kept, OutOfMemory};
+
+    ghost from_gives = { λ fault other. (other ≡ OutOfMemory) ⊎ (other ≡ Kept fault) };
+
     fn from(fault: KeptFault) -> ProspectFault {
         match fault {
             KeptFault::OutOfMemory => ProspectFault::OutOfMemory,
@@ -85,6 +94,12 @@ impl From<KeptFault> for ProspectFault {
 }
 
 impl From<ReadFault> for ProspectFault {
+    ghost use Rattle.status_reading.specs.declared.page.ReadFault.TheVariants as reading;
+    ghost use Rattle.operator_restore.specs.declared.prospect.ProspectFault.TheVariants.{BadPage, OutOfMemory};
+
+    ghost from_gives = { λ fault other.
+        (other ≡ OutOfMemory) ⊎ ((fault ≢ reading.OutOfMemory) × (other ≡ BadPage)) };
+
     fn from(fault: ReadFault) -> ProspectFault {
         match fault {
             ReadFault::OutOfMemory => ProspectFault::OutOfMemory,
@@ -154,8 +169,10 @@ fn name_all(
     shown: &[u8],
     warning: Vec<u8>,
 ) -> Result<Named, ProspectFault>
-    ensures { IfOk result (IsNamed plan.now.results.items plan.now.others.items kept.now shown.now
-        warning.items) }
+    ensures named { IfOk result (IsNamed plan.now.results.items plan.now.others.items kept.now
+        shown.now warning.items) }
+    ensures fault { IfErr result (λ fault. (fault ≡ ProspectFault.OutOfMemory)
+        ⊎ ((fault ≡ ProspectFault.BadPage) × (IsNoPage kept.now ⊎ IsNoPage shown.now))) }
 {
     let (results, others) = (plan.results.as_slice(), plan.others.as_slice());
     let mut lines = warning;
@@ -185,8 +202,10 @@ fn prospect_of(
     source: Vec<u8>,
     warning: Vec<u8>,
 ) -> Result<Prospect, ProspectFault>
-    ensures { IfOk result (IsProspect plan.results.items plan.others.items until kept.items
+    ensures prospect { IfOk result (IsProspect plan.results.items plan.others.items until kept.items
         shown.items warning.items) }
+    ensures fault { IfErr result (λ fault. (fault ≡ ProspectFault.OutOfMemory)
+        ⊎ ((fault ≡ ProspectFault.BadPage) × (IsNoPage kept.items ⊎ IsNoPage shown.items))) }
 {
     let named = name_all(alloc, &plan, kept.as_slice(), shown.as_slice(), warning)?;
     let Named {
@@ -239,8 +258,11 @@ fn foresee(
     source: Vec<u8>,
     warning: Vec<u8>,
 ) -> Result<Prospect, ProspectFault>
-    ensures { IfOk result (IsProspect planned.plan.results.items planned.plan.others.items until
-        planned.kept.items (shown_after fresh until (commands_of planned.double)) warning.items) }
+    ensures prospect { IfOk result (IsProspect planned.plan.results.items planned.plan.others.items
+        until planned.kept.items (shown_after fresh until (commands_of planned.double))
+        warning.items) }
+    ensures fault { IfErr result
+        (IsUnforeseen fresh until (commands_of planned.double) planned.kept.items) }
 {
     let Planned { plan, double, kept } = planned;
     let shown = rehearse(alloc, fresh, until, commands_of(alloc, double)?)?;
@@ -279,6 +301,10 @@ fn good_age(
     ensures age { IfOk result (λ age. age ≡ age_of page.now now) }
     ensures escaped { IfOk result (λ _. is_escaped_text text.now ≡ true) }
     ensures is_new { IfOk result (λ _. is_new (age_of page.now now) old ≡ true) }
+    ensures fault { let age = age_of page.now now in IfErr result (λ fault.
+        (fault ≡ ProspectFault.OutOfMemory)
+        ⊎ ((fault ≡ ProspectFault.BadPage) × (is_escaped_text text.now ≡ false))
+        ⊎ ((fault ≡ ProspectFault.Old age) × (is_new age old ≡ false))) }
 {
     let age = age_of(page, now);
     if !is_escaped_text(alloc, text)? {
@@ -317,7 +343,8 @@ pub fn look_ahead_by_page(
     old: bool,
     now: Moment,
 ) -> Result<Prospect, ProspectFault>
-    ensures { IfOk result (IsPageProspect fresh text.now old now) }
+    ensures prospect { IfOk result (IsPageProspect fresh text.now old now) }
+    ensures fault { IfErr result (IsPageFault fresh text.now old now) }
 {
     let page = read_status_page(alloc, text)?;
     let age = good_age(alloc, text, &page, old, now)?;
@@ -344,6 +371,7 @@ fn gateway_of(
 ) -> Result<Applier, KeptFault>
     ensures kept { IfOk result (λ kept. IsKept kept.table log.now now kept) }
     ensures objects { IfOk result (λ kept. AreObjectsBy page.now table kept.table) }
+    ensures fault { IfErr result (IsKeptFault table log.now) }
 {
     if let Some(page) = page {
         match kept_gateway(alloc, page, log, now) {
@@ -396,7 +424,8 @@ fn look_ahead_by_log(
     log: &[u8],
     now: Moment,
 ) -> Result<Prospect, ProspectFault>
-    ensures { IfOk result (IsLogProspect tables.fresh tables.of_log page.now log.now now) }
+    ensures prospect { IfOk result (IsLogProspect tables.fresh tables.of_log page.now log.now now) }
+    ensures fault { IfErr result (IsLogFault tables.fresh tables.of_log page.now log.now now) }
 {
     let Tables { fresh, of_log } = tables;
     let page = read_status_page(alloc, page).ok();
@@ -426,6 +455,9 @@ pub fn look_ahead(
     ensures prospect { IfOk result (λ prospect. (log : List ℕ) × IsLastPage printed.now log
         × IsLogProspect tables.fresh tables.of_log page.now log now prospect) }
     ensures no_log { HasNoPage printed.now → result ≡ Err ProspectFault.NoLog }
+    ensures fault { IfErr result (λ fault. HasNoPage printed.now
+        ⊎ ((log : List ℕ) × IsLastPage printed.now log
+        × IsLogFault tables.fresh tables.of_log page.now log now fault)) }
 {
     match log_part(printed) {
         Some(log) => look_ahead_by_log(alloc, tables, page, log, now),
