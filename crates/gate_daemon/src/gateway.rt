@@ -8,7 +8,7 @@ ghost use Rattle.gate_daemon.specs.Faults.{AreShownUntil, IsGatewayFault};
 ghost use Rattle.gate_daemon.specs.Served.{AllServed};
 ghost use Rattle.gate_daemon.specs.declared.gateway.GatewayFault.TheVariants.{OutOfMemory};
 ghost use Rattle.gate_daemon.specs.inner.Collecting.{AllEnded};
-ghost use Rattle.gate_daemon.specs.inner.Joining.{AreJoined, IsStart};
+ghost use Rattle.gate_daemon.specs.inner.Joining.{AreJoined, HaveRun, IsStart};
 
 use crate::collected::Collected;
 use crate::endpoints::Endpoints;
@@ -227,16 +227,10 @@ pub fn run_gateway<
         rt,
         move |scope| -> Result<Joined, Unstarted>
             requires { IsStart shared.gate.now start }
-            ensures { IfOk result (λ joined. AreJoined shared.entry.gate.now
-                (length start.workers.endpoints.items) joined
-                × IsSameLog start.applier joined.applier × AllEnded shared.entry.limits
-                (K.shows shared.entry.clock.now) shared.entry.gate.now
+            ensures { IfOk result (HaveRun shared.entry.gate.now shared.entry.limits
+                (K.shows shared.entry.clock.now)
                 (map (λ endpoint. A.streams endpoint.connections) start.workers.endpoints.items)
-                (O.streams start.workers.operator_endpoint.connections) start.workers.operator
-                joined.operator joined.collected.ended.items
-                (reports_of_each joined.collected.reports.items)
-                × (AreShown (K.shows shared.entry.clock.now) start.applier
-                → AreShown (K.shows shared.entry.clock.now) joined.applier)) }
+                (O.streams start.workers.operator_endpoint.connections) start) }
         { run_threads(&shared, scope, start, board) },
     );
     match joined {

@@ -1,8 +1,5 @@
-ghost use Rattle.std.specs.Prelude.{◌≡◌, IfOk, length, map};
-ghost use Rattle.gate_daemon.specs.Applying.{AreShown, IsSameLog};
-ghost use Rattle.gate_daemon.specs.Answered.{reports_of_each};
-ghost use Rattle.gate_daemon.specs.inner.Collecting.{AllEnded};
-ghost use Rattle.gate_daemon.specs.inner.Joining.{AreJoined, IsStart};
+ghost use Rattle.std.specs.Prelude.{IfOk, map};
+ghost use Rattle.gate_daemon.specs.inner.Joining.{HaveRun, IsStart};
 
 use crate::boards::{run_pages, show_close, wake_pages};
 use crate::closing::close_gate;
@@ -47,17 +44,10 @@ pub(crate) fn run_threads<
     board: &'s Mutex<Board>,
 ) -> Result<Joined, Unstarted>
     requires { IsStart shared.now.gate.now start }
-    ensures joined { IfOk result
-        (AreJoined shared.now.gate.now (length start.workers.endpoints.items)) }
-    ensures same { IfOk result (λ joined. IsSameLog start.applier joined.applier) }
-    ensures ended { IfOk result (λ joined. AllEnded shared.now.limits
-        (K.shows shared.now.clock.now) shared.now.gate.now
+    ensures { IfOk result (HaveRun shared.now.gate.now shared.now.limits
+        (K.shows shared.now.clock.now)
         (map (λ endpoint. A.streams endpoint.connections) start.workers.endpoints.items)
-        (O.streams start.workers.operator_endpoint.connections) start.workers.operator
-        joined.operator joined.collected.ended.items
-        (reports_of_each joined.collected.reports.items)) }
-    ensures shown { IfOk result (λ joined. AreShown (K.shows shared.now.clock.now) start.applier
-        → AreShown (K.shows shared.now.clock.now) joined.applier) }
+        (O.streams start.workers.operator_endpoint.connections) start) }
 {
     let Start {
         taker,

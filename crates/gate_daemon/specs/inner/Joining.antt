@@ -14,6 +14,7 @@ use Rattle.gate_daemon.specs.declared.collected.Collected.{Collected}
 use Rattle.gate_daemon.specs.declared.joined.Joined.{Joined}
 use Rattle.gate_daemon.specs.declared.threads.Start.{Start}
 use Rattle.gate_daemon.specs.Answered.{reports_of_each}
+use Rattle.gate_daemon.specs.Applying.{AreShown, IsSameLog}
 use Rattle.gate_daemon.specs.inner.Collecting.{numbers_of, AreOf, AllEnded}
 
 -- there is room for what so many workers return, and nothing there yet
@@ -64,3 +65,14 @@ pub record IsStart {A O P H : Type 0} (gate : GateId) (start : Start A O P H) : 
   pub each : length start.workers.endpoints.items ≡ length start.workers.clients.items
   pub operator : start.workers.operator ≡ client_state gate (length start.workers.clients.items + 1) [] None
   pub room : HasRoom (length start.workers.clients.items + 1) start.workers.collected
+
+-- the threads that started with these parts, on endpoints that sent these streams, served with these limits and by a
+-- clock that may show these moments, and are joined
+pub record HaveRun {A O P H : Type 0} (gate : GateId) (limits : WorkerLimits) (shows : Moment → Type 0)
+    (agents : List (Option (List (List ℕ)))) (operators : Option (List (List ℕ))) (start : Start A O P H)
+    (joined : Joined) : Type 0 where
+  pub ends : AreJoined gate (length start.workers.endpoints.items) joined
+  pub same : IsSameLog start.applier joined.applier
+  pub served : AllEnded limits shows gate agents operators start.workers.operator joined.operator joined.collected.ended.items
+      (reports_of_each joined.collected.reports.items)
+  pub shown : AreShown shows start.applier → AreShown shows joined.applier

@@ -36,7 +36,7 @@ scoped-joined-requires g c =
 pub finish-requires-clause-joined : goal.finish-requires-clause-joined
 finish-requires-clause-joined g c =
     let count : length c.start_on-gate.result.2.workers.endpoints.items ≡ c.args.settings.workers = ap length c.start_on-gate.ensures.agents ∙ sym c.args.endpoints.agents.ok.0 ∙ c.requires.endpoints in
-    subst (λ (n : ℕ). AreJoined c.start_on-gate.result.0 n c.in-Ok-joined.joined) count c.in-Ok-joined.ensures.1.0
+    subst (λ (n : ℕ). AreJoined c.start_on-gate.result.0 n c.in-Ok-joined.joined) count c.in-Ok-joined.ensures.1.ends
 
 pub returns-in-Ok-joined-clause-served : goal.returns-in-Ok-joined-clause-served
 returns-in-Ok-joined-clause-served g c =
@@ -52,41 +52,41 @@ returns-in-Ok-joined-clause-served g c =
     (all_on started.workers.endpoints.items agents (λ endpoint. g.A.Connections.streams endpoint.connections) started.workers.operator_endpoint.connections
     c.args.endpoints.operator.connections g.O.Connections.streams c.args.settings.worker (g.K.Watch.shows c.args.clock.now) c.start_on-gate.result.0 (length started.workers.clients.items) c.args.settings.workers
     started.workers.operator joined.operator joined.collected.ended.items _ c.start_on-gate.ensures.agents c.start_on-gate.ensures.operator start.operator start.each
-    long c.in-Ok-joined.ensures.1.2))
+    long c.in-Ok-joined.ensures.1.served))
     c.finish.ensures.served
 
 pub returns-in-Ok-joined-clause-table : goal.returns-in-Ok-joined-clause-table
 returns-in-Ok-joined-clause-table g c =
     IfOk-weaker c.finish.result _ _
-    (λ finished same. same.table ∙ c.in-Ok-joined.ensures.1.1.table
+    (λ finished same. same.table ∙ c.in-Ok-joined.ensures.1.same.table
     ∙ ap (λ (a : ApplierView). a.table) (c.start_on-gate.ensures.applier ∙ c.in-Ok.ensures.applier))
     c.finish.ensures.same
 
 pub returns-in-Ok-joined-clause-limit : goal.returns-in-Ok-joined-clause-limit
 returns-in-Ok-joined-clause-limit g c =
     IfOk-weaker c.finish.result _ _
-    (λ finished same. same.limit ∙ c.in-Ok-joined.ensures.1.1.limit
+    (λ finished same. same.limit ∙ c.in-Ok-joined.ensures.1.same.limit
     ∙ ap (λ (a : ApplierView). a.limit) (c.start_on-gate.ensures.applier ∙ c.in-Ok.ensures.applier))
     c.finish.ensures.same
 
 pub returns-in-Ok-joined-clause-moments : goal.returns-in-Ok-joined-clause-moments
 returns-in-Ok-joined-clause-moments g c =
     c.finish.ensures.shown
-    (c.in-Ok-joined.ensures.1.3
+    (c.in-Ok-joined.ensures.1.shown
     (opened_shown (g.K.Watch.shows c.args.clock.now) _ c.read.result c.args.settings.limit c.start_on-gate.result.2.applier c.read.ensures
     (c.start_on-gate.ensures.applier ∙ c.in-Ok.ensures.applier)))
 
 pub returns-in-Ok-joined-clause-moments_until_fault : goal.returns-in-Ok-joined-clause-moments_until_fault
 returns-in-Ok-joined-clause-moments_until_fault g c =
     c.finish.ensures.shown_until_fault
-    (c.in-Ok-joined.ensures.1.3
+    (c.in-Ok-joined.ensures.1.shown
     (opened_shown (g.K.Watch.shows c.args.clock.now) _ c.read.result c.args.settings.limit c.start_on-gate.result.2.applier c.read.ensures
     (c.start_on-gate.ensures.applier ∙ c.in-Ok.ensures.applier)))
 
 pub returns-in-Ok-joined-clause-fault : goal.returns-in-Ok-joined-clause-fault
 returns-in-Ok-joined-clause-fault g c =
     let given = c.start_on-gate.ensures.applier ∙ c.in-Ok.ensures.applier in
-    let same = c.in-Ok-joined.ensures.1.1 in
+    let same = c.in-Ok-joined.ensures.1.same in
     IfErr-weaker c.finish.result _ _
     (λ fault known.
     subst (λ (t : List ObjectLine). IsGatewayFault c.args.settings.workers c.args.settings.capacity c.args.settings.limit t fault) (same.table ∙ ap (λ (a : ApplierView). a.table) given)

@@ -19,31 +19,28 @@ run_workers-collected-requires-clause-new g c κs within = record {
   fresh = ap (λ (x : ClientState). x.queued) c.requires.operator;
 }
 
-pub returns-in-Some-clause-ended : goal.returns-in-Some-clause-ended
-returns-in-Some-clause-ended g c = at_some _ c.run_workers-collected.result.1 c.in-Some.operator c.in-Some.is c.run_workers-collected.ensures.ends.ended
-
-pub returns-in-Some-clause-same : goal.returns-in-Some-clause-same
-returns-in-Some-clause-same g c = subst (λ (a : ApplierView). IsSameLog a c.join-taker.result.1) c.in-Ok.ensures.2 c.join-taker.ensures.1
-
-pub returns-in-Some-clause-shown : goal.returns-in-Some-clause-shown
-returns-in-Some-clause-shown g c =
-    shown_on g.K.Watch.shows c.in-Ok.applies.promise.clock.now c.args.shared.now.clock.now c.in-Ok.applies.promise.before.value c.args.start.applier c.join-taker.result.1
-    c.in-Ok.ensures.1 c.in-Ok.ensures.2 c.join-taker.ensures.2
-
-pub returns-in-Some-clause-joined : goal.returns-in-Some-clause-joined
-returns-in-Some-clause-joined g c =
+pub returns-in-Some : goal.returns-in-Some
+returns-in-Some g c =
     let end = c.join-taker.result in
     let known = c.learn.ensures.known in
     let kept = subst (λ (gate : GateId). IsApplied gate end.0 end.1) c.in-Ok.ensures.0 c.join-taker.ensures.0 in
+    let why = c.run_workers-collected.result.1 in
+    let ended = c.run_workers-collected.ensures.ends.ended in
     record {
-      applied = record {
-        of_gate = ap (λ (t : TakerState). t.gate) known ∙ kept.of_gate;
-        none_in = ap (λ (t : TakerState). t.ended) known ∙ kept.none_in;
-        applied = kept.applied ∙ sym (ap (λ (t : TakerState). t.taken) known);
+      ends = record {
+        applied = record {
+          of_gate = ap (λ (t : TakerState). t.gate) known ∙ kept.of_gate;
+          none_in = ap (λ (t : TakerState). t.ended) known ∙ kept.none_in;
+          applied = kept.applied ∙ sym (ap (λ (t : TakerState). t.taken) known);
+        };
+        known_close = subst (λ (k : Option Moment). IsSome k) (sym (ap (λ (t : TakerState). t.known_close) known)) refl;
+        all = joined_numbers c.args.start.workers.endpoints.items (λ endpoint. g.A.Connections.streams endpoint.connections) c.args.shared.now.limits (g.K.Watch.shows c.args.shared.now.clock.now) c.args.shared.now.gate.now
+            (length c.args.start.workers.clients.items) _ c.args.start.workers.operator c.in-Some.operator c.run_workers-collected.result.0.ended.items _
+            (at_some _ why c.in-Some.operator c.in-Some.is ended) c.requires.each c.requires.operator;
+        gates = c.run_workers-collected.ensures.ends.gates;
       };
-      known_close = subst (λ (k : Option Moment). IsSome k) (sym (ap (λ (t : TakerState). t.known_close) known)) refl;
-      all = joined_numbers c.args.start.workers.endpoints.items (λ endpoint. g.A.Connections.streams endpoint.connections) c.args.shared.now.limits (g.K.Watch.shows c.args.shared.now.clock.now) c.args.shared.now.gate.now
-          (length c.args.start.workers.clients.items) _ c.args.start.workers.operator c.in-Some.operator c.run_workers-collected.result.0.ended.items _
-          (returns-in-Some-clause-ended g c) c.requires.each c.requires.operator;
-      gates = c.run_workers-collected.ensures.ends.gates;
+      same = subst (λ (a : ApplierView). IsSameLog a end.1) c.in-Ok.ensures.2 c.join-taker.ensures.1;
+      served = at_some _ why c.in-Some.operator c.in-Some.is ended;
+      shown = shown_on g.K.Watch.shows c.in-Ok.applies.promise.clock.now c.args.shared.now.clock.now c.in-Ok.applies.promise.before.value c.args.start.applier end.1
+          c.in-Ok.ensures.1 c.in-Ok.ensures.2 c.join-taker.ensures.2;
     }
