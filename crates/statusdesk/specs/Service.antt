@@ -77,7 +77,7 @@ pub record IsOfQuery (query : List ℕ) (asked : Asked) : Type 0 where
 -- those of one moment are asked for and some of that may change
 pub record IsNotedPage (desk : DeskView) (seen : List Seen) (asked : Asked) (body : List ℕ) : Type 0 where
   pub said : List SaidView
-  pub own : AreOwn asked desk.ports said
+  pub own : AreOwn asked seen desk.ports said
   pub page : IsObjectPage desk asked.clock seen asked.user.now asked.host.now asked.service.now (map note_of said)
       (is_some asked.at && not (are_settled said)) body
 
@@ -122,7 +122,7 @@ IsObjectAnswer desk clock request query response =
 pub record AreNotedMarks (desk : DeskView) (seen : List Seen) (query : List ℕ) (asked : Asked) (body : List ℕ)
     : Type 0 where
   pub said : List SaidView
-  pub own : AreOwn asked desk.ports said
+  pub own : AreOwn asked seen desk.ports said
   pub page : IsMarksPage desk asked.clock seen asked.user.now query (map note_of said)
       (is_some asked.at && not (are_settled said)) body
 

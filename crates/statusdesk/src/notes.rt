@@ -2,7 +2,7 @@
 
 ghost use Rattle.std.specs.Prelude.{◌≡◌, ◌++◌, map, IfOk, OnOk};
 ghost use Rattle.statusdesk.specs.Objects.{place_of};
-ghost use Rattle.statusdesk.specs.Notes.{said_at, AreOwn, said_view, note_of, note_view, are_settled};
+ghost use Rattle.statusdesk.specs.Notes.{said_at, kept_at, fetched_at, AreOwn, said_view, note_of, note_view, are_settled};
 
 use crate::posts::Post;
 use desk_outbox::{Asked, Shown};
@@ -50,14 +50,23 @@ pub fn are_settled(said: &[Said<'_>]) -> bool
     true
 }
 
-// When the page was fetched that is kept of the gateway of this name; 0 where none is.
-fn fetched_at(seen: &[Seen<'_>], name: &str) -> u64 {
+// When the page that is kept of a gateway was fetched; 0 where none is.
+fn kept_at(seen: &Seen<'_>) -> u64
+    ensures { result ≡ kept_at seen.now }
+{
+    match &seen.memory.last {
+        Some(kept) => kept.moment,
+        None => 0,
+    }
+}
+
+// The same of the gateway of this name.
+fn fetched_at(seen: &[Seen<'_>], name: &str) -> u64
+    ensures { result ≡ fetched_at name.now seen.now }
+{
     for one in seen {
         if one.place.name == name {
-            return match &one.memory.last {
-                Some(kept) => kept.moment,
-                None => 0,
-            };
+            return kept_at(one);
         }
     }
     0
@@ -92,7 +101,7 @@ pub fn orders_said<'t, R: Wait>(
     seen: &[Seen<'_>],
     asked: Asked<'_>,
 ) -> Result<Vec<Said<'t>>, AllocError>
-    ensures { IfOk result (λ said. AreOwn asked.entry (map place_of posts.now)
+    ensures { IfOk result (λ said. AreOwn asked.entry seen.now (map place_of posts.now)
         (map said_view said.items)) }
 {
     let mut said = Vec::new(alloc);
