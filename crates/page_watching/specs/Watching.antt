@@ -6,10 +6,8 @@ use Rattle.std.specs.declared.sync.Arc.{Arc}
 use Rattle.std.specs.Arc.{arc_value}
 use Rattle.circular_buffer.specs.Buffer.{keep_last}
 use Rattle.status_reading.specs.Rows.{PageView}
-use Rattle.status_reading.specs.Page.{page_text}
-use Rattle.status_reading.specs.Readable.{IsReadable}
-use Rattle.status_reading.specs.RowFaults.{IsSound}
 use Rattle.status_reading.specs.Faults.{IsFaultOf}
+use Rattle.status_reading.specs.Text.{IsTextOf}
 use Rattle.status_memory.specs.declared.memory.Page.{Page}
 use Rattle.status_memory.specs.declared.memory.Fetch.{Fetch}
 use Rattle.status_memory.specs.declared.memory.Kept.{Kept}
@@ -31,18 +29,12 @@ Shared = Arc Contents Global
 
 -- the bytes of its text
 abbrev pub bytes_of : Shared → List ℕ
-bytes_of shared = (arc_value shared).text.items
+bytes_of shared = (arc_value shared).text.bytes.items
 
 -- what a fetch gave: a text or a fault
 abbrev pub text_of : Result (Vec ℕ Global) FetchFault → Result (List ℕ) FetchFault
 text_of (Ok text) = Ok text.items
 text_of (Err fault) = Err fault
-
--- the text is that of this page, whose fields can be read and no row of which has a fault
-pub record IsTextOf (text : List ℕ) (page : PageView) : Type 0 where
-  pub written : text ≡ page_text page
-  pub readable : IsReadable page
-  pub sound : IsSound page
 
 -- the text is that of a page of so many objects
 abbrev pub HasObjects : List ℕ → ℕ → Type 0

@@ -10,7 +10,7 @@ use crate::causes::NoPage;
 use crate::places::Place;
 use page_fetching::{Fetched, fetch};
 use status_memory::{Fetch, History, Kept, Memory, Page, StateChange};
-use status_reading::{ReadFault, read_status_page};
+use status_reading::{PageText, ReadFault, read_status_page};
 use std::alloc::{AllocError, Global};
 use std::net::{Net, TcpListener, TcpStream};
 use std::sync::{Arc, Mutex, Wait};
@@ -21,7 +21,7 @@ use std::time::{Clock, Duration, SystemTime};
 /// A page as it is kept.
 #[derive(Drop)]
 pub struct Contents {
-    pub text: Vec<u8>,
+    pub text: PageText,
     /// Since when each of its objects has its state, in the order of its rows.
     pub since: Vec<u32>,
     /// The last changes of states, the oldest first.
@@ -79,7 +79,7 @@ fn page_in(alloc: Global, history: &mut History, text: Vec<u8>) -> Result<Page<S
     let since = history.since(alloc)?;
     let changes = history.changes(alloc)?;
     let contents = Contents {
-        text,
+        text: PageText { bytes: text },
         since,
         changes,
     };

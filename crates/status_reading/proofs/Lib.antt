@@ -6,6 +6,7 @@ pub mod OrderSteps
 pub mod FaultSteps
 pub mod SameRows
 pub mod SamePages
+pub mod ReadAgain
 pub mod SoundSteps
 pub mod BoardFields
 pub mod BoardLaws

@@ -129,7 +129,7 @@ closing_again page =
 
 -- ---- pages
 
-same_page : (one other : PageView) → IsReadable one → IsReadable other → page_text one ≡ page_text other → one ≡ other
+pub same_page : (one other : PageView) → IsReadable one → IsReadable other → page_text one ≡ page_text other → one ≡ other
 same_page one other readable all is =
     let both = same_start other one [] all readable (is ∙ sym (append-nil (page_text other))) in
     let moment = same_number one.moment other.moment readable.moment all.moment (append_cancel_left (codes "status ") (decimal one.moment) (decimal other.moment) both.0) in
@@ -174,7 +174,7 @@ never_both page (BadRow line fault) sound (inl none) = absurd (no_table (table_o
 never_both page (BadRow line fault) sound (inr first) = absurd (no_some (line, fault) (sym sound.rows ∙ first.here))
 never_both page OutOfMemory sound fault = refl
 
-faultless : (text : List ℕ) (fault : ReadFault) (page : PageView) → IsFaultOf text fault → IsReadable page → IsSound page → text ≡ page_text page
+pub faultless : (text : List ℕ) (fault : ReadFault) (page : PageView) → IsFaultOf text fault → IsReadable page → IsSound page → text ≡ page_text page
     → fault ≡ OutOfMemory
 faultless text NoStatus page fault all sound is = absurd (fault page.moment (flat_map row_line (rows_of page)) all.moment (is ∙ page_rows page))
 faultless text (BadLine number) page fault all sound is = absurd (none_bad text fault.before page fault.readable all is fault.bad)

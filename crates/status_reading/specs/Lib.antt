@@ -4,6 +4,7 @@ pub mod Readable
 pub mod Plain
 pub mod RowFaults
 pub mod Faults
+pub mod Text
 pub mod Board
 pub mod Gateway
 pub mod inner

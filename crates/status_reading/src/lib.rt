@@ -6,6 +6,7 @@
 mod cuts;
 mod lines;
 mod page;
+mod page_text;
 mod plain;
 mod row_faults;
 mod rows;
@@ -14,6 +15,7 @@ mod words;
 pub use gate_model::State;
 pub use gate_pages::{plan_name, state_name};
 pub use page::{ReadFault, StatusPage, read_status_page};
+pub use page_text::PageText;
 pub use plain::plain_bytes;
 pub use row_faults::{RowFault, row_fault_words};
 pub use rows::{ShownAcknowledgement, ShownComment, ShownDowntime, ShownObject, ShownSource};

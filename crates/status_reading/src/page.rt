@@ -139,7 +139,7 @@ fn next_row<'a>(page: &StatusPage<'a>, text: &'a [u8]) -> Option<(Row<'a>, &'a [
 }
 
 /// Reads the lines of a page, or finds the first that is none.
-fn read_lines<'a>(alloc: Global, text: &'a [u8]) -> Result<StatusPage<'a>, ReadFault>
+pub(crate) fn read_lines<'a>(alloc: Global, text: &'a [u8]) -> Result<StatusPage<'a>, ReadFault>
     ensures { MatchResult result
         (λ page. IsPageOf text.now (page_view page))
         (IsFaultOf text.now) }

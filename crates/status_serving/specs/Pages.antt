@@ -6,9 +6,9 @@ use Rattle.std.specs.Arc.{arc_value}
 use Rattle.std.specs.List.{AllZip, flat_map}
 use Rattle.form_urlencoded.specs.Form.{raw_pairs}
 use Rattle.status_reading.specs.declared.page.StatusPage.{StatusPage}
-use Rattle.status_reading.specs.declared.page.ReadFault.{ReadFault}
+use Rattle.status_reading.specs.declared.page.ReadFault.TheVariants.{OutOfMemory}
 use Rattle.status_reading.specs.Rows.{page_view}
-use Rattle.status_reading.specs.Faults.{IsFaultOf}
+use Rattle.status_reading.specs.Text.{IsTextOf}
 use Rattle.status_memory.specs.declared.memory.Kept.{Kept}
 use Rattle.status_memory.specs.Memory.{is_old}
 use Rattle.status_merge.specs.declared.gateway.Gateway.{Gateway}
@@ -31,14 +31,14 @@ use Rattle.status_serving.specs.declared.bodies.Form.TheVariants.{Html, Json, Me
 use Rattle.page_watching.specs.declared.causes.NoPage.{NoPage}
 use Rattle.page_watching.specs.declared.watching.Seen.{Seen}
 use Rattle.page_watching.specs.Causes.{read_cause, cause_of}
-use Rattle.page_watching.specs.Watching.{Shared, bytes_of, IsTextOf}
+use Rattle.page_watching.specs.Watching.{Shared, bytes_of}
 
 -- ---- what is kept
 
--- a text is read as this page, or this is the cause why it is none
+-- a text is read as this page; where memory runs out, that is the cause why there is none
 abbrev pub IsReadAs : List ℕ → Result StatusPage (String Global) → Type 0
 IsReadAs text (Ok page) = IsTextOf text (page_view page)
-IsReadAs text (Err cause) = (fault : ReadFault) × IsFaultOf text fault × (string_bytes cause ≡ read_cause fault)
+IsReadAs text (Err cause) = string_bytes cause ≡ read_cause OutOfMemory
 
 -- the page that is kept, or the cause why there is none
 abbrev pub IsPageOf : Option (Kept Shared) → Option NoPage → Result StatusPage (String Global) → Type 0

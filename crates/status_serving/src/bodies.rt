@@ -13,7 +13,7 @@ use status_memory::{Kept, Memory};
 use status_merge::{
     Gateway, Old, merge, merge_comments, merge_downtimes, page_rows, read_query, select, sort_rows,
 };
-use status_reading::{StatusPage, read_status_page};
+use status_reading::StatusPage;
 use status_view::{View, html_page};
 use std::alloc::{AllocError, Global};
 
@@ -33,7 +33,7 @@ fn page_of<'t>(
     ensures { IfOk result (IsPageOf memory.now.last memory.now.fault) }
 {
     match &memory.last {
-        Some(kept) => match read_status_page(alloc, kept.page.text.text.as_slice()) {
+        Some(kept) => match kept.page.text.text.page(alloc) {
             Ok(page) => Ok(Ok(page)),
             Err(fault) => Ok(Err(read_cause(alloc, fault)?)),
         },

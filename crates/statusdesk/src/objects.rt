@@ -4,14 +4,14 @@ ghost use Rattle.std.specs.Option.{option_to_list};
 ghost use Rattle.page_watching.specs.declared.watching.Seen.{Seen as Memory};
 ghost use Rattle.status_reading.specs.Rows.{page_view};
 ghost use Rattle.statusdesk.specs.Notes.{note_view};
-ghost use Rattle.statusdesk.specs.Kept.{is_memory, IsKeptOf, IsNotKept};
+ghost use Rattle.statusdesk.specs.Kept.{IsKeptOf, IsNotKept};
 ghost use Rattle.statusdesk.specs.Objects.{desk_view, known_view, IsKnownAt, AreKnown, IsObjectPage};
 
 use crate::pages::ReadPage;
 use crate::service::Desk;
 use desk_view::{DeskPage, FormOf, Note, ShownAt, desk_page, shows};
 use page_watching::Seen;
-use status_reading::{ReadFault, StatusPage, read_status_page};
+use status_reading::StatusPage;
 use std::alloc::{AllocError, Global};
 use std::sync::atomic::Ordering;
 
@@ -29,15 +29,6 @@ pub struct Named<'a> {
     pub service: &'a [u8],
 }
 
-fn is_memory(fault: ReadFault) -> bool
-    ensures { result ≡ is_memory fault }
-{
-    match fault {
-        ReadFault::OutOfMemory => true,
-        _ => false,
-    }
-}
-
 /// The page that is kept of a gateway, if one is.
 pub fn page_of<'t>(alloc: Global, seen: &'t Seen<'t>) -> Result<Option<Known<'t>>, AllocError>
     ensures page { IfOk result (λ found. MatchOption found (IsNotKept seen.now)
@@ -48,18 +39,12 @@ pub fn page_of<'t>(alloc: Global, seen: &'t Seen<'t>) -> Result<Option<Known<'t>
     let Some(kept) = &seen.memory.last else {
         return Ok(None);
     };
-    match read_status_page(alloc, kept.page.text.text.as_slice()) {
+    match kept.page.text.text.page(alloc) {
         Ok(page) => Ok(Some(Known {
             name: seen.place.name,
             page,
         })),
-        Err(fault) => {
-            if is_memory(fault) {
-                Err(AllocError)
-            } else {
-                Ok(None)
-            }
-        }
+        Err(_) => Err(AllocError),
     }
 }
 

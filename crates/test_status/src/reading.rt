@@ -1,5 +1,5 @@
 use status_reading::{
-    ReadFault, RowFault, ShownAcknowledgement, ShownSource, State, read_status_page,
+    PageText, ReadFault, RowFault, ShownAcknowledgement, ShownSource, State, read_status_page,
 };
 use std::test::Fail;
 
@@ -16,6 +16,18 @@ fn objects_are_read(rt: HostRuntime) -> Result<(), Fail> {
     assert_eq!(rt; row.acknowledgement, ShownAcknowledgement::Sticky);
     assert_eq!(rt; row.output, b"timeout; 10s".as_slice());
     assert_eq!(rt; page.closing, Some(9));
+    Ok(())
+}
+
+#[test]
+fn a_page_is_read_again(rt: HostRuntime) -> Result<(), Fail> {
+    let text = b"status 7\nobject;web1;;UP;6;fresh;-;0;up\n";
+    drop(read_status_page(rt.alloc(), text)?);
+    let bytes = Vec::from_slice(rt.alloc(), text)?;
+    let text = PageText { bytes };
+    let page = text.page(rt.alloc())?;
+    assert_eq!(rt; page.objects.len(), 1);
+    assert_eq!(rt; page.objects[0].output, b"up".as_slice());
     Ok(())
 }
 
