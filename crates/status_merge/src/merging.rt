@@ -67,6 +67,7 @@ fn add_page<'a>(
         return Ok(());
     };
     let rows = page.objects.as_slice();
+    objects.reserve(rows.len())?;
     for (index, row) in rows.iter().enumerate() {
         objects.push(shown_by(gateway, page.moment, index, row))?;
     }
