@@ -1,8 +1,10 @@
-"""statusweb_speed.py PROGRAM: seconds for each page over 16,384 objects, and requests a second of the problems among 1,000.
+"""statusweb_speed.py PROGRAM: seconds for each page over 16,384 objects, the memory after many, and requests a second of the
+problems among 1,000; with the environment of its unit.
 
 No part of ./check: it measures, and its figures depend on the machine.
 """
 import http.client
+import os
 import socket
 import subprocess
 import sys
@@ -41,10 +43,17 @@ def serve(page):
     return listener.getsockname()[1]
 
 
+def environment():
+    """The environment, with what the unit sets."""
+    unit = os.path.join(os.path.dirname(__file__), '../packaging/systemd/statusweb.service')
+    set_by_it = [line.strip().split('=', 2)[1:] for line in open(unit) if line.startswith('Environment=')]
+    return dict(os.environ, **dict(set_by_it))
+
+
 def start(program, page):
     """Starts the program over a gateway with this page, and returns it with its port."""
     words = [program, '--listen', '127.0.0.1:0', '--gateway', 'g=127.0.0.1:%d' % serve(page)]
-    process = subprocess.Popen(words, stdout=subprocess.PIPE)
+    process = subprocess.Popen(words, stdout=subprocess.PIPE, env=environment())
     return process, int(process.stdout.readline().rsplit(b':', 1)[1])
 
 
@@ -64,6 +73,25 @@ def pages(program):
             size = len(ask(port, path))
             best = min(best, time.time() - began)
         print('16384 objects, %s: %.3f s, %d bytes' % (path, best, size))
+    process.kill()
+
+
+def memory(program):
+    process, port = start(program, status_page(16384))
+
+    def report(what):
+        status = dict(line.split(':', 1) for line in open('/proc/%d/status' % process.pid))
+        print('%s: %d MB' % (what, int(status['VmRSS'].split()[0]) // 1024))
+
+    for _ in range(120):
+        ask(port, '/')
+    report('after 120 pages of 16384 objects')
+    readers = [threading.Thread(target=ask, args=(port, '/')) for _ in range(32)]
+    for reader in readers:
+        reader.start()
+    for reader in readers:
+        reader.join()
+    report('after 32 at once')
     process.kill()
 
 
@@ -91,4 +119,5 @@ def requests(program):
 
 
 pages(sys.argv[1])
+memory(sys.argv[1])
 requests(sys.argv[1])
