@@ -1,2 +1,3 @@
 mod RestoredSteps
 pub mod StopSteps
+pub mod LineSteps

@@ -1,4 +1,5 @@
 pub mod Faults
 pub mod Restored
+pub mod Lines
 pub mod Stopped
 pub mod inner

@@ -1,6 +1,8 @@
 //! The word `restore`: its files, its addresses, and what it prints.
 
-ghost use Rattle.std.specs.Prelude.{◌≡◌, ◌≤◌, ◌⊎◌, true, IfOk};
+ghost use Rattle.std.specs.Prelude.{◌≡◌, ◌≤◌, ◌⊎◌, ◌==◌, ℕ, List, true, if◌then◌else◌, IfOk};
+ghost use Rattle.gate_reader.specs.Sink.{Delivers};
+ghost use Rattle.operator_restoring.specs.Lines.{AreLinesOf, commands_of, IsDryRun};
 ghost use Rattle.operator_restoring.specs.Restored.{IsPlanned, AreSent, IsRestored};
 
 use crate::gateway::Gateway;
@@ -76,7 +78,12 @@ fn print_lines<W: Sink>(
     prospect: Prospect,
     entered: Moment,
     output: &mut W,
-) -> Result<u8, ControlFault> {
+) -> Result<u8, ControlFault>
+    ensures lines { IfOk result (λ _. (text : List ℕ)
+        × AreLinesOf (commands_of entered prospect) text
+        × Delivers (W.state output.old) (W.state output.new) text) }
+    ensures status { IfOk result (λ status. status ≡ (if prospect.named == 0 then 0 else 1)) }
+{
     let status = if prospect.named == 0 { 0 } else { 1 };
     let lines = lines_of(alloc, prospect, entered)?;
     print(output, lines.as_slice())?;
@@ -140,9 +147,11 @@ fn restore_by<F: Files + Clock, G: Gateway, W: Sink, E: Sink>(
     output: &mut W,
     errors: &mut E,
 ) -> Result<u8, ControlFault>
-    ensures { IfOk result (λ status. IsPlanned prospect → status ≡ 0
+    ensures restored { IfOk result (λ status. IsPlanned prospect → status ≡ 0
         → (order.now.dry_run ≡ true) ⊎ (AreSent G.has_results
         × IsRestored G.shows G.has_others order.now.table.now order.now.entered)) }
+    ensures dry_run { IfOk result (λ status. IsPlanned prospect → order.now.dry_run ≡ true
+        → IsDryRun order.now.entered status (W.state output.old) (W.state output.new)) }
 {
     print(errors, prospect.lines.as_slice())?;
     let dry_run = order.dry_run;
@@ -165,9 +174,13 @@ pub fn restore_to<F: Files + Clock, G: Gateway, W: Sink, E: Sink>(
     output: &mut W,
     errors: &mut E,
 ) -> Result<u8, ControlFault>
-    ensures { IfOk result (λ status. status ≡ 0
+    ensures restored { IfOk result (λ status. status ≡ 0
         → (order.now.dry_run ≡ true) ⊎ (AreSent G.has_results
         × IsRestored G.shows G.has_others order.now.table.now order.now.entered)) }
+
+    // A dry run prints what would be sent, unless that can't be planned.
+    ensures dry_run { IfOk result (λ status. order.now.dry_run ≡ true → (2 ≤ status)
+        ⊎ IsDryRun order.now.entered status (W.state output.old) (W.state output.new)) }
 {
     match prospect_of(rt, alloc, order.options, order.kept, order.entered) {
         Ok(prospect) => {

@@ -1,6 +1,7 @@
 //! What is sent to a gateway, and what it shows then.
 
 ghost use Rattle.std.specs.Prelude.{◌≡◌, IfOk};
+ghost use Rattle.operator_restoring.specs.Lines.{IsLineOf, AreLinesOf, commands_of};
 ghost use Rattle.operator_restoring.specs.Restored.{IsPlanned, IsSentOn, IsRestored};
 
 use crate::gateway::Gateway;
@@ -17,39 +18,37 @@ use std::alloc::{AllocError, Global};
 
 // ---- commands
 
-// Appends the line of a command, where one can hold it, and otherwise its text with escapes: a packet
-// holds an LF.
-fn push_line(alloc: Global, out: &mut Vec<u8>, command: &Command) -> Result<(), AllocError> {
+// The line of a command, where one can hold it, and otherwise its text with escapes: a packet holds
+// an LF.
+fn line_of(alloc: Global, command: &Command) -> Result<Vec<u8>, AllocError>
+    ensures { IfOk result (λ line. IsLineOf command.now line.items) }
+{
     if writable(command) {
-        out.extend_from_slice(write_line(alloc, command)?.as_slice())?;
-    } else {
-        push_escaped(out, write_body(alloc, &command.body)?.as_slice())?;
+        return write_line(alloc, command);
     }
-    out.extend_from_slice(b"\n")
+    let text = write_body(alloc, &command.body)?;
+    let mut line = Vec::new(alloc);
+    push_escaped(&mut line, text.as_slice())?;
+    Ok(line)
 }
 
-fn push_lines(
-    alloc: Global,
-    out: &mut Vec<u8>,
-    entered: Moment,
-    bodies: Vec<Body>,
-) -> Result<(), AllocError> {
-    for command in &entered_at(alloc, entered, bodies)? {
-        push_line(alloc, out, command)?;
-    }
-    Ok(())
-}
-
-/// The lines of all that is sent.
-pub fn lines_of(alloc: Global, prospect: Prospect, entered: Moment) -> Result<Vec<u8>, AllocError> {
+/// The lines of all that is sent. The only error is out of memory.
+pub fn lines_of(alloc: Global, prospect: Prospect, entered: Moment) -> Result<Vec<u8>, AllocError>
+    ensures { IfOk result (λ lines. AreLinesOf (commands_of entered prospect) lines.items) }
+{
     let Prospect {
-        results,
-        others,
+        results: mut bodies,
+        mut others,
         ..
     } = prospect;
+    bodies.append(&mut others)?;
+    let commands = entered_at(alloc, entered, bodies)?;
     let mut lines = Vec::new(alloc);
-    push_lines(alloc, &mut lines, entered, results)?;
-    push_lines(alloc, &mut lines, entered, others)?;
+    for command in &commands {
+        let line = line_of(alloc, command)?;
+        lines.extend_from_slice(line.as_slice())?;
+        lines.extend_from_slice(b"\n")?;
+    }
     Ok(lines)
 }
 
