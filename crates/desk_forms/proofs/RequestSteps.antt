@@ -1,7 +1,12 @@
--- What a form lacks, and the request that it asks for where it lacks nothing.
-use Rattle.std.proofs.Common.{◌≡◌, List, [], codes, unwrap_or, Option, Some, None, refl, inl, inr}
+-- What a form lacks, and the request that it asks for where it lacks nothing, with that one's fault.
+use Rattle.std.proofs.Common.{◌≡◌, List, [], codes, unwrap_or, Option, Some, None, option_map, refl, sym, ap, ◌∙◌, inl, inr}
+use Rattle.std.specs.Prelude.{◌≢◌, option_and_then}
+use Rattle.gate_model.specs.declared.record.Moment.{Moment}
 use Rattle.status_reading.specs.Rows.{PageView}
 use Rattle.operator_commands.specs.declared.request.Request.{Request}
+use Rattle.operator_effects.specs.declared.commands.PlanFault.{PlanFault}
+use Rattle.operator_effects.specs.declared.commands.PlanFault.TheVariants as plan
+use Rattle.operator_effects.specs.Commands as commands
 use Rattle.desk_forms.specs.declared.fields.Field.{Field}
 use Rattle.desk_forms.specs.declared.requests.Action.{Action}
 use Rattle.desk_forms.specs.declared.requests.Action.TheVariants.{Acknowledge, Unacknowledge, Comment, Uncomment, Downtime, Cancel, Passive}
@@ -10,7 +15,8 @@ use Rattle.desk_forms.specs.declared.requests.FormFault.TheVariants as faults
 use Rattle.desk_forms.specs.Fields.{given}
 use Rattle.desk_forms.specs.Moments.{◌>>=◌}
 use Rattle.desk_forms.specs.Requests.{action_of, object_on, remark_in, request_for, request_of, IsMissing}
-use Rattle.desk_forms.specs.Faults.{needing, fault_for, first_fault, IsFirst}
+use Rattle.desk_forms.specs.Sender.{Sender}
+use Rattle.desk_forms.specs.Faults.{needing, fault_for, first_fault, IsFirst, form_fault, IsFormFault}
 
 -- a fault of the first that is needed
 pub first_needs : {A : Type 0} (value : Option A) (missing fault : FormFault) (next : Option FormFault)
@@ -101,3 +107,16 @@ pub nothing_lacks : (page : PageView) (fields : List Field) (asked : Request)
     → request_of page fields ≡ Some asked → first_fault page fields ≡ None
 nothing_lacks page fields asked is =
     fault_by (action_of (unwrap_or (given (codes "action") fields) [])) page fields asked is
+
+-- a fault of its request is the form's
+pub faulty_form : (page : PageView) (now : Moment) (form : Sender) (asked : Request) (found given : PlanFault)
+    → request_of page form.fields ≡ Some asked → found ≡ given → (given ≡ plan.OutOfMemory → ⊥)
+    → (found ≢ plan.OutOfMemory → commands.first_fault now form.user asked ≡ Some found)
+    → IsFormFault page now form (form_fault given)
+faulty_form page now form asked found given is same ample faulty =
+    let first : commands.first_fault now form.user asked ≡ Some given = faulty (λ memory. ample (sym same ∙ memory)) ∙ ap Some same in
+    inr (
+      nothing_lacks page form.fields asked is,
+      ap (λ (request : Option Request). option_map form_fault (option_and_then (commands.first_fault now form.user) request)) is
+          ∙ ap (option_map form_fault) first,
+    )

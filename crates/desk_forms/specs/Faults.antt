@@ -1,15 +1,20 @@
--- Why a form asks for no command on a page (`first_fault`, `IsFormFault`), and the words for it (`words_of`). Own rules.
-use Rattle.std.specs.Prelude.{◌≡◌, ◌⊎◌, ℕ, List, [], Option, Some, None, unwrap_or, codes}
+-- Why a form asks for no command on a page (`first_fault`, `request_fault`, `IsFormFault`), and the words for it (`words_of`). Own rules.
+use Rattle.std.specs.Prelude.{◌≡◌, ◌⊎◌, ℕ, List, [], Option, Some, None, option_map, option_and_then, unwrap_or, codes}
+use Rattle.gate_model.specs.declared.record.Moment.{Moment}
 use Rattle.status_reading.specs.Rows.{PageView}
 use Rattle.operator_commands.specs.declared.bodies.RequestFault.{RequestFault}
 use Rattle.operator_commands.specs.declared.bodies.RequestFault.TheVariants.{BadState, BadSetting, ServicesOfService, BadTime, BadSpan, BadId, NoEnd, NoCommand}
+use Rattle.operator_effects.specs.declared.commands.PlanFault.{PlanFault}
+use Rattle.operator_effects.specs.declared.commands.PlanFault.TheVariants as plan
+use Rattle.operator_effects.specs.Commands as commands
 use Rattle.desk_forms.specs.declared.fields.Field.{Field}
 use Rattle.desk_forms.specs.declared.requests.Action.{Action}
 use Rattle.desk_forms.specs.declared.requests.Action.TheVariants.{Acknowledge, Unacknowledge, Comment, Uncomment, Downtime, Cancel, Passive}
 use Rattle.desk_forms.specs.declared.requests.FormFault.{FormFault}
 use Rattle.desk_forms.specs.declared.requests.FormFault.TheVariants as fault
 use Rattle.desk_forms.specs.Fields.{given}
-use Rattle.desk_forms.specs.Requests.{action_of, object_on, remark_in, request_for}
+use Rattle.desk_forms.specs.Sender.{Sender}
+use Rattle.desk_forms.specs.Requests.{action_of, object_on, remark_in, request_for, request_of}
 
 -- the fault where this value is missing, and otherwise what is next
 abbrev pub needing : {A : Type 0} → Option A → FormFault → Option FormFault → Option FormFault
@@ -47,11 +52,22 @@ first_fault page fields = elim (action_of (unwrap_or (given (codes "action") fie
 abbrev pub IsFirst : Option FormFault → FormFault → Type 0
 IsFirst first given = (given ≡ fault.OutOfMemory) ⊎ (first ≡ Some given)
 
--- why a form asks for no command: what it lacks, or else that a time, a span or a setting is none
-abbrev pub IsFormFault : PageView → List Field → FormFault → Type 0
-IsFormFault page fields given =
-    IsFirst (first_fault page fields) given
-    ⊎ ((cause : RequestFault) × (given ≡ fault.Request cause) × (first_fault page fields ≡ None))
+-- the fault of a form whose request has this one
+abbrev pub form_fault : PlanFault → FormFault
+form_fault (plan.Request cause) = fault.Request cause
+form_fault plan.NoObject = fault.Request NoCommand
+form_fault plan.OutOfMemory = fault.OutOfMemory
+
+-- the first fault of the form's request, which its user asks for now
+abbrev pub request_fault : PageView → Moment → Sender → Option FormFault
+request_fault page now form =
+    option_map form_fault (option_and_then (commands.first_fault now form.user) (request_of page form.fields))
+
+-- why a form asks for no command: what it lacks, or else the fault of its request
+abbrev pub IsFormFault : PageView → Moment → Sender → FormFault → Type 0
+IsFormFault page now form given =
+    IsFirst (first_fault page form.fields) given
+    ⊎ ((first_fault page form.fields ≡ None) × (request_fault page now form ≡ Some given))
 
 -- ---- the words
 

@@ -1,9 +1,9 @@
 pub mod Fields
 pub mod Moments
 pub mod Requests
+pub mod Sender
 pub mod Faults
 pub mod Offers
-pub mod Sender
 pub mod Admitted
 pub mod Commands
 pub mod Marks

@@ -25,7 +25,7 @@ fn commands_on(
     ensures one { IfOk result (λ bodies. length bodies.items ≡ 1) }
     ensures allowed { IfOk result (λ bodies.
         AllByRecursion (IsAllowed (page_view page.now) form.now.user) bodies.items) }
-    ensures refused { IfErr result (IsFormFault (page_view page.now) form.now.fields) }
+    ensures refused { IfErr result (IsFormFault (page_view page.now) now form.now) }
 {
     let request = request_of(alloc, page, form.fields())?;
     let user = Text::copied(alloc, form.user().bytes())?;
@@ -54,7 +54,7 @@ pub fn command_on(
     // it is no check result and no SHUTDOWN_PROGRAM.
     ensures allowed { IfOk result (IsAllowed (page_view page.now) form.now.user) }
 
-    ensures refused { IfErr result (IsFormFault (page_view page.now) form.now.fields) }
+    ensures refused { IfErr result (IsFormFault (page_view page.now) now form.now) }
 {
     let mut bodies = commands_on(alloc, page, now, form)?;
     match bodies.pop() {

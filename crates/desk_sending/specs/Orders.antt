@@ -51,7 +51,7 @@ IsUnwritable command other = ⊥
 
 -- why there is none
 abbrev pub IsObjection : PageView → Moment → Sender → Objection → Type 0
-IsObjection page now form (Form fault) = IsFormFault page form.fields fault
+IsObjection page now form (Form fault) = IsFormFault page now form fault
 IsObjection page now form (Refused body outcome) =
     IsCommandOf page now form body × (outcome_on page body ≡ outcome) × (outcome ≢ Accepted)
 IsObjection page now form (Unwritable body) =

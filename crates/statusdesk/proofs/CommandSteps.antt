@@ -1,15 +1,13 @@
 -- What became of a form at a gateway.
-use Rattle.std.proofs.Common.{◌≡◌, ℕ, ◌+◌, ◌<◌, ◌≤◌, Bool, true, false, if◌then◌else◌, List, [], ◌∷◌, ◌++◌, length, get_or, drop, Some, inl, inr, refl, sym, subst, append_assoc, append-nil}
+use Rattle.std.proofs.Common.{◌≡◌, ℕ, ◌+◌, ◌<◌, ◌≤◌, Bool, true, false, if◌then◌else◌, List, [], ◌∷◌, ◌++◌, length, get_or, drop, inl, inr, refl, sym, subst, append_assoc, append-nil}
 use Rattle.std.proofs.lemmas.Bool.{cases_Bool}
 use Rattle.std.proofs.lemmas.List.{drop_more, drop_all}
 use Rattle.gate_model.specs.declared.record.Moment.{Moment}
 use Rattle.status_reading.specs.Rows.{PageView}
-use Rattle.operator_commands.specs.declared.bodies.RequestFault.{RequestFault}
 use Rattle.page_watching.specs.declared.watching.Seen.{Seen}
-use Rattle.desk_forms.specs.declared.requests.FormFault.{FormFault}
 use Rattle.desk_forms.specs.declared.requests.FormFault.TheVariants as fault
-use Rattle.desk_forms.specs.Faults.{first_fault, IsFormFault}
 use Rattle.desk_forms.specs.Sender.{Sender}
+use Rattle.desk_forms.proofs.FaultSteps.{no_object_lacks, no_entry_lacks}
 use Rattle.desk_sending.specs.declared.orders.Objection.{Objection}
 use Rattle.desk_sending.specs.declared.orders.Objection.TheVariants as objection
 use Rattle.desk_sending.specs.Orders.{is_asked, IsObjection}
@@ -24,15 +22,9 @@ use Rattle.statusdesk.specs.inner.Carrying.{IsPosted, objected}
 -- ---- a page that doesn't show what a form names
 
 module _ (page : PageView) (now : Moment) (form : Sender) where
-  not_shown : (why : FormFault) → IsFormFault page form.fields why → (why ≡ fault.OutOfMemory → ⊥)
-      → ((cause : RequestFault) → why ≡ fault.Request cause → ⊥) → first_fault page form.fields ≡ Some why
-  not_shown why (inl (inl memory)) ample words = absurd (ample memory)
-  not_shown why (inl (inr is)) ample words = is
-  not_shown why (inr (cause, is, none)) ample words = absurd (words cause is)
-
   elsewhere : (why : Objection) → IsObjection page now form why → is_elsewhere why ≡ true → IsElsewhere page form
-  elsewhere (objection.Form fault.NoObject) is away = inl (not_shown fault.NoObject is (λ same. cc) (λ cause same. cc))
-  elsewhere (objection.Form fault.NoEntry) is away = inr (not_shown fault.NoEntry is (λ same. cc) (λ cause same. cc))
+  elsewhere (objection.Form fault.NoObject) is away = inl (no_object_lacks page now form is)
+  elsewhere (objection.Form fault.NoEntry) is away = inr (no_entry_lacks page now form is)
   elsewhere (objection.Form fault.NoAction) is away = cc
   elsewhere (objection.Form fault.NoText) is away = cc
   elsewhere (objection.Form fault.NoMarks) is away = cc

@@ -1,7 +1,6 @@
-use Rattle.std.proofs.Common.{Option, Some}
 use Rattle.std.proofs.lemmas.Result.{err_from_is_err_and}
 use Rattle.status_reading.specs.Rows.{page_view}
-use Rattle.desk_forms.specs.Requests.{object_on, remark_in}
+use Rattle.desk_forms.specs.Requests.{object_on}
 use Rattle.desk_forms.proofs.RequestSteps.{first_needs, next_needs}
 use Rattle.desk_forms.proofs.requests.comment.Goals as goal
 
