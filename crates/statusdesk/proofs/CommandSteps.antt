@@ -1,10 +1,12 @@
 -- What became of a form at a gateway.
-use Rattle.std.proofs.Common.{◌≡◌, ℕ, ◌+◌, ◌<◌, ◌≤◌, Bool, true, false, if◌then◌else◌, List, [], ◌∷◌, ◌++◌, length, get_or, drop, inl, inr, refl, sym, subst, append_assoc, append-nil}
+use Rattle.std.proofs.Common.{◌≡◌, ℕ, ◌+◌, ◌<◌, ◌≤◌, Bool, true, false, if◌then◌else◌, List, [], ◌∷◌, ◌++◌, length, map, get_or, drop, inl, inr, refl, sym, subst, append_assoc, append-nil}
 use Rattle.std.proofs.lemmas.Bool.{cases_Bool}
 use Rattle.std.proofs.lemmas.List.{drop_more, drop_all}
 use Rattle.gate_model.specs.declared.record.Moment.{Moment}
 use Rattle.status_reading.specs.Rows.{PageView}
+use Rattle.http_server.specs.declared.response.Response.{Response}
 use Rattle.page_watching.specs.declared.watching.Seen.{Seen}
+use Rattle.page_watching.specs.Watching.{seen_place}
 use Rattle.desk_forms.specs.declared.requests.FormFault.TheVariants as fault
 use Rattle.desk_forms.specs.Sender.{Sender}
 use Rattle.desk_forms.proofs.FaultSteps.{no_object_lacks, no_entry_lacks}
@@ -16,7 +18,9 @@ use Rattle.statusdesk.specs.declared.commanding.Done.{Done}
 use Rattle.statusdesk.specs.declared.commanding.Done.TheVariants.{NotAsked, Objected, Untaken, Taken}
 use Rattle.statusdesk.specs.Posted.{PostedView}
 use Rattle.statusdesk.specs.Kept.{IsKeptOf}
-use Rattle.statusdesk.specs.Commanding.{is_elsewhere, IsElsewhere, IsDone, AreDone}
+use Rattle.statusdesk.specs.Taking.{posted_in}
+use Rattle.statusdesk.specs.Objects.{DeskView}
+use Rattle.statusdesk.specs.Commanding.{is_elsewhere, IsElsewhere, IsDone, AreDone, first_code, Reports, IsCommanded}
 use Rattle.statusdesk.specs.inner.Carrying.{IsPosted, objected}
 
 -- ---- a page that doesn't show what a form names
@@ -79,3 +83,11 @@ pub done_all : (clock : ℕ) (form : Sender) (gateways : List Seen) (index : ℕ
 done_all clock form gateways index all over so_far =
     subst (λ (whole : List Done). AreDone clock form gateways whole) (append-nil all)
     (so_far [] (subst (λ (left : List Seen). AreDone clock form left []) (sym (drop_all index gateways over)) tt))
+
+-- the form was carried out at the gateways
+pub commanded : (desk : DeskView) (clock : ℕ) (form : Sender) (seen : List Seen) (all : List Done) (taken : List PostedView)
+    (response : Response)
+    → map seen_place seen ≡ desk.places → AreDone clock form seen all → taken ≡ posted_in all
+    → Reports desk clock form seen all (first_code all) response → IsCommanded desk clock form taken response
+commanded desk clock form seen all taken response at each these reported =
+    record { seen = seen; all = all; at = at; each = each; taken_are = these; reported = reported }

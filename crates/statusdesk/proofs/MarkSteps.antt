@@ -10,6 +10,8 @@ use Rattle.desk_forms.specs.declared.admitting.AdmitFault.{AdmitFault}
 use Rattle.desk_forms.specs.Sender.{Sender}
 use Rattle.desk_forms.specs.Marks.{marks_of, sender_for}
 use Rattle.statusdesk.specs.declared.commanding.Done.{Done}
+use Rattle.statusdesk.specs.Posted.{PostedView}
+use Rattle.statusdesk.specs.Taking.{all_posted}
 use Rattle.statusdesk.specs.Objects.{DeskView}
 use Rattle.statusdesk.specs.Commanding.{AreDone, IsTested}
 use Rattle.statusdesk.specs.Said.{said_of_marks}
@@ -49,14 +51,15 @@ module _ (clock : ℕ) (form : Sender) (seen : List Seen) (marks : List (Bor (Li
 
 -- the form was carried out for the marks that it has
 pub marked : (desk : DeskView) (clock : ℕ) (form : Sender) (seen : List Seen) (query : List ℕ) (marks : List (List ℕ)) (all : List (List Done))
-    (response : Response)
-    → map seen_place seen ≡ desk.places → marks ≡ marks_of form.fields → AreMarked clock form seen marks all
+    (taken : List PostedView) (response : Response)
+    → map seen_place seen ≡ desk.places → marks ≡ marks_of form.fields → AreMarked clock form seen marks all → taken ≡ all_posted all
     → ReportsMarks desk clock seen form.user query (said_of_marks seen marks all) (marks_code all) response
-    → IsMarked desk clock form query response
-marked desk clock form seen query marks all response at are each reported =
-    let carried : AreCarriedOut desk clock form seen query response = record {
+    → IsMarked desk clock form query taken response
+marked desk clock form seen query marks all taken response at are each these reported =
+    let carried : AreCarriedOut desk clock form seen query taken response = record {
       all = all;
       each = subst (λ (marks : List (List ℕ)). AreMarked clock form seen marks all) are each;
+      taken_are = these;
       reported = subst
           (λ (marks : List (List ℕ)). ReportsMarks desk clock seen form.user query (said_of_marks seen marks all) (marks_code all) response)
           are reported;
@@ -64,8 +67,9 @@ marked desk clock form seen query marks all response at are each reported =
     (seen, at, inl carried)
 
 -- what is answered to a tested request, by the query that it has
-pub answered : (desk : DeskView) (clock : ℕ) (request : Request (List ℕ)) (query : List ℕ) (tested : Result Sender AdmitFault) (response : Response)
-    → query ≡ query_of request → IsTested desk.guard clock request tested → IsMarksAnswerTo desk clock query tested response
-    → IsCommandsAnswer desk clock request response
-answered desk clock request query tested response asked test is =
-    (tested, test, subst (λ (query : List ℕ). IsMarksAnswerTo desk clock query tested response) asked is)
+pub answered : (desk : DeskView) (clock : ℕ) (request : Request (List ℕ)) (query : List ℕ) (tested : Result Sender AdmitFault)
+    (taken : List PostedView) (response : Response)
+    → query ≡ query_of request → IsTested desk.guard clock request tested → IsMarksAnswerTo desk clock query tested taken response
+    → IsCommandsAnswer desk clock request taken response
+answered desk clock request query tested taken response asked test is =
+    (tested, test, subst (λ (query : List ℕ). IsMarksAnswerTo desk clock query tested taken response) asked is)

@@ -1,6 +1,6 @@
 -- What is answered to a request for `/command` (`IsCommandAnswer`): it is refused, or its form is admitted, and at each
 -- gateway that the form is for its order on the page that is kept of it is put into that gateway's outbox, or the page
--- objects. Own rules.
+-- objects; and no other order is put into one. Own rules.
 use Rattle.std.specs.Prelude.{◌≡◌, ◌⊎◌, ℕ, Bool, true, false, List, [], ◌∷◌, ◌++◌, map, Option, Some, None, Result, Ok, Err, codes, ⊤}
 use Rattle.std.specs.Fmt.{decimal}
 use Rattle.std.specs.List.{list_any}
@@ -31,6 +31,8 @@ use Rattle.desk_sending.specs.Orders.{is_asked, IsObjection}
 use Rattle.desk_outbox.specs.Labels.{LabelledView, host_in, service_in, IsLabelledOf}
 use Rattle.statusdesk.specs.declared.commanding.Done.{Done}
 use Rattle.statusdesk.specs.declared.commanding.Done.TheVariants.{NotAsked, Objected, Untaken, Taken}
+use Rattle.statusdesk.specs.Posted.{PostedView}
+use Rattle.statusdesk.specs.Taking.{posted_in}
 use Rattle.statusdesk.specs.Responses.{IsRefusedWith, IsSentTo}
 use Rattle.statusdesk.specs.Kept.{IsKeptOf, IsNotKept}
 use Rattle.statusdesk.specs.Objects.{DeskView, IsObjectPage}
@@ -126,12 +128,14 @@ abbrev pub Reports : DeskView → ℕ → Sender → List Seen → List Done →
 Reports desk clock form seen all (Some code) response = IsNoted desk clock code form seen (said_of [] seen all) response
 Reports desk clock form seen all None response = IsTakenAnswer clock form (list_any is_taken all) response
 
--- the form was carried out at the gateways
-pub record IsCommanded (desk : DeskView) (clock : ℕ) (form : Sender) (response : Response) : Type 0 where
+-- the form was carried out at the gateways, and these are the orders that outboxes have taken in, each once
+pub record IsCommanded (desk : DeskView) (clock : ℕ) (form : Sender) (taken : List PostedView) (response : Response)
+    : Type 0 where
   pub seen : List Seen
   pub all : List Done
   pub at : map seen_place seen ≡ desk.places
   pub each : AreDone clock form seen all
+  pub taken_are : taken ≡ posted_in all
   pub reported : Reports desk clock form seen all (first_code all) response
 
 -- the answer to a form that isn't admitted; for one that was sent before it is the way to this page
@@ -144,12 +148,14 @@ abbrev pub IsTested : Guard → ℕ → Request (List ℕ) → Result Sender Adm
 IsTested guard clock request (Ok form) = (sent : List SentForm) × IsAdmitted guard sent request clock form
 IsTested guard clock request (Err fault) = (sent : List SentForm) × IsRefused guard sent request clock fault
 
--- what is answered to the form that a request is admitted with, or to why it isn't: nothing is sent then
-abbrev pub IsAnswerTo : DeskView → ℕ → Request (List ℕ) → Result Sender AdmitFault → Response → Type 0
-IsAnswerTo desk clock request (Ok form) response = IsCommanded desk clock form response
-IsAnswerTo desk clock request (Err fault) response = IsFaultAnswer (link_of (fields_of (body_of request))) fault response
+-- what is answered to the form that a request is admitted with, or to why it isn't: no outbox takes in anything then
+abbrev pub IsAnswerTo : DeskView → ℕ → Request (List ℕ) → Result Sender AdmitFault → List PostedView → Response → Type 0
+IsAnswerTo desk clock request (Ok form) taken response = IsCommanded desk clock form taken response
+IsAnswerTo desk clock request (Err fault) taken response =
+    (taken ≡ []) × IsFaultAnswer (link_of (fields_of (body_of request))) fault response
 
-abbrev pub IsCommandAnswer : DeskView → ℕ → Request (List ℕ) → Response → Type 0
-IsCommandAnswer desk clock request response =
+-- what is answered, where outboxes have taken in these orders for it
+abbrev pub IsCommandAnswer : DeskView → ℕ → Request (List ℕ) → List PostedView → Response → Type 0
+IsCommandAnswer desk clock request taken response =
     (tested : Result Sender AdmitFault) × IsTested desk.guard clock request tested
-    × IsAnswerTo desk clock request tested response
+    × IsAnswerTo desk clock request tested taken response

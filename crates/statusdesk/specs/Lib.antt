@@ -5,6 +5,7 @@ pub mod Notes
 pub mod Kept
 pub mod Objects
 pub mod Said
+pub mod Taking
 pub mod Commanding
 pub mod Marks
 pub mod Marking

@@ -1,5 +1,6 @@
 -- What is answered to a request for `/commands` (`IsCommandsAnswer`): it is refused, or its form is admitted, and for each
--- mark of it in order the form for that mark is carried out as at `/command`. Own rules.
+-- mark of it in order the form for that mark is carried out as at `/command`, and no other order is put into an outbox. Own
+-- rules.
 use Rattle.std.specs.Prelude.{◌≡◌, ◌⊎◌, ℕ, false, List, [], ◌∷◌, map, Option, Some, None, Result, Ok, Err, codes, if◌then◌else◌, unwrap_or, ⊤}
 use Rattle.std.specs.declared.alloc.Global.{Global}
 use Rattle.std.specs.Prelude.{Vec}
@@ -17,6 +18,8 @@ use Rattle.desk_forms.specs.Sender.{Sender}
 use Rattle.desk_forms.specs.Marks.{marks_of, sender_for, IsMarksFault}
 use Rattle.desk_forms.specs.Requests as requests
 use Rattle.statusdesk.specs.declared.commanding.Done.{Done}
+use Rattle.statusdesk.specs.Posted.{PostedView}
+use Rattle.statusdesk.specs.Taking.{all_posted}
 use Rattle.statusdesk.specs.Responses.{IsSentTo}
 use Rattle.statusdesk.specs.Objects.{DeskView}
 use Rattle.statusdesk.specs.Notes.{SaidView, note_of}
@@ -63,31 +66,34 @@ ReportsMarks desk clock seen user query said (Some code) response =
     IsMarksNoted desk clock code seen user query said response
 ReportsMarks desk clock seen user query said None response = IsSentTo (marks_after clock query) response
 
--- the form was carried out for its marks
+-- the form was carried out for its marks, and these are the orders that outboxes have taken in, each once
 pub record AreCarriedOut (desk : DeskView) (clock : ℕ) (form : Sender) (seen : List Seen) (query : List ℕ)
-    (response : Response) : Type 0 where
+    (taken : List PostedView) (response : Response) : Type 0 where
   pub all : List (List Done)
   pub each : AreMarked clock form seen (marks_of form.fields) all
+  pub taken_are : taken ≡ all_posted all
   pub reported : ReportsMarks desk clock seen form.user query (said_of_marks seen (marks_of form.fields) all)
       (marks_code all) response
 
--- it was, or it has no marks that count, and then nothing is sent
-abbrev pub IsMarked : DeskView → ℕ → Sender → List ℕ → Response → Type 0
-IsMarked desk clock form query response =
+-- it was, or it has no marks that count, and then no outbox takes in anything
+abbrev pub IsMarked : DeskView → ℕ → Sender → List ℕ → List PostedView → Response → Type 0
+IsMarked desk clock form query taken response =
     (seen : List Seen) × (map seen_place seen ≡ desk.places)
-    × (AreCarriedOut desk clock form seen query response
-    ⊎ ((fault : FormFault) × IsMarksFault form.fields fault
+    × (AreCarriedOut desk clock form seen query taken response
+    ⊎ ((fault : FormFault) × IsMarksFault form.fields fault × (taken ≡ [])
     × IsMarksNoted desk clock (requests.status_of fault) seen form.user query (said_of_fault fault) response))
 
--- what is answered to the form that a request is admitted with, or to why it isn't: nothing is sent then
-abbrev pub IsMarksAnswerTo : DeskView → ℕ → List ℕ → Result Sender AdmitFault → Response → Type 0
-IsMarksAnswerTo desk clock query (Ok form) response = IsMarked desk clock form query response
-IsMarksAnswerTo desk clock query (Err fault) response = IsFaultAnswer (marks_link query) fault response
+-- what is answered to the form that a request is admitted with, or to why it isn't: no outbox takes in anything then
+abbrev pub IsMarksAnswerTo : DeskView → ℕ → List ℕ → Result Sender AdmitFault → List PostedView → Response → Type 0
+IsMarksAnswerTo desk clock query (Ok form) taken response = IsMarked desk clock form query taken response
+IsMarksAnswerTo desk clock query (Err fault) taken response =
+    (taken ≡ []) × IsFaultAnswer (marks_link query) fault response
 
 abbrev pub query_of : Request (List ℕ) → List ℕ
 query_of request = unwrap_or (uri_query (head_of request).uri) []
 
-abbrev pub IsCommandsAnswer : DeskView → ℕ → Request (List ℕ) → Response → Type 0
-IsCommandsAnswer desk clock request response =
+-- what is answered, where outboxes have taken in these orders for it
+abbrev pub IsCommandsAnswer : DeskView → ℕ → Request (List ℕ) → List PostedView → Response → Type 0
+IsCommandsAnswer desk clock request taken response =
     (tested : Result Sender AdmitFault) × IsTested desk.guard clock request tested
-    × IsMarksAnswerTo desk clock (query_of request) tested response
+    × IsMarksAnswerTo desk clock (query_of request) tested taken response

@@ -29,6 +29,7 @@ use Rattle.desk_outbox.specs.declared.showing.Asked.{Asked}
 use Rattle.desk_outbox.specs.Labels.{host_in, service_in}
 use Rattle.statusdesk.specs.declared.service.Route.{Route}
 use Rattle.statusdesk.specs.declared.service.Route.TheVariants.{Status, Changes, Style, Object, Marks}
+use Rattle.statusdesk.specs.Posted.{PostedView}
 use Rattle.statusdesk.specs.Responses.{IsRefusedWith}
 use Rattle.statusdesk.specs.Objects.{DeskView, AreKnown, IsObjectPage}
 use Rattle.statusdesk.specs.Notes.{SaidView, AreOwn, note_of, are_settled}
@@ -172,27 +173,28 @@ is_command path = bytes_eq path (codes "/command")
 abbrev pub is_commands : List ℕ → Bool
 is_commands path = bytes_eq path (codes "/commands")
 
--- what is answered at `/commands`, or at another path
-abbrev pub IsOtherAnswer : Bool → DeskView → ℕ → Request (List ℕ) → Response → Type 0
-IsOtherAnswer true desk clock request response = IsCommandsAnswer desk clock request response
-IsOtherAnswer false desk clock request response =
-    IsMethodAnswer (body_asked (head_of request).method) desk clock request response
+-- what is answered at `/commands`, or at another path, where no outbox takes in anything
+abbrev pub IsOtherAnswer : Bool → DeskView → ℕ → Request (List ℕ) → List PostedView → Response → Type 0
+IsOtherAnswer true desk clock request taken response = IsCommandsAnswer desk clock request taken response
+IsOtherAnswer false desk clock request taken response =
+    (taken ≡ []) × IsMethodAnswer (body_asked (head_of request).method) desk clock request response
 
 -- what is answered at `/command`, or at another path
-abbrev pub IsPathAnswer : Bool → DeskView → ℕ → Request (List ℕ) → Response → Type 0
-IsPathAnswer true desk clock request response = IsCommandAnswer desk clock request response
-IsPathAnswer false desk clock request response =
-    IsOtherAnswer (is_commands (uri_path (head_of request).uri)) desk clock request response
+abbrev pub IsPathAnswer : Bool → DeskView → ℕ → Request (List ℕ) → List PostedView → Response → Type 0
+IsPathAnswer true desk clock request taken response = IsCommandAnswer desk clock request taken response
+IsPathAnswer false desk clock request taken response =
+    IsOtherAnswer (is_commands (uri_path (head_of request).uri)) desk clock request taken response
 
 -- what is answered at a clock, but for its date
-abbrev pub IsAnswerAt : Bool → DeskView → ℕ → Request (List ℕ) → Response → Type 0
-IsAnswerAt true desk clock request response =
-    IsPathAnswer (is_command (uri_path (head_of request).uri)) desk clock request response
-IsAnswerAt false desk clock request response = IsRefusal 421 [] response
+abbrev pub IsAnswerAt : Bool → DeskView → ℕ → Request (List ℕ) → List PostedView → Response → Type 0
+IsAnswerAt true desk clock request taken response =
+    IsPathAnswer (is_command (uri_path (head_of request).uri)) desk clock request taken response
+IsAnswerAt false desk clock request taken response = (taken ≡ []) × IsRefusal 421 [] response
 
--- what is answered to a request
+-- what is answered to a request, where outboxes have taken in these orders for it
 abbrev pub IsAnswer : DeskView → Request (List ℕ) → Response → Type 0
 IsAnswer desk request response =
-    (clock : ℕ) × (plain : Response)
-    × IsAnswerAt (answers_host desk.guard.hosts.items (get (head_of request).headers (codes "host"))) desk clock request plain
+    (clock : ℕ) × (taken : List PostedView) × (plain : Response)
+    × IsAnswerAt (answers_host desk.guard.hosts.items (get (head_of request).headers (codes "host"))) desk clock request
+    taken plain
     × IsDated clock plain response

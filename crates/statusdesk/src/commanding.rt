@@ -1,6 +1,6 @@
 //! A form that is posted: its command is sent to the gateways that it is for.
 
-ghost use Rattle.std.specs.Prelude.{◌≡◌, [], IfOk, OnOk};
+ghost use Rattle.std.specs.Prelude.{◌≡◌, [], ◌++◌, IfOk, OnOk};
 ghost use Rattle.std.specs.List.{list_any};
 ghost use Rattle.http.specs.Request.{body_of};
 ghost use Rattle.http_server.specs.Response.{IsBlank};
@@ -12,12 +12,13 @@ ghost use Rattle.statusdesk.specs.Objects.{desk_view};
 ghost use Rattle.statusdesk.specs.Commanding.{is_elsewhere, IsDone, AreDone, code_of, first_code, link_of, location_after, IsNoted, IsTakenAnswer, Reports, IsCommanded, IsTested, IsFaultAnswer, IsCommandAnswer};
 ghost use Rattle.statusdesk.specs.inner.Repeating.{is_repeated};
 ghost use Rattle.statusdesk.specs.Said.{is_taken, said_of};
+ghost use Rattle.statusdesk.specs.Taking.{posted_at, posted_in};
 ghost use Rattle.statusdesk.specs.inner.Carrying.{IsPosted, objected};
 
 use crate::notes::notes_of;
 use crate::objects::{known_of, object_body, pages_of};
 use crate::pages::ReadPage;
-use crate::posts::{Posted, post_of};
+use crate::posts::{Intake, Posted, post_of};
 use crate::responses::{refuse_with, send_to};
 use crate::said::{is_taken, said_of};
 use crate::service::{Desk, named_in};
@@ -49,14 +50,20 @@ pub enum Done<'a> {
 }
 
 // Puts an order into the outbox of the gateway of this name.
-fn post_order<'a, R: Wait>(desk: &Desk<'a, R>, name: &str, order: Labelled) -> Done<'a>
-    ensures { IsPosted name.now order result }
+fn post_order<'a, R: Wait>(
+    desk: &Desk<'a, R>,
+    name: &str,
+    order: Labelled,
+    intake: &mut Intake<'a>,
+) -> Done<'a>
+    ensures done { IsPosted name.now order result }
+    ensures taken { intake.new ≡ intake.old ++ posted_at result }
 {
     let Some(post) = post_of(desk.posts, name) else {
         // Each gateway has one.
         return Done::Objected(Objection::OutOfMemory);
     };
-    match post.put(desk.site.rt, order) {
+    match post.put(desk.site.rt, order, intake) {
         Ok(posted) => Done::Taken(posted),
         Err(fault) => Done::Untaken(fault),
     }
@@ -72,7 +79,8 @@ fn is_elsewhere(objection: &Objection) -> bool
 }
 
 fn objected<'a>(objection: Objection) -> Done<'a>
-    ensures { result ≡ objected objection }
+    ensures done { result ≡ objected objection }
+    ensures taken { posted_at result ≡ [] }
 {
     if is_elsewhere(&objection) {
         Done::NotAsked
@@ -88,8 +96,10 @@ fn carry_out<'a, R: Wait>(
     now: u32,
     form: &AdmittedForm,
     at: &ReadPage<'_>,
+    intake: &mut Intake<'a>,
 ) -> Done<'a>
-    ensures { IsDone now form.now at.now result }
+    ensures done { IsDone now form.now at.now result }
+    ensures taken { intake.new ≡ intake.old ++ posted_at result }
 {
     if !is_asked(form, at.name()) {
         return Done::NotAsked;
@@ -98,7 +108,7 @@ fn carry_out<'a, R: Wait>(
         return Done::NotAsked;
     };
     match labelled_order(desk.site.alloc, &known.page, Moment(now), form) {
-        Ok(order) => post_order(desk, at.name(), order),
+        Ok(order) => post_order(desk, at.name(), order, intake),
         Err(objection) => objected(objection),
     }
 }
@@ -109,12 +119,14 @@ pub fn carry_out_all<'a, R: Wait>(
     now: u32,
     form: &AdmittedForm,
     pages: &[ReadPage<'_>],
+    intake: &mut Intake<'a>,
 ) -> Result<Vec<Done<'a>>, AllocError>
-    ensures { IfOk result (λ all. AreDone now form.now pages.now all.items) }
+    ensures done { IfOk result (λ all. AreDone now form.now pages.now all.items) }
+    ensures taken { IfOk result (λ all. intake.new ≡ intake.old ++ posted_in all.items) }
 {
     let mut all = Vec::with_capacity(desk.site.alloc, pages.len())?;
     for at in pages {
-        all.push(carry_out(desk, now, form, at))?;
+        all.push(carry_out(desk, now, form, at, intake))?;
     }
     Ok(all)
 }
@@ -236,18 +248,21 @@ fn report<'t, R>(
 }
 
 // Carries out an admitted form at each gateway, and answers. Nothing here waits for a gateway.
-fn command<R: Wait>(
-    desk: &Desk<'_, R>,
+fn command<'a, R: Wait>(
+    desk: &Desk<'a, R>,
     now: u32,
     form: &AdmittedForm,
+    intake: &mut Intake<'a>,
     response: &mut Response,
 ) -> Result<(), AllocError>
-    requires { IsBlank response.old }
-    ensures { OnOk result (IsCommanded (desk_view desk.now) now form.now response.new) }
+    requires blank { IsBlank response.old }
+    requires empty { intake.old ≡ [] }
+    ensures { OnOk result
+        (IsCommanded (desk_view desk.now) now form.now intake.new response.new) }
 {
     let seen = desk.site.watch.seen(desk.site.rt, desk.site.alloc)?;
     let pages = pages_of(desk.site.alloc, seen.as_slice())?;
-    let all = carry_out_all(desk, now, form, pages.as_slice())?;
+    let all = carry_out_all(desk, now, form, pages.as_slice(), intake)?;
     report(desk, now, form, seen.as_slice(), all.as_slice(), response)
 }
 
@@ -311,18 +326,20 @@ fn refuse_form(
 }
 
 /// Answers a request for `/command`: nothing is sent for it unless it is admitted.
-pub fn answer_command<R: Wait>(
-    desk: &Desk<'_, R>,
+pub fn answer_command<'a, R: Wait>(
+    desk: &Desk<'a, R>,
     now: u32,
     request: &Request<Bytes>,
+    intake: &mut Intake<'a>,
     response: &mut Response,
 ) -> Result<(), AllocError>
-    requires { IsBlank response.old }
+    requires blank { IsBlank response.old }
+    requires empty { intake.old ≡ [] }
     ensures { OnOk result
-        (IsCommandAnswer (desk_view desk.now) now request.now response.new) }
+        (IsCommandAnswer (desk_view desk.now) now request.now intake.new response.new) }
 {
     match admit(desk, now, request) {
-        Ok(form) => command(desk, now, &form, response),
+        Ok(form) => command(desk, now, &form, intake, response),
         Err(fault) => refuse_form(desk.site.alloc, request, fault, response),
     }
 }

@@ -1,5 +1,5 @@
 //! A form for several objects: for each that it marks, the form for that object is carried out.
-ghost use Rattle.std.specs.Prelude.{◌≡◌, map, IfOk, OnOk};
+ghost use Rattle.std.specs.Prelude.{◌≡◌, [], ◌++◌, map, IfOk, OnOk};
 ghost use Rattle.http.specs.Request.{body_of};
 ghost use Rattle.http_server.specs.Response.{IsBlank};
 ghost use Rattle.page_watching.specs.Watching.{seen_place};
@@ -8,6 +8,7 @@ ghost use Rattle.desk_forms.specs.Requests.{status_of};
 ghost use Rattle.statusdesk.specs.Objects.{desk_view};
 ghost use Rattle.statusdesk.specs.Notes.{said_view};
 ghost use Rattle.statusdesk.specs.Said.{said_of_marks, said_of_fault};
+ghost use Rattle.statusdesk.specs.Taking.{posted_in, all_posted};
 ghost use Rattle.statusdesk.specs.Commanding.{AreDone, IsFaultAnswer};
 ghost use Rattle.statusdesk.specs.Marks.{marks_link};
 ghost use Rattle.statusdesk.specs.Marking.{AreMarked, mark_code, marks_code, dones_in, IsMarksNoted, ReportsMarks, IsMarked, IsCommandsAnswer};
@@ -17,6 +18,7 @@ use crate::marks::{marks_after, marks_body, marks_link};
 use crate::notes::{Said, notes_of};
 use crate::objects::pages_of;
 use crate::pages::ReadPage;
+use crate::posts::Intake;
 use crate::responses::{refuse_with, send_to};
 use crate::said::{said_of_fault, said_of_marks};
 use crate::service::Desk;
@@ -36,12 +38,14 @@ fn carry_out_mark<'a, R: Wait>(
     form: &AdmittedForm,
     mark: &[u8],
     pages: &[ReadPage<'_>],
+    intake: &mut Intake<'a>,
 ) -> Result<Vec<Done<'a>>, AllocError>
-    ensures { IfOk result (λ all.
+    ensures done { IfOk result (λ all.
         AreDone now (sender_for mark.now form.now) pages.now all.items) }
+    ensures taken { IfOk result (λ all. intake.new ≡ intake.old ++ posted_in all.items) }
 {
     let one = form_for(desk.site.alloc, form, mark)?;
-    carry_out_all(desk, now, &one, pages)
+    carry_out_all(desk, now, &one, pages, intake)
 }
 
 // Carries out the form for each mark, in their order.
@@ -51,13 +55,16 @@ fn carry_out_marks<'a, R: Wait>(
     form: &AdmittedForm,
     marks: &[&[u8]],
     pages: &[ReadPage<'_>],
+    intake: &mut Intake<'a>,
 ) -> Result<Vec<Vec<Done<'a>>>, AllocError>
-    ensures { IfOk result (λ all. AreMarked now form.now pages.now
+    ensures done { IfOk result (λ all. AreMarked now form.now pages.now
         (map (λ mark. mark.now) marks.now) (dones_in all.items)) }
+    ensures taken { IfOk result (λ all.
+        intake.new ≡ intake.old ++ all_posted (dones_in all.items)) }
 {
     let mut all = Vec::with_capacity(desk.site.alloc, marks.len())?;
     for mark in marks {
-        all.push(carry_out_mark(desk, now, form, *mark, pages)?)?;
+        all.push(carry_out_mark(desk, now, form, *mark, pages, intake)?)?;
     }
     Ok(all)
 }
@@ -177,15 +184,18 @@ fn send_fault<'t, R>(
 }
 
 // Carries out an admitted form for each of its marks, and answers. Nothing here waits for a gateway.
-fn command_marks<R: Wait>(
-    desk: &Desk<'_, R>,
+fn command_marks<'a, R: Wait>(
+    desk: &Desk<'a, R>,
     now: u32,
     form: &AdmittedForm,
     query: &str,
+    intake: &mut Intake<'a>,
     response: &mut Response,
 ) -> Result<(), AllocError>
-    requires { IsBlank response.old }
-    ensures { OnOk result (IsMarked (desk_view desk.now) now form.now query.now response.new) }
+    requires blank { IsBlank response.old }
+    requires empty { intake.old ≡ [] }
+    ensures { OnOk result
+        (IsMarked (desk_view desk.now) now form.now query.now intake.new response.new) }
 {
     let alloc = desk.site.alloc;
     let kept = desk.site.watch.seen(desk.site.rt, alloc)?;
@@ -195,7 +205,7 @@ fn command_marks<R: Wait>(
         Err(fault) => return send_fault(desk, now, form, query, seen, fault, response),
     };
     let pages = pages_of(alloc, seen)?;
-    let all = carry_out_marks(desk, now, form, marks.as_slice(), pages.as_slice())?;
+    let all = carry_out_marks(desk, now, form, marks.as_slice(), pages.as_slice(), intake)?;
     report_marks(
         desk,
         now,
@@ -227,19 +237,21 @@ fn refuse_marks(
 }
 
 /// Answers a request for `/commands`: nothing is sent for it unless it is admitted.
-pub fn answer_commands<R: Wait>(
-    desk: &Desk<'_, R>,
+pub fn answer_commands<'a, R: Wait>(
+    desk: &Desk<'a, R>,
     now: u32,
     request: &Request<Bytes>,
+    intake: &mut Intake<'a>,
     response: &mut Response,
 ) -> Result<(), AllocError>
-    requires { IsBlank response.old }
+    requires blank { IsBlank response.old }
+    requires empty { intake.old ≡ [] }
     ensures { OnOk result
-        (IsCommandsAnswer (desk_view desk.now) now request.now response.new) }
+        (IsCommandsAnswer (desk_view desk.now) now request.now intake.new response.new) }
 {
     let query = request.uri().query().unwrap_or("");
     match admit(desk, now, request) {
-        Ok(form) => command_marks(desk, now, &form, query, response),
+        Ok(form) => command_marks(desk, now, &form, query, intake, response),
         Err(fault) => refuse_marks(desk.site.alloc, query, fault, response),
     }
 }

@@ -1,7 +1,7 @@
 //! The operators' ports of the gateways. A thread for each sends the orders in its outbox, one after
 //! another, so a gateway that doesn't answer keeps its own orders waiting and nobody else.
 
-ghost use Rattle.std.specs.Prelude.{◌≡◌, map, IfOk, IfSome};
+ghost use Rattle.std.specs.Prelude.{◌≡◌, [], ◌∷◌, ◌++◌, map, IfOk, IfSome, OnErr};
 ghost use Rattle.desk_outbox.specs.Outbox.{OutboxView};
 ghost use Rattle.desk_outbox.specs.Showing.{shown_in};
 ghost use Rattle.statusdesk.specs.Objects.{place_of};
@@ -14,6 +14,7 @@ use page_watching::{Place, clock};
 use std::alloc::{AllocError, Global};
 use std::marker::Model;
 use std::net::{Net, SocketAddr, TcpListener, TcpStream};
+use std::snapshot::Snapshot;
 use std::sync::atomic::{AtomicBool, Ordering};
 use std::sync::{Condvar, Mutex, Wait};
 use std::thread;
@@ -49,6 +50,48 @@ impl<'a> Model for Posted<'a> {
     ghost Value = { PostedView };
 
     ghost view = { λ posted. record { gateway = posted.gateway.now; order = posted.receipt } };
+}
+
+// The same in a list.
+#[derive(Drop)]
+struct Entry<'a> {
+    gateway: &'a str,
+    order: Snapshot<Labelled>,
+}
+
+impl<'a> Model for Entry<'a> {
+    ghost use Rattle.statusdesk.specs.Posted.{PostedView};
+
+    ghost Value = { PostedView };
+
+    ghost view = { λ entry. record { gateway = entry.gateway.now; order = entry.order.value } };
+}
+
+/// The orders that outboxes have taken in for one request, in order: contracts see them, each with its
+/// gateway's name. `Post::put` alone adds one, and `Desk::call` alone begins a list.
+#[derive(Drop)]
+pub struct Intake<'a> {
+    entries: Vec<Entry<'a>>,
+}
+
+impl<'a> Model for Intake<'a> {
+    ghost use Rattle.std.specs.Prelude.{List};
+    ghost use Rattle.statusdesk.specs.Posted.{PostedView};
+
+    ghost Value = { List PostedView };
+
+    ghost view = { λ intake. intake.entries.items };
+}
+
+impl<'a> Intake<'a> {
+    /// No order yet.
+    pub fn new(alloc: Global) -> Intake<'a>
+        ensures { result ≡ [] }
+    {
+        Intake {
+            entries: Vec::new(alloc),
+        }
+    }
 }
 
 // Sends an order over a connection of its own.
@@ -95,18 +138,33 @@ impl<'a> Post<'a> {
         })
     }
 
-    /// Puts an order into the outbox.
-    pub fn put<R: Wait>(&self, rt: &R, order: Labelled) -> Result<Posted<'a>, TakeFault>
-        ensures { IfOk result (λ posted.
+    /// Puts an order into the outbox, and adds it to the intake of its request.
+    pub fn put<R: Wait>(
+        &self,
+        rt: &R,
+        order: Labelled,
+        intake: &mut Intake<'a>,
+    ) -> Result<Posted<'a>, TakeFault>
+        ensures posted { IfOk result (λ posted.
             posted ≡ record { gateway = self.now.place.name.now; order = order }) }
+        ensures added { IfOk result (λ posted. intake.new ≡ intake.old ++ posted ∷ []) }
+        ensures kept { OnErr result (intake.new ≡ intake.old) }
     {
+        if intake.entries.reserve(1).is_err() {
+            return Err(TakeFault::OutOfMemory);
+        }
+        let gateway = self.place.name;
+        let entry = Entry {
+            gateway,
+            order: Snapshot::of(&order),
+        };
         let taken = self.outbox.lock(rt).take_in(order);
         self.news.notify_one();
         match taken {
-            Ok(receipt) => Ok(Posted {
-                gateway: self.place.name,
-                receipt,
-            }),
+            Ok(receipt) => {
+                intake.entries.push_reserved(entry);
+                Ok(Posted { gateway, receipt })
+            }
             Err(fault) => Err(fault),
         }
     }

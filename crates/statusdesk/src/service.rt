@@ -1,5 +1,5 @@
 //! What is answered to a request.
-ghost use Rattle.std.specs.Prelude.{◌≡◌, Some, IfOk, OnOk, codes, map};
+ghost use Rattle.std.specs.Prelude.{◌≡◌, [], Some, IfOk, OnOk, codes, map};
 ghost use Rattle.http.specs.Request.{head_of};
 ghost use Rattle.http.specs.Uri.{uri_path};
 ghost use Rattle.http_header.specs.HeaderMap.{get};
@@ -15,7 +15,7 @@ use crate::marking::answer_commands;
 use crate::marks::marks_body;
 use crate::notes::{are_settled, notes_of, orders_said};
 use crate::objects::{Known, Named, known_of, object_body};
-use crate::posts::Post;
+use crate::posts::{Intake, Post};
 use crate::responses::refuse_with;
 use bytes::Bytes;
 use desk_forms::{AdmitFault, Field, given, read_fields, value_or_empty};
@@ -290,20 +290,22 @@ fn answer_method<R: Wait>(
 }
 
 // Answers a request for a host that is served.
-fn answer_path<R: Wait>(
-    desk: &Desk<'_, R>,
+fn answer_path<'a, R: Wait>(
+    desk: &Desk<'a, R>,
     now: u32,
     request: &Request<Bytes>,
+    intake: &mut Intake<'a>,
     response: &mut Response,
 ) -> Result<(), AllocError>
-    requires { IsBlank response.old }
+    requires blank { IsBlank response.old }
+    requires empty { intake.old ≡ [] }
     ensures { OnOk result (IsPathAnswer (is_command (uri_path (head_of request.now).uri))
-        (desk_view desk.now) now request.now response.new) }
+        (desk_view desk.now) now request.now intake.new response.new) }
 {
     if is_command(request.uri().path()) {
-        answer_command(desk, now, request, response)
+        answer_command(desk, now, request, intake, response)
     } else {
-        answer_other(desk, now, request, response)
+        answer_other(desk, now, request, intake, response)
     }
 }
 
@@ -313,18 +315,20 @@ fn is_commands(path: &str) -> bool
     path == "/commands"
 }
 
-fn answer_other<R: Wait>(
-    desk: &Desk<'_, R>,
+fn answer_other<'a, R: Wait>(
+    desk: &Desk<'a, R>,
     now: u32,
     request: &Request<Bytes>,
+    intake: &mut Intake<'a>,
     response: &mut Response,
 ) -> Result<(), AllocError>
-    requires { IsBlank response.old }
+    requires blank { IsBlank response.old }
+    requires empty { intake.old ≡ [] }
     ensures { OnOk result (IsOtherAnswer (is_commands (uri_path (head_of request.now).uri))
-        (desk_view desk.now) now request.now response.new) }
+        (desk_view desk.now) now request.now intake.new response.new) }
 {
     if is_commands(request.uri().path()) {
-        answer_commands(desk, now, request, response)
+        answer_commands(desk, now, request, intake, response)
     } else {
         answer_method(desk, now, request, response)
     }
@@ -337,19 +341,21 @@ fn is_command(path: &str) -> bool
 }
 
 // Answers a request, without the date.
-fn answer<R: Wait>(
-    desk: &Desk<'_, R>,
+fn answer<'a, R: Wait>(
+    desk: &Desk<'a, R>,
     now: u32,
     request: &Request<Bytes>,
+    intake: &mut Intake<'a>,
     response: &mut Response,
 ) -> Result<(), AllocError>
-    requires { IsBlank response.old }
+    requires blank { IsBlank response.old }
+    requires empty { intake.old ≡ [] }
     ensures { OnOk result (IsAnswerAt (answers_host desk.now.guard.now.hosts.items
         (get (head_of request.now).headers (codes "host"))) (desk_view desk.now) now request.now
-        response.new) }
+        intake.new response.new) }
 {
     if answers_host(desk.guard.hosts.as_slice(), request) {
-        answer_path(desk, now, request, response)
+        answer_path(desk, now, request, intake, response)
     } else {
         refuse(response, StatusCode::MISDIRECTED_REQUEST, desk.site.alloc)
     }
@@ -367,7 +373,8 @@ impl<'a, R: Clock + Wait> Service for Desk<'a, R> {
         response: &mut Response,
     ) -> Result<(), AllocError> {
         let now = clock(self.site.rt);
-        answer(self, now, request, response)?;
+        let mut intake = Intake::new(self.site.alloc);
+        answer(self, now, request, &mut intake, response)?;
         add_date(response, self.site.alloc, now)
     }
 }

@@ -1,9 +1,11 @@
-use Rattle.std.proofs.Common.{◌≡◌, ℕ, List, map, ap, sym, subst, ◌∙◌}
+use Rattle.std.proofs.Common.{◌≡◌, ℕ, List, ◌++◌, map, ap, sym, subst, ◌∙◌}
 use Rattle.web_answers.proofs.FieldSteps.{on_ok}
 use Rattle.page_watching.specs.declared.watching.Seen.{Seen}
 use Rattle.page_watching.specs.Watching.{seen_place}
 use Rattle.desk_forms.specs.Marks.{marks_of}
 use Rattle.statusdesk.specs.declared.commanding.Done.{Done}
+use Rattle.statusdesk.specs.Posted.{PostedView}
+use Rattle.statusdesk.specs.Taking.{all_posted}
 use Rattle.statusdesk.specs.Objects.{desk_view}
 use Rattle.statusdesk.specs.Marking.{AreMarked, dones_in}
 use Rattle.statusdesk.proofs.MarkSteps.{texts_in, marked}
@@ -27,6 +29,8 @@ returns g c =
     subst (λ (all : List (List Done)). AreMarked c.args.now form seen marks all) dones
     (subst (λ (marks : List (List ℕ)). AreMarked c.args.now form seen marks first) same
     (subst (λ (seen : List Seen). AreMarked c.args.now form seen (texts_in c.as_slice.result.now) first) pages
-    c.in_ok-all.ensures)) in
-    on_ok c.report_marks.result (marked desk c.args.now form seen c.args.query.now marks all c.report_marks.new.response at are each)
+    c.in_ok-all.ensures.done)) in
+    let taken : c.carry_out_marks.new.intake ≡ all_posted all =
+    c.in_ok-all.ensures.taken ∙ ap (λ (front : List PostedView). front ++ all_posted first) c.requires.empty ∙ ap all_posted dones in
+    on_ok c.report_marks.result (marked desk c.args.now form seen c.args.query.now marks all c.carry_out_marks.new.intake c.report_marks.new.response at are each taken)
     c.report_marks.ensures

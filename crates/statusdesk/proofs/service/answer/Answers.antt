@@ -13,7 +13,8 @@ returns-then-answers_host g c =
     let served = ap (λ (hosts : List (Bor (List ℕ))). answers_host hosts host) c.as_slice.ensures.value in
     on_ok c.answer_path.result
     (subst
-    (λ (here : Bool). IsAnswerAt here (desk_view c.args.desk.now) c.args.now c.args.request.now c.answer_path.new.response)
+    (λ (here : Bool). IsAnswerAt here (desk_view c.args.desk.now) c.args.now c.args.request.now c.answer_path.new.intake
+    c.answer_path.new.response)
     (sym c.if-answers_host.true ∙ c.answers_host.ensures ∙ served))
     c.answer_path.ensures
 
@@ -22,7 +23,7 @@ returns-else-answers_host g c =
     let host = get (head_of c.args.request.now).headers (codes "host") in
     let served = ap (λ (hosts : List (Bor (List ℕ))). answers_host hosts host) c.as_slice.ensures.value in
     on_ok c.refuse.result
-    (subst
-    (λ (here : Bool). IsAnswerAt here (desk_view c.args.desk.now) c.args.now c.args.request.now c.refuse.new.response)
-    (sym c.if-answers_host.false ∙ c.answers_host.ensures ∙ served))
+    (λ is. subst
+    (λ (here : Bool). IsAnswerAt here (desk_view c.args.desk.now) c.args.now c.args.request.now c.args.intake.now c.refuse.new.response)
+    (sym c.if-answers_host.false ∙ c.answers_host.ensures ∙ served) (c.requires.empty, is))
     c.refuse.ensures

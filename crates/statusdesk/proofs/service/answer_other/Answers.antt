@@ -11,7 +11,8 @@ returns-then-is_commands g c =
     let same : true ≡ is_commands (uri_path (head_of c.args.request.now).uri) = search rules in
     on_ok c.answer_commands.result
     (subst
-    (λ (here : Bool). IsOtherAnswer here (desk_view c.args.desk.now) c.args.now c.args.request.now c.answer_commands.new.response)
+    (λ (here : Bool). IsOtherAnswer here (desk_view c.args.desk.now) c.args.now c.args.request.now c.answer_commands.new.intake
+    c.answer_commands.new.response)
     same)
     c.answer_commands.ensures
 
@@ -19,7 +20,8 @@ pub returns-else-is_commands : goal.returns-else-is_commands
 returns-else-is_commands g c =
     let same : false ≡ is_commands (uri_path (head_of c.args.request.now).uri) = search rules in
     on_ok c.answer_method.result
-    (subst
-    (λ (here : Bool). IsOtherAnswer here (desk_view c.args.desk.now) c.args.now c.args.request.now c.answer_method.new.response)
-    same)
+    (λ is. subst
+    (λ (here : Bool). IsOtherAnswer here (desk_view c.args.desk.now) c.args.now c.args.request.now c.args.intake.now
+    c.answer_method.new.response)
+    same (c.requires.empty, is))
     c.answer_method.ensures

@@ -11,7 +11,8 @@ returns-then-is_command g c =
     let same : true ≡ is_command (uri_path (head_of c.args.request.now).uri) = search rules in
     on_ok c.answer_command.result
     (subst
-    (λ (here : Bool). IsPathAnswer here (desk_view c.args.desk.now) c.args.now c.args.request.now c.answer_command.new.response)
+    (λ (here : Bool). IsPathAnswer here (desk_view c.args.desk.now) c.args.now c.args.request.now c.answer_command.new.intake
+    c.answer_command.new.response)
     same)
     c.answer_command.ensures
 
@@ -20,6 +21,7 @@ returns-else-is_command g c =
     let same : false ≡ is_command (uri_path (head_of c.args.request.now).uri) = search rules in
     on_ok c.answer_other.result
     (subst
-    (λ (here : Bool). IsPathAnswer here (desk_view c.args.desk.now) c.args.now c.args.request.now c.answer_other.new.response)
+    (λ (here : Bool). IsPathAnswer here (desk_view c.args.desk.now) c.args.now c.args.request.now c.answer_other.new.intake
+    c.answer_other.new.response)
     same)
     c.answer_other.ensures
