@@ -1,4 +1,5 @@
 pub mod Lists
+pub mod PlaceSteps
 pub mod EscapeSteps
 pub mod KeySteps
 pub mod BuilderSteps

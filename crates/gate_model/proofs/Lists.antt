@@ -1,9 +1,7 @@
 -- Facts on lists that std lacks.
-use Rattle.std.proofs.Common.{◌≡◌, ℕ, zero, suc, ◌+◌, ◌<◌, ◌≤◌, Bool, true, false, cond, if◌then◌else◌, ◌||◌, List, [], ◌∷◌, ◌++◌, map, length, inl, inr, arith, Option, Some, None, is_some, refl, sym, ap, ◌∙◌}
-use Rattle.std.proofs.lemmas.List.{map-append}
+use Rattle.std.proofs.Common.{◌≡◌, ℕ, zero, suc, ◌+◌, ◌<◌, ◌≤◌, Bool, true, false, cond, List, [], ◌∷◌, ◌++◌, map, length, inl, inr, arith, Option, Some, None, is_some, refl, sym, ap, ◌∙◌}
 use Rattle.std.specs.List.{position_from, list_any}
 use Rattle.std.specs.Prelude.{slice_get}
-use Rattle.std.specs.Str.{bytes_eq}
 use Rattle.std.proofs.lemmas.Bool.{cases_Bool, true≢false, cond-true, cond-false, or_from}
 
 abbrev pub none : {A : Type 0} → Option A
@@ -27,18 +25,21 @@ pub position_from-map : {A B : Type 0} (f : A → B) (test : B → Bool) (i : �
 position_from-map f test i [] = refl
 position_from-map f test i (x ∷ xs) = ap (λ (r : Option ℕ). cond (test (f x)) (Some i) r) (position_from-map f test (i + 1) xs)
 
-list_any-map : {A B : Type 0} (f : A → B) (test : B → Bool) (xs : List A) → list_any test (map f xs) ≡ list_any (λ x. test (f x)) xs
-list_any-map f test [] = refl
-list_any-map f test (x ∷ xs) = ap (λ (r : Bool). test (f x) || r) (list_any-map f test xs)
+-- where nothing else passes, one more at the end is found where it does
+pub position_from-last : {A : Type 0} (test : A → Bool) (i : ℕ) (xs : List A) (x : A) → position_from test i xs ≡ None → position_from test i (xs ++ x ∷ []) ≡ cond (test x) (Some (i + length xs)) None
+position_from-last test i [] x e = ap (λ (n : ℕ). cond (test x) (Some n) None) (omega arith)
+position_from-last test i (y ∷ xs) x e = elim (cases_Bool (test y)) [
+  | inl passes ↦ absurd (none_is_not_some i (sym e ∙ cond-true (test y) (Some i) (position_from test (i + 1) xs) passes))
+  | inr fails ↦
+      cond-false (test y) (Some i) (position_from test (i + 1) (xs ++ x ∷ [])) fails
+      ∙ position_from-last test (i + 1) xs x (sym (cond-false (test y) (Some i) (position_from test (i + 1) xs) fails) ∙ e)
+      ∙ ap (λ (n : ℕ). cond (test x) (Some n) None) (omega arith)
+]
 
--- a new key goes last, as its name does
-pub map-insert_new : {A : Type 0} (view : A → List ℕ) (keys new : List A) (key : A) (names : List (List ℕ)) (name : List ℕ) → map view keys ≡ names → view key ≡ name → list_any (bytes_eq name) names ≡ false
-    → new ≡ (if list_any (λ other. bytes_eq (view key) (view other)) keys then keys else keys ++ key ∷ []) → map view new ≡ names ++ name ∷ []
-map-insert_new {A} view keys new key names name shown named absent grown =
-    let same : list_any (bytes_eq (view key)) (map view keys) ≡ false = rw (named, shown) absent in
-    let none : list_any (λ other. bytes_eq (view key) (view other)) keys ≡ false = sym (list_any-map view (bytes_eq (view key)) keys) ∙ same in
-    let larger : new ≡ keys ++ key ∷ [] = grown ∙ ap (λ (b : Bool). if b then keys else keys ++ key ∷ []) none in
-    ap (map view) larger ∙ map-append view keys (key ∷ []) ∙ rw (shown, named) refl
+-- one more at the end that fails changes nothing
+pub position_from-failing : {A : Type 0} (test : A → Bool) (i : ℕ) (xs : List A) (x : A) → test x ≡ false → position_from test i (xs ++ x ∷ []) ≡ position_from test i xs
+position_from-failing test i [] x fails = cond-false (test x) (Some i) None fails
+position_from-failing test i (y ∷ xs) x fails = ap (λ (r : Option ℕ). cond (test y) (Some i) r) (position_from-failing test (i + 1) xs x fails)
 
 -- where no index is found nothing passes
 pub list_any_from_position : {A : Type 0} (test : A → Bool) (i : ℕ) (xs : List A) → position_from test i xs ≡ None → list_any test xs ≡ false

@@ -21,8 +21,8 @@ use crate::services::Services;
 use crate::table_builder::TableBuilder;
 use crate::text::Text;
 use arrayvec::ArrayVec;
-use indexmap::IndexSet;
 use std::alloc::{AllocError, Global};
+use std::collections::HashMap;
 use std::error::Error;
 use std::fmt;
 use std::marker::Model;
@@ -351,17 +351,25 @@ pub fn key_of(host: &[u8], service: Option<&[u8]>) -> Option<Key>
 }
 
 /// Distinct keys, each found by its hash. A key's place is how many keys were added before it.
+///
+/// An `IndexSet` would hold them once, but the library of each crate above would hold all of the crate
+/// indexmap.
 #[derive(Drop)]
 pub struct Keys {
-    keys: IndexSet<Vec<u8>>,
+    // In the order in which they were added.
+    all: Vec<Vec<u8>>,
+    places: HashMap<Vec<u8>, usize>,
 }
 
 impl Model for Keys {
-    ghost use Rattle.std.specs.Prelude.{ℕ, List, map};
+    ghost use Rattle.std.specs.Prelude.{ℕ, List};
+    ghost use Rattle.gate_model.specs.inner.Keys.{ArePlaced, keys_in};
 
     ghost Value = { List (List ℕ) };
 
-    ghost view = { λ all. map (λ key. key.items) all.keys.keys };
+    ghost view = { λ keys. keys_in keys.all.items };
+
+    ghost invariant = { λ keys. ArePlaced (keys_in keys.all.items) keys.places };
 }
 
 impl Keys {
@@ -369,7 +377,8 @@ impl Keys {
         ensures { result ≡ [] }
     {
         Keys {
-            keys: IndexSet::new(alloc),
+            all: Vec::new(alloc),
+            places: HashMap::new(alloc),
         }
     }
 
@@ -377,7 +386,10 @@ impl Keys {
     pub fn place(&self, key: &[u8]) -> Option<usize>
         ensures { result ≡ position_from (bytes_eq key.now) 0 self.now }
     {
-        self.keys.get_index_of(key)
+        match self.places.get(key) {
+            Some(place) => Some(*place),
+            None => None,
+        }
     }
 
     /// The place of the object of these names, in a table whose lines have these keys.
@@ -398,8 +410,11 @@ impl Keys {
         ensures ok { OnOk result (self.new ≡ self.old ++ key.now ∷ []) }
         ensures err { OnErr result (self.new ≡ self.old) }
     {
+        let listed = Vec::from_slice(alloc, key)?;
         let owned = Vec::from_slice(alloc, key)?;
-        self.keys.insert(owned)?;
+        self.all.reserve(1)?;
+        self.places.insert(owned, self.all.len())?;
+        self.all.push_reserved(listed);
         Ok(())
     }
 }

@@ -1,7 +1,10 @@
 -- Only proofs and private functions use these definitions: by which bytes an object is found. Each
 -- pair of names has one key.
 use Rattle.std.specs.Prelude.{◌≡◌, ℕ, ◌+◌, Bool, true, ◌&&◌, nat_le, List, ◌∷◌, ◌++◌, length, map, Option, Some, None}
-use Rattle.std.specs.List.{list_all}
+use Rattle.std.specs.List.{list_all, position_from}
+use Rattle.std.specs.Str.{bytes_eq}
+use Rattle.std.specs.Global.{Vec}
+use Rattle.std.specs.HashMap.{HashMap, get_by}
 use Rattle.gate_model.specs.declared.object.ObjectLine.{ObjectLine}
 use Rattle.gate_model.specs.Table.{IsFaultless}
 
@@ -32,3 +35,13 @@ pub record IsIndex (lines : List ObjectLine) (keys : List (List ℕ)) : Type 0 w
   pub keys_are : keys ≡ map line_key lines
   pub short : list_all is_short_line lines ≡ true
   pub faultless : IsFaultless lines
+
+-- the bytes of keys
+abbrev pub keys_in : List (Vec ℕ) → List (List ℕ)
+keys_in all = map (λ (key : Vec ℕ). key.items) all
+
+-- each of these keys is found at its place, and nothing at other bytes
+abbrev pub ArePlaced : {S : Type 0} → List (List ℕ) → HashMap (Vec ℕ) ℕ S → Type 0
+ArePlaced keys places =
+    (bytes : List ℕ)
+    → get_by (λ (key : Vec ℕ). bytes_eq bytes key.items) places ≡ position_from (bytes_eq bytes) 0 keys
