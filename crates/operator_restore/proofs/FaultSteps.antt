@@ -1,6 +1,6 @@
 -- Why nothing is restored, by the fault of a lower call.
 use Rattle.std.proofs.Common.{◌≡◌, ℕ, Bool, false, List, ◌++◌, refl, sym, ap, ◌∙◌, subst, inl, inr}
-use Rattle.std.specs.Prelude.{◌≢◌, ◌⊎◌}
+use Rattle.std.specs.Prelude.{◌≢◌, ◌⊎◌, true, None}
 use Rattle.std.specs.List.{list_all}
 use Rattle.gate_model.specs.declared.object.ObjectLine.{ObjectLine}
 use Rattle.gate_model.specs.declared.record.Moment.{Moment}
@@ -20,8 +20,12 @@ use Rattle.status_reading.specs.Readable.{IsReadable}
 use Rattle.status_reading.specs.RowFaults.{IsSound}
 use Rattle.status_reading.specs.Rows.{PageView}
 use Rattle.restore_plan.specs.declared.fates.Fate.{Fate}
+use Rattle.restore_plan.specs.declared.rehearsal.RehearsalFault.TheVariants as rehearsal
+use Rattle.restore_plan.specs.declared.rehearsal.RehearsalFault.TheVariants.{TooMany, Refused}
+use Rattle.restore_plan.specs.Acceptance.{AcknowledgesProblems}
 use Rattle.restore_plan.specs.Plan.{results_of, others_of, commands_of}
 use Rattle.restore_plan.specs.PagePlan.{object_fates, page_others}
+use Rattle.restore_plan.specs.Rehearsal.{first_refusal}
 use Rattle.log_reading.specs.declared.logged.Logged.{Logged}
 use Rattle.log_reading.specs.Log.{logged_text, accepted_in}
 use Rattle.operator_restore.specs.declared.kept.KeptFault.{KeptFault}
@@ -30,7 +34,7 @@ use Rattle.operator_restore.specs.declared.prospect.ProspectFault.{ProspectFault
 use Rattle.operator_restore.specs.declared.prospect.Planned.{Planned}
 use Rattle.operator_restore.specs.declared.prospect.ProspectFault.TheVariants.{BadPage, Old, NoLog, Kept, Unrehearsed, OutOfMemory}
 use Rattle.operator_restore.specs.Escapes.{is_escaped_text}
-use Rattle.operator_restore.specs.Faults.{IsNoPage, IsUnforeseen, IsPageUnforeseen, IsPageFault, IsLogFault}
+use Rattle.operator_restore.specs.Faults.{IsNoPage, IsUnforeseen, is_refusal, IsPageUnforeseen, IsPageFault, IsLogFault}
 use Rattle.operator_restore.specs.Kept.{opening, IsKept, IsKeptFault, IsGatewayFault}
 use Rattle.operator_restore.specs.Prospect.{sent_by, shown_after, IsTextOf, until_of, log_commands, AreObjectsOf, age_of, is_new}
 use Rattle.operator_restore.specs.inner.Planned.{IsPlanned}
@@ -133,6 +137,18 @@ as_planned fresh results more until sent_until text planned fault is same unfore
     (subst (λ kept. IsUnforeseen fresh until (sent_by results ++ sent_by more) kept fault) is.page
     (subst (λ list. IsUnforeseen fresh until list planned.kept.items fault) commands unforeseen))
 
+-- a fault by which nothing is refused
+none_refused : (fresh : List ObjectLine) (until : Moment) (commands : List Body) (text : List ℕ) (fault : ProspectFault)
+    → IsUnforeseen fresh until commands text fault → first_refusal fresh until commands ≡ None → ¬ (is_refusal fault ≡ true)
+none_refused fresh until commands text BadPage is none refusal = absurd (cc)
+none_refused fresh until commands text (Old age) is none refusal = absurd (cc)
+none_refused fresh until commands text NoLog is none refusal = absurd (cc)
+none_refused fresh until commands text (Kept fault) is none refusal = absurd (cc)
+none_refused fresh until commands text (Unrehearsed TooMany) is none refusal = absurd (cc)
+none_refused fresh until commands text (Unrehearsed (Refused index)) is none refusal = absurd (cc)
+none_refused fresh until commands text (Unrehearsed rehearsal.OutOfMemory) is none refusal = absurd (cc)
+none_refused fresh until commands text OutOfMemory is none refusal = absurd (cc)
+
 of_page : (fresh : List ObjectLine) (text : List ℕ) (old : Bool) (now : Moment) (fault : ProspectFault) → IsPageUnforeseen fresh text now fault
     → IsPageFault fresh text old now fault
 of_page fresh text old now BadPage is = inr (inr is)
@@ -145,32 +161,38 @@ of_page fresh text old now OutOfMemory is = tt
 pub page_unforeseen : (fresh : List ObjectLine) (text : List ℕ) (old : Bool) (now : Moment) (page : StatusPage) (until : Moment) (planned : Planned) (fault : ProspectFault)
     → IsTextOf text page → IsPlanned (object_fates fresh now page.objects.items) (page_others fresh now (until_of now) page) text planned
     → until ≡ until_of now → IsUnforeseen fresh until (commands_of planned.double) planned.kept.items fault
+    → (AcknowledgesProblems page → first_refusal fresh until (commands_of planned.double) ≡ None)
     → IsPageFault fresh text old now fault
-page_unforeseen fresh text old now page until planned fault written is same unforeseen =
+page_unforeseen fresh text old now page until planned fault written is same unforeseen accepted =
     of_page fresh text old now fault (
       page,
       written,
       as_planned fresh (object_fates fresh now page.objects.items) (page_others fresh now (until_of now) page) until (until_of now) text planned fault is same unforeseen,
+      λ refusal sound. none_refused fresh until (commands_of planned.double) planned.kept.items fault unforeseen (accepted sound) refusal,
     )
 
 of_log : (fresh configured : List ObjectLine) (page log : List ℕ) (now : Moment) (fault : ProspectFault) (kept : ApplierView)
     → AreObjectsOf page configured kept.table → IsKept kept.table log now kept
     → IsUnforeseen fresh (until_of kept.moment) (log_commands fresh kept) (status_text_at kept.table kept.opening kept.records kept.moment) fault
-    → IsLogFault fresh configured page log now fault
-of_log fresh configured page log now BadPage kept objects is unforeseen = (kept, objects, is, unforeseen)
-of_log fresh configured page log now (Old age) kept objects is unforeseen = (kept, objects, is, unforeseen)
-of_log fresh configured page log now NoLog kept objects is unforeseen = (kept, objects, is, unforeseen)
-of_log fresh configured page log now (Kept fault) kept objects is unforeseen = absurd unforeseen
-of_log fresh configured page log now (Unrehearsed fault) kept objects is unforeseen = (kept, objects, is, unforeseen)
-of_log fresh configured page log now OutOfMemory kept objects is unforeseen = tt
+    → ¬ (is_refusal fault ≡ true) → IsLogFault fresh configured page log now fault
+of_log fresh configured page log now BadPage kept objects is unforeseen accepted = (kept, objects, is, unforeseen)
+of_log fresh configured page log now (Old age) kept objects is unforeseen accepted = (kept, objects, is, unforeseen)
+of_log fresh configured page log now NoLog kept objects is unforeseen accepted = (kept, objects, is, unforeseen)
+of_log fresh configured page log now (Kept fault) kept objects is unforeseen accepted = absurd unforeseen
+of_log fresh configured page log now (Unrehearsed TooMany) kept objects is unforeseen accepted = (kept, objects, is, unforeseen)
+of_log fresh configured page log now (Unrehearsed (Refused index)) kept objects is unforeseen accepted = absurd (accepted refl)
+of_log fresh configured page log now (Unrehearsed rehearsal.OutOfMemory) kept objects is unforeseen accepted = (kept, objects, is, unforeseen)
+of_log fresh configured page log now OutOfMemory kept objects is unforeseen accepted = tt
 
 pub log_unforeseen : (fresh configured : List ObjectLine) (page log : List ℕ) (now : Moment) (kept : ApplierView) (until : Moment) (planned : Planned) (fault : ProspectFault)
     → AreObjectsOf page configured kept.table → IsKept kept.table log now kept → until ≡ until_of kept.moment
     → IsPlanned (results_of fresh kept) (others_of fresh kept until) (status_text_at kept.table kept.opening kept.records kept.moment) planned
-    → IsUnforeseen fresh until (commands_of planned.double) planned.kept.items fault → IsLogFault fresh configured page log now fault
-log_unforeseen fresh configured page log now kept until planned fault objects is same planned_is unforeseen =
+    → IsUnforeseen fresh until (commands_of planned.double) planned.kept.items fault
+    → first_refusal fresh until (commands_of planned.double) ≡ None → IsLogFault fresh configured page log now fault
+log_unforeseen fresh configured page log now kept until planned fault objects is same planned_is unforeseen accepted =
     let text = status_text_at kept.table kept.opening kept.records kept.moment in
     let with_until : IsPlanned (results_of fresh kept) (others_of fresh kept (until_of kept.moment)) text planned =
     subst (λ moment. IsPlanned (results_of fresh kept) (others_of fresh kept moment) text planned) same planned_is in
     of_log fresh configured page log now fault kept objects is
     (as_planned fresh (results_of fresh kept) (others_of fresh kept (until_of kept.moment)) until (until_of kept.moment) text planned fault with_until same unforeseen)
+    (none_refused fresh until (commands_of planned.double) planned.kept.items fault unforeseen accepted)

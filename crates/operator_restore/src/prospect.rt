@@ -1,12 +1,15 @@
 //! What restoring sends, and what it can't bring back, before anything is sent.
 
-ghost use Rattle.std.specs.Prelude.{◌≡◌, ◌≢◌, ◌⊎◌, ◌<◌, ◌↔◌, ◌+◌, ◌++◌, ℕ, List, [], false, true, Err, IfErr, IfOk, filter_map, map, codes};
+ghost use Rattle.std.specs.Prelude.{◌≡◌, ◌≢◌, ◌⊎◌, ◌<◌, ◌↔◌, ◌+◌, ◌++◌, ℕ, List, [], false, true, Err, IfErr, IfOk, filter_map, map, codes, None};
 ghost use Rattle.std.specs.Option.{option_map};
 ghost use Rattle.gate_model.specs.declared.object.ObjectLine.{ObjectLine};
 ghost use Rattle.gate_pages.specs.StatusPage.{status_text_at};
-ghost use Rattle.status_reading.specs.declared.page.StatusPage.{StatusPage as PageView};
+ghost use Rattle.status_reading.specs.RowFaults.{IsSound};
+ghost use Rattle.status_reading.specs.Rows.{page_view};
 ghost use Rattle.restore_plan.specs.Plan.{results_of, others_of, commands_of};
 ghost use Rattle.restore_plan.specs.PagePlan.{object_fates, page_others};
+ghost use Rattle.restore_plan.specs.Acceptance.{AcknowledgesProblems};
+ghost use Rattle.restore_plan.specs.Rehearsal.{first_refusal};
 ghost use Rattle.operator_restore.specs.Escapes.{is_escaped_text};
 ghost use Rattle.operator_restore.specs.Faults.{IsNoPage, IsUnforeseen, IsPageFault, IsLogFault};
 ghost use Rattle.operator_restore.specs.Kept.{IsKept, IsKeptFault};
@@ -323,10 +326,15 @@ fn planned_by_page(
     page: &StatusPage<'_>,
     now: Moment,
 ) -> Result<Planned, AllocError>
-    ensures { let until = until_of now in IfOk result (IsPlanned
+    ensures planned { let until = until_of now in IfOk result (IsPlanned
         (object_fates fresh.now now page.now.objects.items)
         (page_others fresh.now now until page.now) text.now) }
+    ensures accepted { IfOk result (λ planned. IsSound (page_view page.now)
+        → AcknowledgesProblems page.now
+        → first_refusal fresh.now (until_of now) (commands_of planned.double) ≡ None) }
 {
+    // The contract of `len` says that a table has no fault.
+    let _faultless = fresh.len();
     Ok(Planned {
         plan: plan_of_page(alloc, fresh, page, now, until_of(now))?,
         double: plan_of_page(alloc, fresh, page, now, until_of(now))?,
@@ -335,7 +343,8 @@ fn planned_by_page(
 }
 
 /// Prepares the restoring of a kept page, where there is no log: it is at most ten minutes old,
-/// unless an older one is asked for.
+/// unless an older one is asked for. `Refused` comes only of a page that acknowledges an object
+/// without a problem, as no gateway's does.
 pub fn look_ahead_by_page(
     alloc: Global,
     fresh: ObjectTable,
@@ -406,10 +415,14 @@ fn planned_by_log(
     kept: &Applier,
     until: Moment,
 ) -> Result<Planned, AllocError>
-    ensures { IfOk result (IsPlanned (results_of fresh.now kept.now)
+    ensures planned { IfOk result (IsPlanned (results_of fresh.now kept.now)
         (others_of fresh.now kept.now until)
         (status_text_at kept.now.table kept.now.opening kept.now.records kept.now.moment)) }
+    ensures accepted { IfOk result (λ planned.
+        first_refusal fresh.now until (commands_of planned.double) ≡ None) }
 {
+    // The contract of `len` says that a table has no fault.
+    let _faultless = fresh.len();
     Ok(Planned {
         plan: plan_of(alloc, fresh, kept, until)?,
         double: plan_of(alloc, fresh, kept, until)?,
@@ -444,7 +457,7 @@ fn look_ahead_by_log(
 }
 
 /// Prepares the restoring of the last log page that daemons printed, and of a kept page where there
-/// is one. `NoLog`: there is no log page.
+/// is one. `NoLog`: there is no log page. `Refused` never comes.
 pub fn look_ahead(
     alloc: Global,
     tables: Tables,

@@ -13,7 +13,7 @@ returns-clause-prospect c =
     (objects_of c.args.page.now c.read_status_page.result c.args.tables.of_log c.in_ok-applier.applier.table c.read_status_page.ensures.written (rw c.ok-page.ensures.value at c.in_ok-applier.ensures.objects))
     c.in_ok-applier.ensures.kept
     (c.until_of-until.ensures ∙ ap until_of c.moment.ensures.moment)
-    c.in_ok-planned.ensures
+    c.in_ok-planned.ensures.planned
     c.new-none.ensures.items
     c.in_ok-prospect.ensures.prospect
 
@@ -46,6 +46,7 @@ returns-in_err-prospect-clause-fault c =
     (objects_of c.args.page.now c.read_status_page.result tables.of_log c.in_ok-applier.applier.table c.read_status_page.ensures.written (rw c.ok-page.ensures.value at c.in_ok-applier.ensures.objects))
     c.in_ok-applier.ensures.kept
     (c.until_of-until.ensures ∙ ap until_of c.moment.ensures.moment)
-    c.in_ok-planned.ensures
+    c.in_ok-planned.ensures.planned
     c.in_err-prospect.ensures.fault
+    c.in_ok-planned.ensures.accepted
     )

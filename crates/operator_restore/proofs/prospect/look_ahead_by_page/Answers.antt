@@ -1,4 +1,8 @@
+use Rattle.std.proofs.Common.{◌≡◌, sym, subst}
+use Rattle.std.specs.Prelude.{None}
 use Rattle.std.proofs.lemmas.Result.{err_from_is_err_and}
+use Rattle.restore_plan.specs.Plan.{commands_of}
+use Rattle.restore_plan.specs.Rehearsal.{first_refusal}
 use Rattle.operator_restore.proofs.FaultSteps.{no_page, unreadable, aged, page_unforeseen}
 use Rattle.operator_restore.proofs.ProspectSteps.{page_prospect}
 use Rattle.operator_restore.proofs.prospect.look_ahead_by_page.Goals as goal
@@ -10,7 +14,7 @@ returns-clause-prospect c =
     c.in_ok-age.ensures.age
     c.in_ok-age.ensures.escaped
     c.in_ok-age.ensures.is_new
-    c.in_ok-planned.ensures
+    c.in_ok-planned.ensures.planned
     c.until_of-until.ensures
     c.in_ok-warning.ensures
     c.in_ok-prospect.ensures.prospect
@@ -46,6 +50,7 @@ returns-in_err-prospect-clause-fault c =
     let p = err_from_is_err_and c.from_residual-in_err-prospect.result c.from_residual-in_err-prospect.ensures.1 in
     rw (p.1, p.2) (
     page_unforeseen c.args.fresh c.args.text.now c.args.old c.args.now c.in_ok-page.page c.until_of-until.result
-    c.in_ok-planned.planned c.in_err-prospect.field-0.0 c.in_ok-page.ensures.written c.in_ok-planned.ensures c.until_of-until.ensures
+    c.in_ok-planned.planned c.in_err-prospect.field-0.0 c.in_ok-page.ensures.written c.in_ok-planned.ensures.planned c.until_of-until.ensures
     c.in_err-prospect.ensures.fault
+    (λ problems. subst (λ moment. first_refusal c.args.fresh moment (commands_of c.in_ok-planned.planned.double) ≡ None) (sym c.until_of-until.ensures) (c.in_ok-planned.ensures.accepted c.in_ok-page.ensures.page.1 problems))
     )
