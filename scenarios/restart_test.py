@@ -573,6 +573,44 @@ def play_a_full_queue():
         daemon.end()
 
 
+def kill_at_its_marker(daemon, kept):
+    """A restore that is killed once the daemon shows its comment, before it sees that page."""
+    with socket.create_server(("127.0.0.1", 0)) as server:
+        server.settimeout(TIME_LIMIT)
+        words = [*addresses(daemon)[:-1], f"127.0.0.1:{server.getsockname()[1]}", "--agents", f"127.0.0.1:{daemon.ports['agents']}"]
+        with subprocess.Popen([ctl, "restore", *words, kept], stdout=subprocess.DEVNULL, stderr=subprocess.DEVNULL) as restoring:
+            while True:
+                connection, _ = server.accept()
+                with connection:
+                    page = daemon.page()
+                    if ";nscagatectl;results are restored: " in page:
+                        restoring.kill()
+                        return
+                    connection.sendall(page.encode("latin-1"))
+
+
+def play_a_killed_restore():
+    """A restore that is killed leaves its comment; the next one deletes it, and restores all."""
+    now = int(time.time())
+    kept = write(os.path.join(folder, "killed"), f"status {now}\nobject;web1;;DOWN;{now};fresh;normal;0;down\n"
+                 f"object;db1;;DOWN;{now};fresh;-;0;gone\ncomment;1;web1;;ack;1;{now};ann;on it\n")
+    daemon = start()
+    kill_at_its_marker(daemon, kept)
+    page = daemon.page()
+    check("no result came before the comment", (page.count(";PENDING;"), len(rows(page)["comment"])), (6, 1))
+    check("a restore after one that was killed", restore(daemon, kept)[:2], RESTORED[:2])
+    check("its comment is deleted", [row[7] for row in rows(daemon.page())["comment"]], ["on it"])
+    # Another author's comment with this text is one of an operator.
+    daemon.process.kill()
+    daemon.end()
+    daemon = start()
+    ask(daemon, "[1] ADD_HOST_COMMENT;web1;0;ann;results are restored: 1")
+    daemon.page_with(";results are restored: 1\n")
+    check("an operator's comment stands in its way", restore(daemon, kept)[0], 2)
+    daemon.process.kill()
+    daemon.end()
+
+
 def play_a_full_log():
     """Lines that the daemon refuses are reported by their lines of the page."""
     daemon = start(HEAD.replace("capacity = 256", "capacity = 1") + OBJECTS.replace("limit = 100_000", "limit = 1"))
@@ -597,6 +635,7 @@ def play_ends():
 
 def play_pages():
     play_a_full_queue()
+    play_a_killed_restore()
     play_newer_results()
     play_time_passes()
     play_faulty_pages()

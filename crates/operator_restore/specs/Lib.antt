@@ -1,5 +1,6 @@
 pub mod Escapes
 pub mod Printed
+pub mod Markers
 pub mod Pages
 pub mod Kept
 pub mod Naming

@@ -8,6 +8,7 @@ use Rattle.status_reading.specs.declared.rows.ShownObject.{ShownObject}
 use Rattle.status_reading.specs.declared.rows.ShownAcknowledgement.{ShownAcknowledgement}
 use Rattle.status_reading.specs.declared.rows.ShownAcknowledgement.TheVariants.{Missing, Normal, Sticky}
 use Rattle.status_reading.specs.Plain.{plain_bytes}
+use Rattle.operator_restore.specs.Markers.{is_marker}
 
 -- the name of a service that a field shows; a host's is empty
 abbrev pub kept_service : List ℕ → Option (List ℕ)
@@ -33,7 +34,8 @@ is_missing Sticky = false
 abbrev pub is_unmarked : ShownObject → Bool
 is_unmarked row = is_missing row.acknowledgement
 
--- no comment, no downtime and no acknowledgement stands on the page
+-- no downtime and no acknowledgement stands on the page, and no comment but markers that were left
 abbrev pub is_fresh : StatusPage → Bool
 is_fresh page =
-    (length page.comments.items == 0) && (length page.downtimes.items == 0) && list_all is_unmarked page.objects.items
+    list_all is_marker page.comments.items && (length page.downtimes.items == 0)
+    && list_all is_unmarked page.objects.items

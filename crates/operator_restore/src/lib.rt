@@ -6,6 +6,7 @@
 mod back;
 mod escapes;
 mod kept;
+mod markers;
 mod naming;
 mod outbox;
 mod pages;
@@ -16,6 +17,7 @@ mod prospect;
 pub use back::compare;
 pub use escapes::is_escaped_text;
 pub use kept::{KeptFault, kept_gateway, kept_over};
+pub use markers::{is_marker, marker_body, marker_text, markers_on};
 pub use naming::{left_count, push_command, push_left, push_rows, row_count};
 pub use outbox::{Outbox, Turn};
 pub use pages::{is_fresh, kept_table};

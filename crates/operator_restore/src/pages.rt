@@ -4,9 +4,11 @@ ghost use Rattle.std.specs.Prelude.{◌≡◌, ◌≢◌, IfErr, IfOk, map};
 ghost use Rattle.std.specs.List.{list_all};
 ghost use Rattle.gate_model.specs.Table.{IsFaultless, IsFaultOf};
 ghost use Rattle.operator_restore.specs.Pages.{kept_service, kept_line, kept_lines, is_unmarked, is_fresh};
+ghost use Rattle.operator_restore.specs.Markers.{is_marker};
 
+use crate::markers::is_marker;
 use gate_model::{ObjectLine, ObjectTable, TableFault, Text};
-use status_reading::{ShownAcknowledgement, ShownObject, StatusPage, plain_bytes};
+use status_reading::{ShownAcknowledgement, ShownComment, ShownObject, StatusPage, plain_bytes};
 use std::alloc::{AllocError, Global};
 
 /// The name of a service that a field shows. A host's is empty.
@@ -83,10 +85,19 @@ fn are_unmarked(rows: &[ShownObject<'_>]) -> bool
     true
 }
 
-/// Whether no operator's command stands on the page: no comment, no downtime and no acknowledgement.
-/// Own rule.
+/// Whether each comment is a marker.
+fn are_markers(rows: &[ShownComment<'_>]) -> bool
+    ensures { result ≡ list_all is_marker rows.now }
+{
+    rows.iter().all(|row| is_marker(row))
+}
+
+/// Whether no operator's command stands on the page: no downtime, no acknowledgement, and no comment
+/// but the markers of restores that were killed. Own rule.
 pub fn is_fresh(page: &StatusPage<'_>) -> bool
     ensures { result ≡ is_fresh page.now }
 {
-    page.comments.is_empty() && page.downtimes.is_empty() && are_unmarked(page.objects.as_slice())
+    are_markers(page.comments.as_slice())
+        && page.downtimes.is_empty()
+        && are_unmarked(page.objects.as_slice())
 }

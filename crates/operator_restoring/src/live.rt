@@ -4,7 +4,7 @@ ghost use Rattle.std.specs.Prelude.{◌≤◌};
 
 use crate::gateway::Gateway;
 use crate::holding::Hold;
-use crate::marking::settled_page;
+use crate::marking::{delete_markers, settled_page};
 use crate::restore_fault::RestoreFault;
 use gate_grammar::Command;
 use gate_model::{Body, ObjectTable};
@@ -135,14 +135,13 @@ fn send_held<R: Net<Listener = TcpListener, Stream = TcpStream> + Clock + Files>
     rt: &R,
     alloc: Global,
     target: &Target<'_>,
-    mark: &[u8],
     results: &[Body],
 ) -> Result<(), RestoreFault> {
     let made = Hold::new(rt, alloc, target.agents, target.workers, spare_of(target));
     let Ok(mut hold) = made else {
         return Err(RestoreFault::NotHeld);
     };
-    let text = settled_page(rt, alloc, target, &mut hold, mark)?;
+    let text = settled_page(rt, alloc, target, &mut hold)?;
     let page = own_page(alloc, target, text.as_slice())?;
     if !hold.is_held() {
         return Err(RestoreFault::NotHeld);
@@ -159,7 +158,6 @@ fn send_part_of_results<R: Net<Listener = TcpListener, Stream = TcpStream> + Clo
     rt: &R,
     alloc: Global,
     target: &Target<'_>,
-    mark: &[u8],
     results: &[Body],
 ) -> Result<(), RestoreFault> {
     let text = fetch_page(rt, alloc, target)?;
@@ -168,7 +166,7 @@ fn send_part_of_results<R: Net<Listener = TcpListener, Stream = TcpStream> + Clo
         .iter()
         .any(|body| is_pending(target.table, &page, body));
     if is_due {
-        send_held(rt, alloc, target, mark, results)
+        send_held(rt, alloc, target, results)
     } else {
         Ok(())
     }
@@ -179,12 +177,10 @@ fn hold_and_send<R: Net<Listener = TcpListener, Stream = TcpStream> + Clock + Fi
     rt: &R,
     alloc: Global,
     target: &Target<'_>,
-    part: usize,
     results: &[Body],
 ) -> Result<(), RestoreFault> {
-    for turn in 1..=HOLDS {
-        let mark = format!(in alloc; "results are restored: part {part}, try {turn}")?;
-        match send_part_of_results(rt, alloc, target, mark.as_bytes(), results) {
+    for _ in 0..HOLDS {
+        match send_part_of_results(rt, alloc, target, results) {
             Err(RestoreFault::NotHeld) => {}
             ended => return ended,
         }
@@ -192,7 +188,8 @@ fn hold_and_send<R: Net<Listener = TcpListener, Stream = TcpStream> + Clock + Fi
     Err(RestoreFault::NotHeld)
 }
 
-// Sends results to a fresh gateway.
+// Sends results to a fresh gateway, and deletes the markers that a killed restore has left there. One
+// with other objects is sent nothing.
 fn send_results<R: Net<Listener = TcpListener, Stream = TcpStream> + Clock + Files>(
     rt: &R,
     alloc: Global,
@@ -200,13 +197,15 @@ fn send_results<R: Net<Listener = TcpListener, Stream = TcpStream> + Clock + Fil
     results: &[Body],
 ) -> Result<(), RestoreFault> {
     let text = fetch_page(rt, alloc, target)?;
-    if !is_fresh(&read_status_page(alloc, text.as_slice())?) {
+    let page = read_status_page(alloc, text.as_slice())?;
+    if !is_fresh(&page) {
         return Err(RestoreFault::NotFresh);
     }
-    let mut part = 0usize;
+    if page.objects.len() == target.table.len() {
+        delete_markers(rt, alloc, target, &page)?;
+    }
     for some in results.chunks(part_size(target, target.workers)) {
-        part = part.saturating_add(1);
-        hold_and_send(rt, alloc, target, part, some)?;
+        hold_and_send(rt, alloc, target, some)?;
     }
     Ok(())
 }

@@ -1,93 +1,91 @@
-//! A comment by which this program sees that a gateway has applied all that was queued before: the
-//! queue keeps its order. It is deleted once it is shown.
+//! A marker shows this program that a gateway has applied all that was queued before: the queue keeps
+//! its order. It is deleted once it is shown; one that a restore has left, which was killed, is too.
 
 use crate::holding::Hold;
 use crate::live::{Target, fetch_page};
 use crate::restore_fault::RestoreFault;
 use gate_grammar::Command;
-use gate_model::{Body, Kind, Moment, Text};
+use gate_model::{Body, Kind, Moment};
 use operator_lines::Reply;
 use operator_ports::send;
+use operator_restore::{is_marker, marker_body, marker_text, markers_on};
 use status_reading::{StatusPage, read_status_page};
 use std::alloc::Global;
 use std::fs::Files;
 use std::net::{Net, TcpListener, TcpStream};
-use std::time::{Clock, Duration, Instant};
-
-// The author of the comment.
-const AUTHOR: &[u8] = b"nscagatectl";
+use std::time::{Clock, Duration, Instant, SystemTime};
 
 // Sends a command that has to be queued.
 fn send_one<R: Net<Listener = TcpListener, Stream = TcpStream> + Clock>(
     rt: &R,
     alloc: Global,
     target: &Target<'_>,
-    command: &Command,
+    body: Body,
 ) -> Result<(), RestoreFault> {
-    let places = target.places;
-    match send(rt, alloc, places.operators, places.seconds, command) {
+    let (places, entered) = (target.places, Moment(0));
+    let command = Command { entered, body };
+    match send(rt, alloc, places.operators, places.seconds, &command) {
         Ok(Reply::Queued(_)) => Ok(()),
         Ok(_) => Err(RestoreFault::NotQueued),
         Err(fault) => Err(RestoreFault::NoAnswer(fault)),
     }
 }
 
-// A comment of the first host. A gateway without objects has no result to restore.
-fn comment_of(alloc: Global, target: &Target<'_>, text: &[u8]) -> Result<Command, RestoreFault> {
+// The nanoseconds since 1970: no two markers have the same number, not even of two restores.
+fn number_now(rt: &impl Clock) -> Result<u64, RestoreFault> {
+    let Ok(now) = SystemTime::now(rt) else {
+        return Err(RestoreFault::NoClock);
+    };
+    match now.duration_since(SystemTime::UNIX_EPOCH) {
+        Ok(since) => Ok(u64::try_from(since.as_nanos()).unwrap_or(u64::MAX)),
+        Err(_) => Err(RestoreFault::NoClock),
+    }
+}
+
+// Adds a marker to the first host. A gateway without objects has no result to restore.
+fn add_marker<R: Net<Listener = TcpListener, Stream = TcpStream> + Clock>(
+    rt: &R,
+    alloc: Global,
+    target: &Target<'_>,
+    number: u64,
+) -> Result<(), RestoreFault> {
     let Some(line) = target.table.line(0) else {
         return Err(RestoreFault::OtherObjects);
     };
-    let body = Body::AddComment {
-        host: Text::copied(alloc, line.host.bytes())?,
-        service: None,
-        persistent: 0,
-        author: Text::copied(alloc, AUTHOR)?,
-        text: Text::copied(alloc, text)?,
-    };
-    let entered = Moment(0);
-    Ok(Command { entered, body })
+    let body = marker_body(alloc, &line.host, number)?;
+    send_one(rt, alloc, target, body)
 }
 
-fn add_comment<R: Net<Listener = TcpListener, Stream = TcpStream> + Clock>(
+/// Deletes the markers that a page shows.
+pub fn delete_markers<R: Net<Listener = TcpListener, Stream = TcpStream> + Clock>(
     rt: &R,
     alloc: Global,
     target: &Target<'_>,
-    text: &[u8],
+    page: &StatusPage<'_>,
 ) -> Result<(), RestoreFault> {
-    let command = comment_of(alloc, target, text)?;
-    send_one(rt, alloc, target, &command)
-}
-
-fn delete_comment<R: Net<Listener = TcpListener, Stream = TcpStream> + Clock>(
-    rt: &R,
-    alloc: Global,
-    target: &Target<'_>,
-    id: u32,
-) -> Result<(), RestoreFault> {
-    let (entered, kind) = (Moment(0), Kind::Host);
-    let body = Body::DelComment { kind, id };
-    send_one(rt, alloc, target, &Command { entered, body })
-}
-
-// The number of the comment with this text, where a page shows it.
-fn find_comment(page: &StatusPage<'_>, text: &[u8]) -> Option<u32> {
-    for row in &page.comments {
-        if row.author == AUTHOR && row.text == text {
-            return Some(row.id);
-        }
+    for id in &markers_on(alloc, page)? {
+        let (kind, id) = (Kind::Host, *id);
+        send_one(rt, alloc, target, Body::DelComment { kind, id })?;
     }
-    None
+    Ok(())
 }
 
-// The page that shows the comment, and its number, while the workers are held. Where they aren't any
-// more, the comment is waited for all the same.
-fn await_comment<R: Net<Listener = TcpListener, Stream = TcpStream> + Clock + Files>(
+// Whether a page shows the marker with this text.
+fn shows(page: &StatusPage<'_>, text: &[u8]) -> bool {
+    page.comments
+        .iter()
+        .any(|row| is_marker(row) && row.text == text)
+}
+
+// The first page that shows the marker with this text, while the workers are held. Where they aren't
+// any more, the marker is waited for all the same.
+fn await_marker<R: Net<Listener = TcpListener, Stream = TcpStream> + Clock + Files>(
     rt: &R,
     alloc: Global,
     target: &Target<'_>,
     hold: &mut Hold,
     text: &[u8],
-) -> Result<(Vec<u8>, u32), RestoreFault> {
+) -> Result<Vec<u8>, RestoreFault> {
     let Ok(begun) = Instant::now(rt) else {
         return Err(RestoreFault::NoClock);
     };
@@ -95,9 +93,9 @@ fn await_comment<R: Net<Listener = TcpListener, Stream = TcpStream> + Clock + Fi
     for _ in 0..u64::MAX {
         let _held = hold.keep(rt);
         let page = fetch_page(rt, alloc, target)?;
-        let shown = find_comment(&read_status_page(alloc, page.as_slice())?, text);
-        if let Some(id) = shown {
-            return Ok((page, id));
+        let is_shown = shows(&read_status_page(alloc, page.as_slice())?, text);
+        if is_shown {
+            return Ok(page);
         }
         match begun.elapsed(rt) {
             Ok(spent) if spent < within => {}
@@ -109,16 +107,22 @@ fn await_comment<R: Net<Listener = TcpListener, Stream = TcpStream> + Clock + Fi
 }
 
 /// A page of the gateway from after it has applied all that was queued before this call, while the
-/// workers are held. No text stands in two comments of one restore.
+/// workers are held.
 pub fn settled_page<R: Net<Listener = TcpListener, Stream = TcpStream> + Clock + Files>(
     rt: &R,
     alloc: Global,
     target: &Target<'_>,
     hold: &mut Hold,
-    text: &[u8],
 ) -> Result<Vec<u8>, RestoreFault> {
-    add_comment(rt, alloc, target, text)?;
-    let (page, id) = await_comment(rt, alloc, target, hold, text)?;
-    delete_comment(rt, alloc, target, id)?;
+    let number = number_now(rt)?;
+    add_marker(rt, alloc, target, number)?;
+    let text = marker_text(alloc, number)?;
+    let page = await_marker(rt, alloc, target, hold, text.as_slice())?;
+    delete_markers(
+        rt,
+        alloc,
+        target,
+        &read_status_page(alloc, page.as_slice())?,
+    )?;
     Ok(page)
 }

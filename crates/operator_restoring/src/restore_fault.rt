@@ -18,7 +18,7 @@ pub enum RestoreFault {
     /// What was kept can't be restored.
     #[error("{0}")]
     Unforeseen(ProspectFault),
-    /// The gateway has comments, downtime or acknowledgements.
+    /// The gateway has acknowledgements, downtime, or comments that are no markers.
     #[error("the gateway is no fresh one: operators' commands stand on its page")]
     NotFresh,
     /// The page shows other objects than the configuration has.

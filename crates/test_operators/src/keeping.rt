@@ -1,9 +1,10 @@
 use gate_applier::Applier;
 use gate_foresight::apply_all;
-use gate_model::{Moment, ObjectTable, Outcome};
+use gate_model::{Body, Moment, ObjectTable, Outcome, Text};
 use log_reading::{accepted_records, read_log_page};
 use operator_restore::{
     is_escaped_text, is_fresh, is_whole, kept_gateway, kept_over, kept_table, log_part,
+    marker_body, markers_on,
 };
 use page_return::{Missing, find_missing, find_unforeseen};
 use restore_plan::page_of;
@@ -17,6 +18,11 @@ const FRESH: &str = "status 800\nobject;web1;;PENDING;-;fresh;-;0;\n\
 const KEPT: &str = "status 1000\nobject;web1;;PENDING;-;fresh;-;0;\n\
     object;web1;HTTP;CRITICAL;900;fresh;sticky;0;caf\\x0a\n\
     comment;1;web1;HTTP;ack;0;950;ann;on it\n";
+
+// What a killed restore leaves.
+const MARKED: &str = "status 810\nobject;web1;;PENDING;-;fresh;-;0;\n\
+    object;web1;HTTP;PENDING;-;fresh;-;0;\n\
+    comment;3;web1;;user;0;805;nscagatectl;results are restored: 805\n";
 
 // The agent's result is newer than the kept one.
 const NEWER: &str = "status 1100\nobject;web1;;PENDING;-;fresh;-;0;\n\
@@ -99,6 +105,22 @@ fn are_fresh(alloc: Global) -> Option<(bool, bool)> {
     Some((is_fresh(&fresh), is_fresh(&kept)))
 }
 
+// Whether a page with a marker is fresh, and the first of its markers.
+fn marked(alloc: Global) -> Option<(bool, u32)> {
+    let page = read_status_page(alloc, MARKED.as_bytes()).ok()?;
+    let ids = markers_on(alloc, &page).ok()?;
+    Some((is_fresh(&page), *ids.first()?))
+}
+
+// The text of a marker's comment.
+fn marker(alloc: Global) -> Option<Vec<u8>> {
+    let host = Text::copied(alloc, b"web1").ok()?;
+    match marker_body(alloc, &host, 805).ok()? {
+        Body::AddComment { text, .. } => Some(text.into_vec()),
+        _ => None,
+    }
+}
+
 fn is(found: Option<Vec<u8>>, text: &str) -> bool {
     match found {
         Some(found) => found.as_slice() == text.as_bytes(),
@@ -145,6 +167,8 @@ fn rows_are_missing_or_newer(rt: HostRuntime) {
 fn a_page_is_fresh_and_of_a_gateway(rt: HostRuntime) {
     let alloc = rt.alloc();
     assert_eq!(rt; are_fresh(alloc), Some((true, false)));
+    assert_eq!(rt; marked(alloc), Some((true, 3)));
+    assert!(rt; is(marker(alloc), "results are restored: 805"));
     assert_eq!(rt; is_escaped_text(alloc, KEPT.as_bytes()).ok(), Some(true));
     assert_eq!(rt; is_escaped_text(alloc, b"object;\\x41").ok(), Some(false));
 }
