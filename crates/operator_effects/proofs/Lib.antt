@@ -1,1 +1,2 @@
 pub mod CommandSteps
+pub mod WatchingSteps

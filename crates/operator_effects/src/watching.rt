@@ -1,14 +1,16 @@
 //! One page after another, until one shows a command's effect.
 
-ghost use Rattle.std.specs.Prelude.{IfOk, IfSome};
+ghost use Rattle.std.specs.Prelude.{◌≡◌, ◌≢◌, ◌<◌, ◌-◌, ◌^◌, List, Some, length, IfOk, IfSome, MatchOption};
+ghost use Rattle.std.specs.Bool.{Decides};
 ghost use Rattle.status_reading.specs.Rows.{page_view};
-ghost use Rattle.operator_effects.specs.Watching.{IsSeen};
+ghost use Rattle.operator_effects.specs.declared.watching.Next.{Next as Given};
+ghost use Rattle.operator_effects.specs.Watching.{Shows, ShowsIn, ShowsNone, ShowsNoneIn, IsWatched};
 
 use crate::effects::effect_on;
 use crate::ending::Effect;
 use gate_model::Body;
 use page_changes::shows;
-use status_reading::{StatusPage, read_status_page};
+use status_reading::{ReadFault, StatusPage, read_status_page};
 use std::alloc::{AllocError, Global};
 
 /// What is read next of a gateway's pages.
@@ -23,9 +25,19 @@ pub enum Next {
 }
 
 /// The pages of a gateway, one after another.
+///
+/// A type that leaves the member out claims nothing by it.
 pub trait Pages {
+    ghost use Rattle.std.specs.Prelude.{List, Option, None};
+    ghost use Rattle.operator_effects.specs.declared.watching.Next.{Next as Given};
+    ghost use Rattle.operator_effects.specs.Watching.{ComesNext};
+
+    // What is read from here on, one after the other, where it is known.
+    ghost pages: { Self → Option (List Given) } = { λ _. None };
+
     /// The next page, after a pause.
-    fn next(&mut self, alloc: Global) -> Next;
+    fn next(&mut self, alloc: Global) -> Next
+        ensures { ComesNext (pages self.old) result (pages self.new) };
 }
 
 // What a text shows of a command, where it is a page that shows its effect.
@@ -35,16 +47,47 @@ fn seen_in(
     body: &Body,
     text: &[u8],
 ) -> Result<Option<Effect>, AllocError>
-    ensures { IfOk result (λ seen. IfSome seen (IsSeen body.now (page_view before.now))) }
+    ensures { IfOk result (λ seen. MatchOption seen
+        (ShowsNoneIn body.now (page_view before.now) text.now)
+        (ShowsIn body.now (page_view before.now) text.now)) }
 {
-    let Ok(after) = read_status_page(alloc, text) else {
-        return Ok(None);
+    let after = match read_status_page(alloc, text) {
+        Ok(after) => after,
+        Err(ReadFault::OutOfMemory) => return Err(AllocError),
+        Err(_) => return Ok(None),
     };
     if shows(alloc, body, before, &after)? {
         Ok(Some(effect_on(alloc, before, &after, body)?))
     } else {
         Ok(None)
     }
+}
+
+// What was read shows of a command, where it shows its effect.
+fn seen_by(
+    alloc: Global,
+    before: &StatusPage<'_>,
+    body: &Body,
+    next: Next,
+) -> Result<Option<Effect>, AllocError>
+    ensures { IfOk result (λ seen. MatchOption seen
+        (next ≢ Next.Over → ShowsNone body.now (page_view before.now) next)
+        (Shows body.now (page_view before.now) next)) }
+{
+    match next {
+        Next::Page(text) => seen_in(alloc, before, body, text.as_slice()),
+        Next::Gone if matches!(body, Body::Shutdown) => Ok(Some(Effect {
+            state: None,
+            id: None,
+        })),
+        Next::Gone | Next::Over => Ok(None),
+    }
+}
+
+fn is_over(next: &Next) -> bool
+    ensures { Decides result (next.now ≡ Next.Over) }
+{
+    matches!(next, Next::Over)
 }
 
 /// Reads pages until one shows the command's effect, where this page was read before it was sent,
@@ -58,25 +101,22 @@ pub fn watch<P: Pages>(
     body: &Body,
     pages: &mut P,
 ) -> Result<Option<Effect>, AllocError>
-    ensures { IfOk result (λ seen. IfSome seen (IsSeen body.now (page_view before.now))) }
+    ensures seen { IfOk result (λ seen. IfSome seen (λ effect.
+        (next : Given) × Shows body.now (page_view before.now) next effect)) }
+
+    // Of known pages, it is the first that shows it, and there is none where the time is over.
+    ensures first { (known : List Given) → P.pages pages.old ≡ Some known
+        → length known < 2 ^ 64 - 1
+        → IfOk result (IsWatched body.now (page_view before.now) known) }
 {
-    let shuts_down = matches!(body, Body::Shutdown);
     for _ in 0..u64::MAX {
-        match pages.next(alloc) {
-            Next::Page(text) => {
-                let seen = seen_in(alloc, before, body, text.as_slice())?;
-                if seen.is_some() {
-                    return Ok(seen);
-                }
-            }
-            Next::Gone if shuts_down => {
-                return Ok(Some(Effect {
-                    state: None,
-                    id: None,
-                }));
-            }
-            Next::Gone => {}
-            Next::Over => return Ok(None),
+        let next = pages.next(alloc);
+        if is_over(&next) {
+            return Ok(None);
+        }
+        let seen = seen_by(alloc, before, body, next)?;
+        if seen.is_some() {
+            return Ok(seen);
         }
     }
     Ok(None)
