@@ -1,17 +1,18 @@
 -- The lines of a script, one after the other.
-use Rattle.std.proofs.Common.{◌≡◌, ℕ, ◌+◌, ◌<◌, ◌++◌, List, [], ◌∷◌, length, take, get_or, Option, Some, None, refl, sym, ap, ◌∙◌, inl, arith, below_more, map}
+use Rattle.std.proofs.Common.{◌≡◌, ℕ, ◌+◌, ◌<◌, ◌≤◌, ◌++◌, List, [], ◌∷◌, length, take, get_or, Option, Some, None, refl, sym, ap, ◌∙◌, subst, inl, arith, below_more, map}
 use Rattle.std.specs.Borrow.{Bor}
 use Rattle.std.specs.List.{filter_map, cons_option}
-use Rattle.std.proofs.lemmas.List.{take_more, append-nil, get_or-map, length-map}
+use Rattle.std.proofs.lemmas.List.{take_all, take_more, append-nil, get_or-map, length-map}
 use Rattle.std.proofs.lemmas.List.Elements.{filter_map-append}
 use Rattle.gate_model.specs.declared.object.ObjectLine.{ObjectLine}
 use Rattle.gate_model.specs.Table.{IsFaultless}
 use Rattle.gate_replay.specs.declared.script.Step.{Step}
 use Rattle.gate_replay.specs.declared.setup.Setup.{Setup}
+use Rattle.gate_replay.specs.declared.script.Script.{Script}
 use Rattle.gate_replay.specs.declared.script.ScriptFault.{ScriptFault}
 use Rattle.gate_replay.specs.declared.script.ScriptFault.TheVariants as fault
 use Rattle.gate_replay.specs.ScriptLine.{ParsedScriptLine, Object, Open, Clock, Packet, Line, Page, parsed_script_line}
-use Rattle.gate_replay.specs.Script.{open_of, object_of, step_of, IsHead, IsStep, IsGoodAt, open_line, IsFirstFaultyLine, IsFaultOf}
+use Rattle.gate_replay.specs.Script.{open_of, object_of, step_of, opens_in, objects_in, steps_in, IsHead, IsStep, IsGoodAt, AreGood, open_line, IsScript, IsFirstFaultyLine, IsFaultOf}
 use Rattle.gate_replay.specs.inner.Parsing.{parsed_from, IsHeadSoFar, IsOpenSoFar, IsLineFault}
 
 -- what is parsed from the line at an index
@@ -127,3 +128,14 @@ open_fault_is parsed index setup steps value (fault.Line number) inside is opene
   faulty = inl (inside, bad_open parsed index setup steps value opened is gives.1);
 })
 open_fault_is parsed index setup steps value fault.OutOfMemory inside is opened gives = tt
+
+-- all lines are read
+pub open_end : (parsed : List (Option ParsedScriptLine)) (index : ℕ) (script : Script) → length parsed ≤ index → IsOpenSoFar parsed index script.setup script.steps.items → IsScript parsed script
+open_end parsed index script long so =
+    let whole : take index parsed ≡ parsed = take_all index parsed long in
+    record {
+      good = subst (AreGood parsed) (omega (arith, long, so.within)) so.good;
+      opens = subst (λ (front : List (Option ParsedScriptLine)). opens_in front ≡ open_line script.setup ∷ []) whole so.opens;
+      objects = subst (λ (front : List (Option ParsedScriptLine)). objects_in front ≡ script.setup.table) whole so.objects;
+      steps = subst (λ (front : List (Option ParsedScriptLine)). steps_in front ≡ script.steps.items) whole so.steps;
+    }

@@ -1,4 +1,4 @@
-use Rattle.std.proofs.Common.{◌≡◌, List, true, false, sym, ap, ◌∙◌, subst}
+use Rattle.std.proofs.Common.{◌≡◌, List, true, false, sym, ap, ◌∙◌, subst, rules}
 use Rattle.std.specs.Prelude.{IsSome}
 use Rattle.gate_core.specs.Merge.{IsClient, IsMerge}
 use Rattle.gate_queue.specs.declared.rule.EndedList.{EndedList}
@@ -62,3 +62,15 @@ returns-in-Err-clause-fault g c =
       left = subst (λ (l : List EndedList). LeavesSome n (list_of l) (items_of_records c.in-Err.fault.applier.records)) lists d.left;
     } in
     subst (λ (k : CloseAllCause). IsCloseAllFault k n c.args.now old new) (sym c.cause_of.ensures) (stopped_fault c.in-Err.fault.cause n c.args.now old new all stopped d.log_full d.has_room)
+
+pub returns-in-Ok-clause-all : goal.returns-in-Ok-clause-all
+returns-in-Ok-clause-all g c = present_at _ _ _ _ c.args.taker.ended c.clients.ensures c.as_slice.ensures.value c.in_default.ensures.all
+
+pub returns-in-Err-clause-again : goal.returns-in-Err-clause-again
+returns-in-Err-clause-again g c =
+    let left = c.in-Err.ensures.taker in
+    record {
+      taker = ap (λ (s : TakerState). s.gate) left ∙ c.take_in_all.ensures.gate ∙ ap (λ (s : TakerState). s.gate) c.is_closing.ensures.taker ∙ c.requires.taker;
+      clients = search rules;
+      applied = sym (ap (λ (s : TakerState). s.taken) left);
+    }
