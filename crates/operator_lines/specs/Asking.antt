@@ -40,12 +40,17 @@ IsWritten (Unsent cause) command before after = after ≡ before
 IsWritten WriteFault command before after = FailsOnce before after
 IsWritten fault command before after = Delivers before after (sent command)
 
+-- a line and its LF, of no reply
+abbrev pub IsLineOfNone : List ℕ → Type 0
+IsLineOfNone read =
+    (line : List ℕ) × (read ≡ line ++ 10 ∷ []) × HasNoBreak line × ((reply : Reply) → Fits reply → read ≢ reply_line reply)
+
 -- what was read in place of the line of a reply, and what is left after it
 abbrev pub IsNoReply : AskFault → List ℕ → Option (List ℕ) → Type 0
 IsNoReply ReadFault read left = HasNoBreak read
 IsNoReply Ended read left = HasNoBreak read × IsAtEnd left
 IsNoReply TooLong read left = HasNoBreak read × (length read ≡ 96)
-IsNoReply NoAnswer read left = (reply : Reply) → Fits reply → read ≢ reply_line reply
+IsNoReply NoAnswer read left = IsLineOfNone read
 IsNoReply fault read left = read ≡ []
 
 -- the command has no reply, for this fault

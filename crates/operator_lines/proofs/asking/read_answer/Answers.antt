@@ -1,4 +1,4 @@
-use Rattle.std.proofs.Common.{◌∙◌, [], ◌∷◌, sym, subst}
+use Rattle.std.proofs.Common.{◌∙◌, [], ◌∷◌, ◌++◌, sym, subst, ap}
 use Rattle.std.specs.Io.KnownBytes.{Consumes}
 use Rattle.gate_reader.proofs.Readings.{consumes_append}
 use Rattle.operator_lines.proofs.AskingSteps.{read_no_more}
@@ -18,12 +18,13 @@ returns-in-Err-clause-none g c =
 pub returns-in-None-clause-none : goal.returns-in-None-clause-none
 returns-in-None-clause-none g c =
     let left = g.R.Read.remaining in
+    let line = c.loop.line.items in
     let whole = c.as_slice.ensures.value ∙ c.push.ensures.items in
     let read =
     consumes_append (left c.args.reader.now) (left c.loop.reader) (left c.read_byte.new.reader) c.loop.line.items (c.in-Ok.byte ∷ [])
     c.loop.invariant.read c.in-Ok.ensures.byte in (
       c.as_slice.result.now,
       tt,
-      c.in-None.ensures.none,
+      (line, whole ∙ ap (λ byte. line ++ byte ∷ []) c.if-byte-eq10.true, c.loop.invariant.clean, c.in-None.ensures.none),
       subst (Consumes (left c.args.reader.now) (left c.read_byte.new.reader)) (sym whole) read,
     )
