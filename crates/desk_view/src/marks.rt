@@ -1,9 +1,9 @@
 //! The page of many objects, with one form for those that are marked.
 
-ghost use Rattle.std.specs.Prelude.{◌≡◌, ◌<◌, ◌==◌, ◌++◌, IfOk, IfSome, OnOk, length, map, take};
-ghost use Rattle.std.specs.List.{flat_map, position};
+ghost use Rattle.std.specs.Prelude.{◌≡◌, ◌++◌, IfOk, OnOk, length, map, take};
+ghost use Rattle.std.specs.List.{flat_map};
 ghost use Rattle.status_reading.specs.Rows.{object_view};
-ghost use Rattle.status_view.specs.Filling.{html_bytes, words_of, performance_of};
+ghost use Rattle.status_view.specs.Filling.{html_bytes};
 ghost use Rattle.desk_view.specs.Marks.{slash_before, downtime_mark, box_parts, shown_parts, link_parts, mark_row, rows_parts, top_parts, form_parts, table_parts, marks_parts};
 
 use crate::fields::MARKED;
@@ -13,7 +13,7 @@ use crate::states::{acknowledgement_mark, stale_mark};
 use html_text::Html;
 use status_merge::{Choice, choice_name};
 use status_reading::{ShownObject, state_name};
-use status_view::object_link;
+use status_view::{object_link, performance_of, words_of};
 use std::alloc::{AllocError, Global};
 
 // How many objects are shown at most.
@@ -81,29 +81,10 @@ fn put_box<'x>(html: &mut Html, index: usize, row: &ShownObject<'x>) -> Result<(
     )
 }
 
-fn bar(output: &[u8]) -> Option<usize>
-    ensures offset { result ≡ position (λ byte. byte == 124) output.now }
-    ensures within { IfSome result (λ offset. offset < length output.now) }
-{
-    output.iter().position(|byte| *byte == b'|')
-}
-
-// An output's words, and its performance data.
-fn halves_of(output: &[u8]) -> (&[u8], &[u8])
-    ensures words { result.0.now ≡ words_of output.entry.now }
-    ensures performance { result.1.now ≡ performance_of output.entry.now }
-{
-    match bar(output) {
-        Some(offset) => (&output[..offset], &output[offset + 1..]),
-        None => (output, &[]),
-    }
-}
-
 #[tactic(auto, unfolding(crate::specs::Marks::shown_parts))]
 fn put_shown<'x>(html: &mut Html, row: &ShownObject<'x>) -> Result<(), AllocError>
     ensures { OnOk result (html.new ≡ html.old ++ html_bytes (shown_parts (object_view row.now))) }
 {
-    let (words, performance) = halves_of(row.output);
     put(
         html,
         &[
@@ -114,9 +95,9 @@ fn put_shown<'x>(html: &mut Html, row: &ShownObject<'x>) -> Result<(), AllocErro
             Part::Markup(acknowledgement_mark(row.acknowledgement)),
             Part::Markup(downtime_mark(row.depth)),
             Part::Markup("</td><td class=\"out\">"),
-            Part::Text(words),
+            Part::Text(words_of(row.output)),
             Part::Markup(" <span class=\"soft perf\">"),
-            Part::Text(performance),
+            Part::Text(performance_of(row.output)),
             Part::Markup("</span>"),
         ],
     )

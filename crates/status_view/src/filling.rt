@@ -67,7 +67,8 @@ fn bar(output: &[u8]) -> Option<usize>
     output.iter().position(|byte| *byte == b'|')
 }
 
-fn words_of(output: &[u8]) -> &[u8]
+/// An output's words: what stands before the first vertical bar; all of it where there is none.
+pub fn words_of(output: &[u8]) -> &[u8]
     ensures { result.now ≡ words_of output.now }
 {
     match bar(output) {
@@ -76,7 +77,8 @@ fn words_of(output: &[u8]) -> &[u8]
     }
 }
 
-fn performance_of(output: &[u8]) -> &[u8]
+/// An output's performance data: what stands after that bar; nothing where there is none.
+pub fn performance_of(output: &[u8]) -> &[u8]
     ensures { result.now ≡ performance_of output.now }
 {
     match bar(output) {

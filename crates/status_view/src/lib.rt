@@ -21,6 +21,7 @@ mod times;
 mod view;
 
 pub use changes::{changes_feed, changes_page};
+pub use filling::{performance_of, words_of};
 pub use html::html_page;
 pub use links::{ObjectName, object_link, read_object_name};
 pub use one_object::{ObjectAsked, object_page};

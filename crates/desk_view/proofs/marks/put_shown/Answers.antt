@@ -9,6 +9,6 @@ returns c =
       c.stale_mark.ensures,
       c.acknowledgement_mark.ensures,
       c.downtime_mark.ensures,
-      c.halves_of.ensures.words,
-      c.halves_of.ensures.performance,
+      c.words_of.ensures,
+      c.performance_of.ensures,
     ) at c.put.ensures
