@@ -8,7 +8,7 @@ use Rattle.status_reading.proofs.EachSteps.{each_append}
 use Rattle.operator_effects.specs.declared.ending.Effect.{Effect}
 use Rattle.operator_effects.specs.declared.watching.Next.{Next}
 use Rattle.operator_effects.specs.declared.watching.Next.TheVariants.{Over}
-use Rattle.operator_effects.specs.Watching.{ComesNext, Shows, ShowsNone, EndsAt, IsWatched}
+use Rattle.operator_effects.specs.Watching.{ComesNext, Shows, ShowsNone, EndsAt, IsFirstSeen}
 
 -- of these pages, so many are read and show nothing, and this is what is left
 pub record Passed (body : Body) (before : PageView) (known : List Next) (now : Option (List Next)) (count : ℕ) : Type 0 where
@@ -54,7 +54,7 @@ over_at body before (page ∷ pages) next new came over = sym came.0 ∙ over
 
 pub is_over : (body : Body) (before : PageView) (old now new : Option (List Next)) (next : Next) (count : ℕ)
     → SoFar body before old now count → ComesNext now next new → next ≡ Over → (known : List Next) → old ≡ Some known
-    → IsWatched body before known None
+    → IsFirstSeen body before known None
 is_over body before old now new next count so came over known is =
     let one = so known is in
     record {
@@ -72,7 +72,7 @@ found_at body before (page ∷ pages) next new effect came shown = subst (λ one
 
 pub is_found : (body : Body) (before : PageView) (old now new : Option (List Next)) (next : Next) (count : ℕ) (effect : Effect)
     → SoFar body before old now count → ComesNext now next new → Shows body before next effect → (known : List Next)
-    → old ≡ Some known → IsWatched body before known (Some effect)
+    → old ≡ Some known → IsFirstSeen body before known (Some effect)
 is_found body before old now new next count effect so came shown known is =
     let one = so known is in
     record {
@@ -87,7 +87,7 @@ is_found body before old now new next count effect so came shown known is =
 pub is_seen : (body : Body) (before : PageView) (old now new : Option (List Next)) (next : Next) (count : ℕ) (seen : Option Effect)
     → SoFar body before old now count → ComesNext now next new → is_some seen ≡ true
     → MatchOption seen (next ≢ Over → ShowsNone body before next) (Shows body before next) → (known : List Next)
-    → old ≡ Some known → IsWatched body before known seen
+    → old ≡ Some known → IsFirstSeen body before known seen
 is_seen body before old now new next count None so came some shown known is = absurd (cc)
 is_seen body before old now new next count (Some effect) so came some shown known is =
     is_found body before old now new next count effect so came shown known is
@@ -101,6 +101,6 @@ is_passed body before old now new next count (Some effect) so came other none sh
 
 -- so many pages aren't known
 pub runs_out : (body : Body) (before : PageView) (old now : Option (List Next)) (count : ℕ) → SoFar body before old now count
-    → 2 ^ 64 - 1 ≤ count → (known : List Next) → old ≡ Some known → length known < 2 ^ 64 - 1 → IsWatched body before known None
+    → 2 ^ 64 - 1 ≤ count → (known : List Next) → old ≡ Some known → length known < 2 ^ 64 - 1 → IsFirstSeen body before known None
 runs_out body before old now count so many known is few =
     let one = so known is in absurd (omega (arith, ap length one.whole, length-append one.passed one.left, one.each, many, few))

@@ -1,5 +1,5 @@
 -- What is read of a gateway's pages, one after another, until one shows a command's effect: `ComesNext`, `Shows`, and of
--- pages that are known, `IsWatched`. Own rules.
+-- pages that are known, `IsFirstSeen`. Own rules.
 use Rattle.std.specs.Prelude.{◌≡◌, ◌≢◌, ℕ, List, [], ◌∷◌, ◌++◌, Option, Some, None, true, false, ⊤}
 use Rattle.std.specs.List.{AllByRecursion}
 use Rattle.gate_model.specs.declared.submission.Body.{Body}
@@ -51,7 +51,7 @@ EndsAt body before None [] = ⊤
 EndsAt body before None (next ∷ left) = next ≡ Over
 
 -- of these, the first that shows the command shows this effect, or none does until the time is over
-pub record IsWatched (body : Body) (before : PageView) (known : List Next) (seen : Option Effect) : Type 0 where
+pub record IsFirstSeen (body : Body) (before : PageView) (known : List Next) (seen : Option Effect) : Type 0 where
   pub passed : List Next
   pub left : List Next
   pub whole : known ≡ passed ++ left

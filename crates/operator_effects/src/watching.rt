@@ -4,7 +4,7 @@ ghost use Rattle.std.specs.Prelude.{◌≡◌, ◌≢◌, ◌<◌, ◌-◌, ◌^
 ghost use Rattle.std.specs.Bool.{Decides};
 ghost use Rattle.status_reading.specs.Rows.{page_view};
 ghost use Rattle.operator_effects.specs.declared.watching.Next.{Next as Given};
-ghost use Rattle.operator_effects.specs.Watching.{Shows, ShowsIn, ShowsNone, ShowsNoneIn, IsWatched};
+ghost use Rattle.operator_effects.specs.Watching.{Shows, ShowsIn, ShowsNone, ShowsNoneIn, IsFirstSeen};
 
 use crate::effects::effect_on;
 use crate::ending::Effect;
@@ -107,7 +107,7 @@ pub fn watch<P: Pages>(
     // Of known pages, it is the first that shows it, and there is none where the time is over.
     ensures first { (known : List Given) → P.pages pages.old ≡ Some known
         → length known < 2 ^ 64 - 1
-        → IfOk result (IsWatched body.now (page_view before.now) known) }
+        → IfOk result (IsFirstSeen body.now (page_view before.now) known) }
 {
     for _ in 0..u64::MAX {
         let next = pages.next(alloc);

@@ -1,6 +1,8 @@
 //! A command over the operators port, and its answer.
 
-ghost use Rattle.std.specs.Prelude.{◌≡◌, IfOk, map};
+ghost use Rattle.std.specs.Prelude.{◌≡◌, Err, IfOk, map};
+ghost use Rattle.gate_grammar.specs.Writability.{IsWritable};
+ghost use Rattle.operator_lines.specs.declared.sending.SendFault.TheVariants.{Unwritable};
 ghost use Rattle.operator_ports.specs.Commands.{entered_at};
 
 use gate_grammar::Command;
@@ -36,7 +38,9 @@ pub fn send<R: Net<Listener = TcpListener, Stream = TcpStream> + Clock>(
     address: SocketAddr,
     seconds: u32,
     command: &Command,
-) -> Result<Reply, AskFault> {
+) -> Result<Reply, AskFault>
+    ensures unwritable { result ≡ Err (AskFault.Unsent Unwritable) → ¬ IsWritable command.now }
+{
     let within = Duration::from_secs(u64::from(seconds));
     let Ok(begun) = Instant::now(rt) else {
         return Err(AskFault::WriteFault);

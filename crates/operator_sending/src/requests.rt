@@ -52,26 +52,27 @@ fn is_watched(body: &Body, reply: Reply) -> bool {
     }
 }
 
-// Sends a command, and watches for its effect where this page was read before it.
+// Sends a command, and watches for its effect where this page was read before it. Whatever keeps this
+// program from the pages, what was answered is said.
 fn carry_out<R: Net<Listener = TcpListener, Stream = TcpStream> + Clock>(
     rt: &R,
     alloc: Global,
     places: Places,
     before: &StatusPage<'_>,
     command: &Command,
-) -> Result<Ending, ControlFault> {
+) -> Ending {
     let reply = match send(rt, alloc, places.operators, places.seconds, command) {
         Ok(reply) => reply,
-        Err(fault) => return Ok(Ending::NoAnswer(fault)),
+        Err(fault) => return Ending::NoAnswer(fault),
     };
     if !is_watched(&command.body, reply) {
-        return Ok(ending_of(&command.body, reply, None));
+        return ending_of(&command.body, reply, None);
     }
-    let Ok(mut pages) = LivePages::new(rt, places.pages, places.seconds) else {
-        return Err(ControlFault::NoClock);
+    let seen = match LivePages::new(rt, places.pages, places.seconds) {
+        Ok(mut pages) => watch(alloc, before, &command.body, &mut pages).unwrap_or(None),
+        Err(_) => None,
     };
-    let seen = watch(alloc, before, &command.body, &mut pages)?;
-    Ok(ending_of(&command.body, reply, seen))
+    ending_of(&command.body, reply, seen)
 }
 
 // Reports the first command that the gateway would refuse, by its page; returns the exit status.
@@ -126,7 +127,7 @@ fn send_all<R: Net<Listener = TcpListener, Stream = TcpStream> + Clock, W: Sink,
         return Ok(status);
     }
     for command in commands {
-        let ending = carry_out(rt, alloc, places, before, command)?;
+        let ending = carry_out(rt, alloc, places, before, command);
         let status = report(alloc, &command.body, ending, json, output, errors)?;
         if status != 0 {
             return Ok(status);
