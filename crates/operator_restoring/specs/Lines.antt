@@ -1,11 +1,13 @@
 -- What a dry run prints, and its exit status: `IsDryRun`. Own rules.
-use Rattle.std.specs.Prelude.{◌≡◌, ◌⊎◌, ℕ, ◌==◌, List, [], ◌∷◌, ◌++◌, map, codes, if◌then◌else◌}
+use Rattle.std.specs.Prelude.{◌≡◌, ◌⊎◌, ℕ, ◌≤◌, ◌==◌, Bool, false, List, [], ◌∷◌, ◌++◌, map, codes, if◌then◌else◌}
 use Rattle.gate_model.specs.declared.record.Moment.{Moment}
 use Rattle.gate_model.specs.Escaping.{escaped}
 use Rattle.gate_grammar.specs.declared.commands.Command.{Command}
 use Rattle.gate_grammar.specs.Canonical.{body_text, canonical_line}
 use Rattle.gate_grammar.specs.Writability.{IsWritable}
 use Rattle.gate_reader.specs.Sink.{SinkState, Delivers}
+use Rattle.operator_commands.specs.declared.request.Task.{Task}
+use Rattle.operator_commands.specs.declared.request.Task.TheVariants.{Restore}
 use Rattle.operator_ports.specs.Commands.{entered_at}
 use Rattle.operator_restore.specs.declared.prospect.Prospect.{Prospect}
 use Rattle.operator_restoring.specs.Restored.{IsPlanned}
@@ -34,3 +36,12 @@ pub record IsDryRun (entered : Moment) (status : ℕ) (before after : SinkState)
   pub lines : AreLinesOf (commands_of entered prospect) text
   pub printed : Delivers before after text
   pub status_is : status ≡ (if prospect.named == 0 then 0 else 1)
+
+-- whether the words are those of a dry run
+abbrev pub is_dry_run : Task → Bool
+is_dry_run (Restore page log agents old dry_run pid) = dry_run
+is_dry_run other = false
+
+-- a dry run ended with this status: what would be sent, entered at this moment, was printed, or can't be planned
+abbrev pub IsDryEnd : Moment → ℕ → SinkState → SinkState → Type 0
+IsDryEnd entered status before after = (2 ≤ status) ⊎ IsDryRun entered status before after

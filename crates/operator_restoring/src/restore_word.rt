@@ -1,8 +1,9 @@
 //! The word `restore`: its files, its addresses, and what it prints.
 
 ghost use Rattle.std.specs.Prelude.{◌≡◌, ◌≤◌, ◌⊎◌, ◌==◌, ℕ, List, true, if◌then◌else◌, IfOk};
+ghost use Rattle.gate_model.specs.declared.record.Moment.{Moment};
 ghost use Rattle.gate_reader.specs.Sink.{Delivers};
-ghost use Rattle.operator_restoring.specs.Lines.{AreLinesOf, commands_of, IsDryRun};
+ghost use Rattle.operator_restoring.specs.Lines.{AreLinesOf, commands_of, is_dry_run, IsDryEnd, IsDryRun};
 ghost use Rattle.operator_restoring.specs.Restored.{IsPlanned, AreSent, IsRestored};
 
 use crate::gateway::Gateway;
@@ -179,8 +180,8 @@ pub fn restore_to<F: Files + Clock, G: Gateway, W: Sink, E: Sink>(
         × IsRestored G.shows G.has_others order.now.table.now order.now.entered)) }
 
     // A dry run prints what would be sent, unless that can't be planned.
-    ensures dry_run { IfOk result (λ status. order.now.dry_run ≡ true → (2 ≤ status)
-        ⊎ IsDryRun order.now.entered status (W.state output.old) (W.state output.new)) }
+    ensures dry_run { IfOk result (λ status. order.now.dry_run ≡ true
+        → IsDryEnd order.now.entered status (W.state output.old) (W.state output.new)) }
 {
     match prospect_of(rt, alloc, order.options, order.kept, order.entered) {
         Ok(prospect) => {
@@ -214,7 +215,9 @@ fn target_of<'a, F: Files>(
     })
 }
 
-/// Restores to the gateway that the words name. Returns the exit status. The task is `Restore`.
+/// Restores to the gateway that the words name, or prints what would be sent. Returns the exit status:
+/// that of `restore_to`, or 2 or 3 where there is no such gateway. The task is `Restore`; another is
+/// `BadWords`.
 pub fn restore<
     R: Net<Listener = TcpListener, Stream = TcpStream> + Clock + Files,
     W: Sink,
@@ -226,7 +229,10 @@ pub fn restore<
     task: &Task,
     output: &mut W,
     errors: &mut E,
-) -> Result<u8, ControlFault> {
+) -> Result<u8, ControlFault>
+    ensures { IfOk result (λ status. is_dry_run task.now ≡ true
+        → (entered : Moment) × IsDryEnd entered status (W.state output.old) (W.state output.new)) }
+{
     let Task::Restore {
         page,
         log,
