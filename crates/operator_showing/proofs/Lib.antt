@@ -1,1 +1,3 @@
 pub mod FollowSteps
+pub mod ChosenSteps
+pub mod ShownSteps

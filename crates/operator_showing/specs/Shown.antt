@@ -1,9 +1,36 @@
 -- What `status` prints: `IsShown`. What a gateway shows isn't known here, so some page that it showed is meant.
-use Rattle.std.specs.Prelude.{◌≡◌, ℕ, false, List, Option, None}
+use Rattle.std.specs.Prelude.{◌≡◌, ℕ, Bool, true, false, List, [], ◌∷◌, ◌++◌, Option, Some, None, Ok}
+use Rattle.std.specs.List.{flat_map}
 use Rattle.gate_reader.specs.Sink.{SinkState, Delivers}
 use Rattle.status_reading.specs.declared.page.StatusPage.{StatusPage}
-use Rattle.operator_commands.specs.declared.request.Options.{Options}
+use Rattle.status_merge.specs.declared.gateway.Gateway.{Gateway}
+use Rattle.status_merge.specs.declared.gateway.MergedObject.{MergedObject}
+use Rattle.status_merge.specs.Asking.{Asked}
+use Rattle.status_merge.specs.Objects.{merged, objects_on, with_hosts}
+use Rattle.status_merge.specs.Selecting.{selected}
+use Rattle.status_export.specs.Document.{compact_text, status_document}
 use Rattle.operator_setup.specs.Pages.{IsPageIn}
+use Rattle.operator_showing.specs.Choosing.{IsAskedFor, object_lines, chosen_text}
+
+-- a gateway of this name, whose page this is
+pub record IsAlone (name : List ℕ) (page : StatusPage) (gateway : Gateway) : Type 0 where
+  pub name_is : gateway.name.now ≡ name
+  pub page_is : gateway.page ≡ Ok page
+  pub since_is : gateway.since.now ≡ []
+  pub old_is : gateway.old ≡ None
+
+-- the objects of one gateway, as statusweb shows those of several
+abbrev pub objects_at : Gateway → List MergedObject
+objects_at gateway = with_hosts (merged (flat_map objects_on (gateway ∷ [])))
+
+-- the lines of those that are asked for, where this is the text of its page
+abbrev pub chosen_on : List ℕ → Asked → Gateway → List ℕ
+chosen_on text asked gateway = chosen_text asked (object_lines text) (objects_at gateway)
+
+-- the gateway as JSON, with those objects, and an LF
+abbrev pub json_on : Asked → Gateway → List ℕ
+json_on asked gateway =
+    compact_text (status_document (gateway ∷ []) (selected asked (objects_at gateway)) asked.host) ++ 10 ∷ []
 
 -- the text is a page, and was printed
 pub record IsPageShown (text : List ℕ) (before after : SinkState) : Type 0 where
@@ -11,12 +38,31 @@ pub record IsPageShown (text : List ℕ) (before after : SinkState) : Type 0 whe
   pub is_page : IsPageIn text page
   pub printed : Delivers before after text
 
--- some page was printed as it came
-abbrev pub IsShown : SinkState → SinkState → Type 0
-IsShown before after = (text : List ℕ) × IsPageShown text before after
+-- the text is a page, and the lines of what is asked for were printed
+pub record IsChosenShown (text : List ℕ) (asked : Asked) (before after : SinkState) : Type 0 where
+  pub page : StatusPage
+  pub is_page : IsPageIn text page
+  pub gateway : Gateway
+  pub alone : IsAlone [] page gateway
+  pub printed : Delivers before after (chosen_on text asked gateway)
 
--- the words ask for a whole page: without `--json`, `--state` and `--host`
-pub record AsksForAll (options : Options) (state host : Option (List ℕ)) : Type 0 where
-  pub json : options.json ≡ false
-  pub state_is : state ≡ None
-  pub host_is : host ≡ None
+-- the text is a page, and what is asked for was printed as JSON, for a gateway of this name
+pub record IsJsonShown (text name : List ℕ) (asked : Asked) (before after : SinkState) : Type 0 where
+  pub page : StatusPage
+  pub is_page : IsPageIn text page
+  pub gateway : Gateway
+  pub alone : IsAlone name page gateway
+  pub printed : Delivers before after (json_on asked gateway)
+
+-- what is asked for was printed of the page that the text is: as it came where nothing is chosen
+abbrev pub IsShownOf : Bool → Option (List ℕ) → Option (List ℕ) → Asked → List ℕ → SinkState → SinkState → Type 0
+IsShownOf true state host asked text before after = (name : List ℕ) × IsJsonShown text name asked before after
+IsShownOf false None None asked text before after = IsPageShown text before after
+IsShownOf false state host asked text before after = IsChosenShown text asked before after
+
+-- what `--json`, `--state` and `--host` ask for was printed of some page
+pub record IsShown (json : Bool) (state host : Option (List ℕ)) (before after : SinkState) : Type 0 where
+  pub asked : Asked
+  pub is_asked : IsAskedFor state host asked
+  pub text : List ℕ
+  pub shown : IsShownOf json state host asked text before after

@@ -2,6 +2,7 @@
 //! after it.
 #![tactic(auto)]
 
+mod choosing;
 mod following;
 mod showing;
 

@@ -1,0 +1,14 @@
+use Rattle.std.proofs.Common.{refl}
+use Rattle.operator_showing.proofs.showing.show_chosen.Goals as goal
+
+pub returns : goal.returns
+returns g c = (
+  refl,
+  record {
+    page = c.in_ok-page.page;
+    is_page = c.in_ok-page.ensures;
+    gateway = c.alone.result;
+    alone = c.alone.ensures;
+    printed = rw (c.as_slice.ensures.value, c.in_ok-lines.ensures) at c.in_ok-print.ensures.ok;
+  },
+)
