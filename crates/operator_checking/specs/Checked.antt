@@ -1,8 +1,10 @@
 -- What `check` prints, and its exit status: `IsChecked` (Nagios Core 4 manual, Plugin API).
-use Rattle.std.specs.Prelude.{◌≡◌, ◌≤◌, ◌⊎◌, ℕ, List, ◌++◌, length, max, codes}
+use Rattle.std.specs.Prelude.{◌≡◌, ◌≤◌, ◌⊎◌, ℕ, List, ◌++◌, length, max, codes, ⊤}
 use Rattle.gate_reader.specs.Sink.{SinkState, Delivers}
 use Rattle.operator_checks.specs.declared.findings.Finding.{Finding}
 use Rattle.operator_checks.specs.Findings.{line, worst, state_status}
+use Rattle.operator_setup.specs.declared.fault.ControlFault.{ControlFault}
+use Rattle.operator_setup.specs.declared.fault.ControlFault.TheVariants.{WriteFault, NoClock, OutOfMemory}
 
 -- the line of what is found was printed: at least one finding for each page that was asked for; the status is theirs
 pub record IsReport (pages status : ℕ) (before after : SinkState) : Type 0 where
@@ -25,3 +27,10 @@ pub record IsUnknown (status : ℕ) (before after : SinkState) : Type 0 where
 abbrev pub IsChecked : ℕ → ℕ → SinkState → SinkState → Type 0
 IsChecked gateways status before after =
     IsReport (max gateways 1) status before after ⊎ IsUnknown status before after
+
+-- why nothing is known, not even that: the line can't be written, or the clock can't be read, or memory runs out
+abbrev pub IsCheckFault : ControlFault → Type 0
+IsCheckFault WriteFault = ⊤
+IsCheckFault NoClock = ⊤
+IsCheckFault OutOfMemory = ⊤
+IsCheckFault fault = ⊥

@@ -1,9 +1,9 @@
 //! Whether gateways serve: their ports are asked, each with a time of its own.
 
-ghost use Rattle.std.specs.Prelude.{◌≡◌, ◌-◌, ◌≤◌, is_some, nat_lt, IfErr, IfOk, OnOk, if◌then◌else◌, length, vec_len};
-ghost use Rattle.gate_reader.specs.Sink.{Delivers};
+ghost use Rattle.std.specs.Prelude.{◌≡◌, ◌-◌, ◌≤◌, is_some, nat_lt, IfErr, IfOk, OnErr, OnOk, if◌then◌else◌, length, vec_len};
+ghost use Rattle.gate_reader.specs.Sink.{Delivers, FailsOnce};
 ghost use Rattle.operator_checks.specs.Findings.{weight};
-ghost use Rattle.operator_checking.specs.Checked.{IsChecked, IsReport, unknown_line};
+ghost use Rattle.operator_checking.specs.Checked.{IsChecked, IsCheckFault, IsReport, unknown_line};
 
 use gate_config::Config;
 use gate_grammar::read_number;
@@ -191,7 +191,8 @@ fn ask_pages<'a, R: Net<Listener = TcpListener, Stream = TcpStream> + Clock + Fi
     ports: Ports<'a>,
     findings: &mut Vec<Finding<'a>>,
 ) -> Result<Finding<'a>, ControlFault>
-    ensures { OnOk result (vec_len findings.old ≤ vec_len findings.new) }
+    ensures grows { OnOk result (vec_len findings.old ≤ vec_len findings.new) }
+    ensures fault { IfErr result IsCheckFault }
 {
     let (name, text) = divided(word);
     let Some(address) = read_address(text) else {
@@ -214,7 +215,10 @@ fn ask_pages<'a, R: Net<Listener = TcpListener, Stream = TcpStream> + Clock + Fi
             if let Some(unkept) = keep_shown(rt, alloc, ports.keep, page.as_slice()) {
                 findings.push(unkept)?;
             }
-            Ok(shown(alloc, name, shows, now(rt)?, ports.age)?)
+            let Ok(now) = now(rt) else {
+                return Err(ControlFault::NoClock);
+            };
+            Ok(shown(alloc, name, shows, now, ports.age)?)
         }
         Err(ReadFault::OutOfMemory) => Err(ControlFault::OutOfMemory),
         Err(_) => Ok(Finding::OtherPage(name, text)),
@@ -245,8 +249,9 @@ fn check<R: Net<Listener = TcpListener, Stream = TcpStream> + Clock + Files, W: 
     ports: Ports<'_>,
     output: &mut W,
 ) -> Result<u8, ControlFault>
-    ensures { IfOk result (λ status.
+    ensures report { IfOk result (λ status.
         IsReport (length ports.entry.pages.now) status (W.state output.old) (W.state output.new)) }
+    ensures fault { IfErr result IsCheckFault }
 {
     let mut findings = Vec::new(alloc);
     let seconds = ports.seconds;
@@ -268,6 +273,7 @@ pub fn report_unknown<W: Sink>(output: &mut W, text: &[u8]) -> Result<u8, Contro
     ensures printed { OnOk result (Delivers (W.state output.old) (W.state output.new)
         (unknown_line text.now)) }
     ensures status { IfOk result (λ status. status ≡ 3) }
+    ensures failed { OnErr result (FailsOnce (W.state output.old) (W.state output.new)) }
     ensures fault { IfErr result (λ fault. fault ≡ ControlFault.WriteFault) }
 {
     match put_line(output, b"NSCAGATE UNKNOWN - ", text) {
@@ -285,8 +291,9 @@ fn check_gateways<R: Net<Listener = TcpListener, Stream = TcpStream> + Clock + F
     seconds: (u32, u32),
     output: &mut W,
 ) -> Result<u8, ControlFault>
-    ensures { IfOk result (λ status. IsReport (length wanted.entry.gateways.now) status
+    ensures report { IfOk result (λ status. IsReport (length wanted.entry.gateways.now) status
         (W.state output.old) (W.state output.new)) }
+    ensures fault { IfErr result IsCheckFault }
 {
     let mut pages = Vec::new(alloc);
     for text in wanted.gateways {
@@ -313,8 +320,9 @@ fn check_configured<R: Net<Listener = TcpListener, Stream = TcpStream> + Clock +
     seconds: (u32, u32),
     output: &mut W,
 ) -> Result<u8, ControlFault>
-    ensures { IfOk result (λ status.
+    ensures report { IfOk result (λ status.
         IsReport 1 status (W.state output.old) (W.state output.new)) }
+    ensures fault { IfErr result IsCheckFault }
 {
     let ports = Ports {
         agents: Some(option_or(wanted.agents, &config.agents.text)),
@@ -329,7 +337,8 @@ fn check_configured<R: Net<Listener = TcpListener, Stream = TcpStream> + Clock +
 
 /// Asks ports, prints the line of what is found, and returns the exit status of a plugin: with
 /// addresses of pages these, and the ports that options name; otherwise all three ports of the
-/// configuration, but for those that options name. Whatever is wrong with the words is UNKNOWN.
+/// configuration, but for those that options name. Whatever is wrong with the words is UNKNOWN. An
+/// error is `WriteFault`, `NoClock` or `OutOfMemory`.
 pub fn run_check<R: Net<Listener = TcpListener, Stream = TcpStream> + Clock + Files, W: Sink>(
     rt: &R,
     alloc: Global,
@@ -337,8 +346,9 @@ pub fn run_check<R: Net<Listener = TcpListener, Stream = TcpStream> + Clock + Fi
     wanted: Wanted<'_>,
     output: &mut W,
 ) -> Result<u8, ControlFault>
-    ensures { IfOk result (λ status. IsChecked (length wanted.entry.gateways.now) status
+    ensures checked { IfOk result (λ status. IsChecked (length wanted.entry.gateways.now) status
         (W.state output.old) (W.state output.new)) }
+    ensures fault { IfErr result IsCheckFault }
 {
     let seconds = match seconds_in(options, wanted) {
         Ok(seconds) => seconds,
