@@ -1,5 +1,5 @@
 -- The fields of a form, one after another: that each is text, and that their names differ.
-use Rattle.std.proofs.Common.{◌≡◌, ◌⊎◌, ℕ, Bool, true, false, ◌||◌, List, [], ◌∷◌, ◌++◌, map, refl, ap, sym, ◌∙◌, subst, inl, inr, append_assoc}
+use Rattle.std.proofs.Common.{◌≡◌, ℕ, ◌≤◌, Bool, true, false, ◌||◌, List, [], ◌∷◌, ◌++◌, length, map, refl, ap, sym, ◌∙◌, subst, append_assoc}
 use Rattle.std.proofs.lemmas.Bool.{false≢true}
 use Rattle.std.proofs.lemmas.List.{map-append}
 use Rattle.std.specs.List.{AllByRecursion, IsDistinct, list_any}
@@ -7,7 +7,7 @@ use Rattle.std.specs.Str.{bytes_eq}
 use Rattle.desk_forms.specs.declared.fields.Field.{Field}
 use Rattle.desk_forms.specs.declared.fields.FieldsFault.{FieldsFault}
 use Rattle.desk_forms.specs.declared.fields.FieldsFault.TheVariants.{TooLong, NotUtf8, Twice, OutOfMemory}
-use Rattle.desk_forms.specs.Fields.{IsText, field_of, fields_of, names_of, IsFaultOf}
+use Rattle.desk_forms.specs.Fields.{IsText, field_of, fields_of, names_of, IsFaultAfter, IsFirstFault, IsFaultOf}
 use Rattle.desk_forms.specs.inner.Reading.{IsBadPair}
 
 -- ---- names that differ
@@ -15,10 +15,6 @@ use Rattle.desk_forms.specs.inner.Reading.{IsBadPair}
 or_split : (a b : Bool) → (a || b) ≡ false → (a ≡ false) × (b ≡ false)
 or_split true b none = absurd (false≢true (sym none))
 or_split false b none = (refl, none)
-
-or_cases : (a b : Bool) → (a || b) ≡ true → (a ≡ true) ⊎ (b ≡ true)
-or_cases true b found = inl refl
-or_cases false b found = inr found
 
 all_with : {X : Type 0} (P : X → Type 0) (items : List X) (item : X) → AllByRecursion P items → P item
     → AllByRecursion P (items ++ item ∷ [])
@@ -32,22 +28,6 @@ distinct_with [] name distinct none = (tt, tt)
 distinct_with (first ∷ names) name distinct none =
     let parts = or_split (bytes_eq first name) (list_any (λ known. bytes_eq known name) names) none in
     (all_with (λ other. bytes_eq first other ≡ false) names name distinct.0 parts.0, distinct_with names name distinct.1 parts.1)
-
-not_all : (first : List ℕ) (names : List (List ℕ)) (name : List ℕ) (rest : List (List ℕ)) → bytes_eq first name ≡ true
-    → AllByRecursion (λ other. bytes_eq first other ≡ false) (names ++ name ∷ rest) → ⊥
-not_all first [] name rest same all = false≢true (sym all.0 ∙ same)
-not_all first (other ∷ names) name rest same all = not_all first names name rest same all.1
-
-not_distinct : (names : List (List ℕ)) (name : List ℕ) (rest : List (List ℕ))
-    → list_any (λ known. bytes_eq known name) names ≡ true
-    → IsDistinct bytes_eq (names ++ name ∷ rest) → ⊥
-unfolding IsDistinct
-not_distinct [] name rest found distinct = false≢true found
-not_distinct (first ∷ names) name rest found distinct =
-    elim (or_cases (bytes_eq first name) (list_any (λ known. bytes_eq known name) names) found) [
-      | inl same ↦ not_all first names name rest same distinct.0
-      | inr later ↦ not_distinct names name rest later distinct.1
-    ]
 
 named_among : (fields : List Field) (name : List ℕ)
     → list_any (λ (field : Field). bytes_eq field.name name) fields ≡ list_any (λ known. bytes_eq known name) (names_of fields)
@@ -83,27 +63,32 @@ distinct_step known field distinct none =
 
 -- ---- why a body is no form
 
-pub named_again : (known : List Field) (field : Field) (pair : List ℕ × List ℕ) (left : List (List ℕ × List ℕ)) (all : List Field)
-    → field ≡ field_of pair → known ++ map field_of (pair ∷ left) ≡ all
-    → true ≡ list_any (λ (one : Field). bytes_eq one.name field.name) known
-    → IsDistinct bytes_eq (names_of all) → ⊥
-named_again known field pair left all is joined found distinct =
-    let name = (field_of pair).name in
-    not_distinct (names_of known) name (names_of (map field_of left))
-    (sym (named_among known name)
-    ∙ sym (subst (λ (one : Field). true ≡ list_any (λ (other : Field). bytes_eq other.name one.name) known) is found))
-    (subst (IsDistinct bytes_eq) (names_with known (map field_of (pair ∷ left)))
-    (subst (λ (fields : List Field). IsDistinct bytes_eq (names_of fields)) (sym joined) distinct))
+first_fault : (fault : FieldsFault) (body : List ℕ) (known : List Field) (pair : List ℕ × List ℕ)
+    (left : List (List ℕ × List ℕ)) → known ++ map field_of (pair ∷ left) ≡ fields_of body → AllByRecursion IsText known
+    → IsDistinct bytes_eq (names_of known) → IsFaultAfter known (field_of pair) fault → IsFirstFault body fault
+first_fault fault body known pair left joined text distinct after = record {
+  known = known;
+  field = field_of pair;
+  rest = map field_of left;
+  whole = sym joined;
+  text = text;
+  distinct = distinct;
+  after = after;
+}
 
-middle : (known : List Field) (field : Field) (rest : List Field) → AllByRecursion IsText (known ++ field ∷ rest) → IsText field
-middle [] field rest all = all.0
-middle (first ∷ known) field rest all = middle known field rest all.1
+pub named_again : (body : List ℕ) (known : List Field) (field : Field) (pair : List ℕ × List ℕ) (left : List (List ℕ × List ℕ))
+    → length body ≤ 16384 → known ++ map field_of (pair ∷ left) ≡ fields_of body → AllByRecursion IsText known
+    → IsDistinct bytes_eq (names_of known) → field ≡ field_of pair → IsText (field_of pair)
+    → true ≡ list_any (λ (one : Field). bytes_eq one.name field.name) known → IsFaultOf body Twice
+named_again body known field pair left short joined text distinct is is_text found =
+    let named = sym (subst (λ (one : Field). true ≡ list_any (λ (other : Field). bytes_eq other.name one.name) known) is found) in
+    (short, first_fault Twice body known pair left joined text distinct (is_text, named))
 
 pub fault_of : (fault : FieldsFault) (body : List ℕ) (known : List Field) (pair : List ℕ × List ℕ)
-    (left : List (List ℕ × List ℕ)) → IsBadPair pair fault → known ++ map field_of (pair ∷ left) ≡ fields_of body
-    → IsFaultOf body fault
-fault_of NotUtf8 body known pair left bad joined = λ all.
-    bad (middle known (field_of pair) (map field_of left) (subst (AllByRecursion IsText) (sym joined) all))
-fault_of OutOfMemory body known pair left bad joined = tt
-fault_of TooLong body known pair left bad joined = absurd bad
-fault_of Twice body known pair left bad joined = absurd bad
+    (left : List (List ℕ × List ℕ)) → length body ≤ 16384 → known ++ map field_of (pair ∷ left) ≡ fields_of body
+    → AllByRecursion IsText known → IsDistinct bytes_eq (names_of known) → IsBadPair pair fault → IsFaultOf body fault
+fault_of NotUtf8 body known pair left short joined text distinct bad =
+    (short, first_fault NotUtf8 body known pair left joined text distinct bad)
+fault_of OutOfMemory body known pair left short joined text distinct bad = tt
+fault_of TooLong body known pair left short joined text distinct bad = absurd bad
+fault_of Twice body known pair left short joined text distinct bad = absurd bad

@@ -1,7 +1,7 @@
 -- The fields of a form (`fields_of`; URL Standard, section 5), and which bodies are one (`IsForm`). Own rules: the limit,
 -- that names and values are UTF-8, and that a name stands once.
-use Rattle.std.specs.Prelude.{ℕ, ◌<◌, ◌≤◌, Bool, not, ◌==◌, ◌&&◌, ⊤, List, length, map, find, Option, option_map, IsUtf8}
-use Rattle.std.specs.List.{AllByRecursion, IsDistinct}
+use Rattle.std.specs.Prelude.{◌≡◌, ℕ, ◌<◌, ◌≤◌, Bool, true, not, ◌==◌, ◌&&◌, ⊤, List, ◌∷◌, ◌++◌, length, map, find, Option, option_map, IsUtf8}
+use Rattle.std.specs.List.{AllByRecursion, IsDistinct, list_any}
 use Rattle.std.specs.Str.{bytes_eq}
 use Rattle.form_urlencoded.specs.Form.{raw_pairs, decode}
 use Rattle.desk_forms.specs.declared.fields.Field.{Field}
@@ -30,12 +30,27 @@ pub record IsForm (body : List ℕ) : Type 0 where
   pub text : AllByRecursion IsText (fields_of body)
   pub distinct : IsDistinct bytes_eq (names_of (fields_of body))
 
--- why a body is none
+-- why a field can't stand after these: it is no text, or one of them has its name
+abbrev pub IsFaultAfter : List Field → Field → FieldsFault → Type 0
+IsFaultAfter known field NotUtf8 = ¬ (IsText field)
+IsFaultAfter known field Twice = IsText field × (list_any (λ (one : Field). bytes_eq one.name field.name) known ≡ true)
+IsFaultAfter known field fault = ⊥
+
+-- the fault is that of the first field that can't stand after those before it
+pub record IsFirstFault (body : List ℕ) (fault : FieldsFault) : Type 0 where
+  pub known : List Field
+  pub field : Field
+  pub rest : List Field
+  pub whole : fields_of body ≡ known ++ field ∷ rest
+  pub text : AllByRecursion IsText known
+  pub distinct : IsDistinct bytes_eq (names_of known)
+  pub after : IsFaultAfter known field fault
+
+-- why a body is no form
 abbrev pub IsFaultOf : List ℕ → FieldsFault → Type 0
 IsFaultOf body TooLong = 16384 < length body
-IsFaultOf body NotUtf8 = ¬ (AllByRecursion IsText (fields_of body))
-IsFaultOf body Twice = ¬ (IsDistinct bytes_eq (names_of (fields_of body)))
 IsFaultOf body OutOfMemory = ⊤
+IsFaultOf body fault = (length body ≤ 16384) × IsFirstFault body fault
 
 -- ---- a field by its name
 

@@ -1,4 +1,4 @@
-use Rattle.std.proofs.Common.{◌≡◌, ℕ, List, ◌++◌, map, ap, sym, ◌∙◌, subst, refl}
+use Rattle.std.proofs.Common.{◌≡◌, ℕ, ◌≤◌, List, ◌++◌, length, map, ap, sym, ◌∙◌, subst, refl, rules}
 use Rattle.std.proofs.lemmas.Result.{err_from_is_err_and}
 use Rattle.std.specs.List.{AllByRecursion, IsDistinct}
 use Rattle.std.specs.Str.{bytes_eq}
@@ -26,8 +26,9 @@ returns-in_err-field-clause-refused c =
     let pair = pair_text c.in-Some.pair in
     let left = raw_pairs_left c.next.new.self in
     let joined = subst (λ (rest : List (List ℕ × List ℕ)). known ++ map field_of rest ≡ fields_of body) c.in-Some.ensures.steps c.loop-pair.invariant.fields in
+    let short : length body ≤ 16384 = search rules in
     let p = err_from_is_err_and c.from_residual.result c.from_residual.ensures.1 in
-    rw (p.1, p.2) (fault_of c.in_err-field.field-0.0 body known pair left c.in_err-field.ensures.refused joined)
+    rw (p.1, p.2) (fault_of c.in_err-field.field-0.0 body known pair left short joined c.loop-pair.invariant.text c.loop-pair.invariant.distinct c.in_err-field.ensures.refused)
 
 pub returns-then-is_named-clause-refused : goal.returns-then-is_named-clause-refused
 returns-then-is_named-clause-refused c =
@@ -36,8 +37,10 @@ returns-then-is_named-clause-refused c =
     let pair = pair_text c.in-Some.pair in
     let left = raw_pairs_left c.next.new.self in
     let joined = subst (λ (rest : List (List ℕ × List ℕ)). known ++ map field_of rest ≡ fields_of body) c.in-Some.ensures.steps c.loop-pair.invariant.fields in
+    let short : length body ≤ 16384 = search rules in
     let found = rw (c.as_slice.ensures.value, c.bytes.ensures) at c.if-is_named.ensures in
-    named_again known c.in_ok-field.field pair left (fields_of body) c.in_ok-field.ensures.field joined found
+    named_again body known c.in_ok-field.field pair left short joined c.loop-pair.invariant.text c.loop-pair.invariant.distinct c.in_ok-field.ensures.field
+    (c.in_ok-field.ensures.text refl) found
 
 pub loop-pair-preserved : goal.loop-pair-preserved
 loop-pair-preserved c =
