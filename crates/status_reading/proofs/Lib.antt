@@ -11,6 +11,7 @@ pub mod SoundSteps
 pub mod BoardFields
 pub mod BoardLaws
 pub mod EachSteps
+pub mod ZipSteps
 pub mod SubmissionSteps
 pub mod TableSteps
 pub mod EventSteps

@@ -1,4 +1,5 @@
 pub mod Headings
+pub mod Methods
 pub mod Pages
 pub mod Changing
 pub mod Naming

@@ -5,6 +5,7 @@
 mod bodies;
 mod changing;
 mod headings;
+mod methods;
 mod naming;
 mod sending;
 mod serving;
@@ -12,5 +13,6 @@ mod serving;
 pub use bodies::{Form, gateways_of, status_body, status_kind};
 pub use changing::{ChangesForm, changes_body, kind_of};
 pub use headings::{Heading, refresh_in};
+pub use methods::body_asked;
 pub use sending::{Site, send_changes, send_object, send_status, send_style};
 pub use serving::{ServeFault, serve};

@@ -4,5 +4,4 @@ pub mod KnownSteps
 pub mod MarkSteps
 pub mod NoteSteps
 pub mod ResponseSteps
-pub mod SaidSteps
 pub mod ServiceSteps

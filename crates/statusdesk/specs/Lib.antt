@@ -1,4 +1,5 @@
 pub mod Fault
+pub mod Guarding
 pub mod Posted
 pub mod Responses
 pub mod Notes

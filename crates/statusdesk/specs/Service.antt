@@ -13,6 +13,7 @@ use Rattle.web_answers.specs.Answers.{IsSent, IsKept, IsRefusal, IsDated}
 use Rattle.web_answers.specs.Hosts.{answers_host}
 use Rattle.status_serving.specs.declared.bodies.Form.TheVariants.{Html, Json, Metrics}
 use Rattle.status_serving.specs.declared.changing.ChangesForm.TheVariants as changes
+use Rattle.status_serving.specs.Methods.{body_asked}
 use Rattle.status_serving.specs.Sending.{IsStatusOf, AreChangesOf}
 use Rattle.desk_guard.specs.declared.refusal.Refusal.{Refusal}
 use Rattle.desk_guard.specs.Refusal as refusal
@@ -36,13 +37,6 @@ use Rattle.statusdesk.specs.Notes.{SaidView, AreOwn, note_of, are_settled}
 use Rattle.statusdesk.specs.Commanding.{IsCommandAnswer}
 use Rattle.statusdesk.specs.Marks.{IsMarksPage}
 use Rattle.statusdesk.specs.Marking.{IsCommandsAnswer}
-
--- whether a method asks for an answer with its body (GET) or without it (HEAD); another asks for none of these
-abbrev pub body_asked : List ℕ → Option Bool
-body_asked method =
-    if bytes_eq method (codes "GET") then Some true
-    else if bytes_eq method (codes "HEAD") then Some false
-    else None
 
 -- what is shown at a path
 abbrev pub route_of : List ℕ → Option Route

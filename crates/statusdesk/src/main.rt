@@ -4,6 +4,9 @@
 //! and the cause on standard error.
 #![tactic(auto)]
 
+ghost use Rattle.std.specs.Prelude.{IfOk};
+ghost use Rattle.statusdesk.specs.Guarding.{IsGuardOf};
+
 mod commanding;
 mod fault;
 mod marking;
@@ -25,6 +28,7 @@ use page_watching::Watch;
 use posts::posts_at;
 use service::Desk;
 use status_serving::{Heading, ServeFault, Site, serve};
+use std::alloc::Global;
 use std::net::{Net, SocketAddr, TcpListener, TcpStream};
 use std::process::ExitCode;
 use std::random::RandomSource;
@@ -72,11 +76,17 @@ fn new_key(rt: &impl RandomSource) -> Result<[u8; 64], DeskFault> {
     }
 }
 
-fn guard_of<'a>(settings: &'a Settings<'a>, key: [u8; 64]) -> Result<Guard<'a>, DeskFault> {
+fn guard_of<'a>(
+    alloc: Global,
+    settings: &'a Settings<'a>,
+    key: [u8; 64],
+) -> Result<Guard<'a>, DeskFault>
+    ensures { IfOk result (IsGuardOf settings.now key) }
+{
     Ok(Guard {
-        hosts: settings.hosts.clone()?,
+        hosts: Vec::from_slice(alloc, settings.hosts.as_slice())?,
         user_header: settings.user_header,
-        users: settings.users.clone()?,
+        users: Vec::from_slice(alloc, settings.users.as_slice())?,
         key,
     })
 }
@@ -125,7 +135,7 @@ fn run<
         + Sync,
 >(rt: &R, settings: &Settings<'_>) -> Result<(), DeskFault> {
     let alloc = rt.alloc();
-    let guard = guard_of(settings, new_key(rt)?)?;
+    let guard = guard_of(alloc, settings, new_key(rt)?)?;
     let Ok((listener, address)) = bind(rt, settings.listen) else {
         return Err(DeskFault::Bind(settings.listen.to_string(alloc)?));
     };

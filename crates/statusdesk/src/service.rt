@@ -5,10 +5,11 @@ ghost use Rattle.http.specs.Uri.{uri_path};
 ghost use Rattle.http_header.specs.HeaderMap.{get};
 ghost use Rattle.http_server.specs.Response.{IsBlank};
 ghost use Rattle.web_answers.specs.Hosts.{answers_host};
+ghost use Rattle.status_serving.specs.Methods.{body_asked};
 ghost use Rattle.statusdesk.specs.Objects.{desk_view, known_view, AreKnown};
 ghost use Rattle.desk_outbox.specs.Labels.{host_in, service_in};
 ghost use Rattle.desk_forms.specs.Fields.{fields_of};
-ghost use Rattle.statusdesk.specs.Service.{route_of, at_in, IsNotedPage, AreNotedMarks, body_asked, is_command, is_commands, IsObjectAnswer, IsMarksAnswer, IsMethodAnswer, IsOtherAnswer, IsPathAnswer, IsAnswerAt, IsAnswer};
+ghost use Rattle.statusdesk.specs.Service.{route_of, at_in, IsNotedPage, AreNotedMarks, is_command, is_commands, IsObjectAnswer, IsMarksAnswer, IsMethodAnswer, IsOtherAnswer, IsPathAnswer, IsAnswerAt, IsAnswer};
 
 use crate::commanding::answer_command;
 use crate::marking::answer_commands;
@@ -25,7 +26,7 @@ use gate_grammar::read_number;
 use http::{HeaderValue, Request, StatusCode};
 use http_server::{Response, Service};
 use page_watching::{Seen, clock};
-use status_serving::{ChangesForm, Form, Site, send_changes, send_status, send_style};
+use status_serving::{ChangesForm, Form, Site, body_asked, send_changes, send_status, send_style};
 use std::alloc::AllocError;
 use std::sync::atomic::AtomicU64;
 use std::sync::{Mutex, Wait};
@@ -260,16 +261,6 @@ fn send_path<R: Wait>(
         Some(Route::Changes(form)) => send_changes(&desk.site, now, form, whole, response),
         Some(Route::Object) => send_object(desk, now, query, request, response),
         Some(Route::Marks) => send_marks(desk, now, query, request, response),
-    }
-}
-
-fn body_asked(method: &str) -> Option<bool>
-    ensures { result ≡ body_asked method.now }
-{
-    match method {
-        "GET" => Some(true),
-        "HEAD" => Some(false),
-        _ => None,
     }
 }
 

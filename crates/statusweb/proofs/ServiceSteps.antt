@@ -9,7 +9,8 @@ use Rattle.web_answers.specs.Answers.{IsRefusal}
 use Rattle.web_answers.specs.Hosts.{answers_host}
 use Rattle.status_serving.specs.declared.headings.Heading.{Heading}
 use Rattle.statusweb.specs.declared.service.Route.{Route}
-use Rattle.statusweb.specs.Service.{body_asked, route_of, IsShownAt, IsMethodAnswer, IsAnswerAt}
+use Rattle.status_serving.specs.Methods.{body_asked}
+use Rattle.statusweb.specs.Service.{route_of, IsShownAt, IsMethodAnswer, IsAnswerAt}
 
 pub shown_at : (heading : Heading) (places : List Place) (clock : ℕ) (head : Parts) (query : List ℕ) (whole : Bool) (route : Option Route)
     (response : Response)

@@ -17,16 +17,10 @@ use Rattle.web_answers.specs.Hosts.{answers_host}
 use Rattle.status_serving.specs.declared.headings.Heading.{Heading}
 use Rattle.status_serving.specs.declared.bodies.Form.TheVariants.{Html, Json, Metrics}
 use Rattle.status_serving.specs.declared.changing.ChangesForm.TheVariants as changes
+use Rattle.status_serving.specs.Methods.{body_asked}
 use Rattle.status_serving.specs.Sending.{IsStatusOf, AreChangesOf, IsObjectOf}
 use Rattle.statusweb.specs.declared.service.Route.{Route}
 use Rattle.statusweb.specs.declared.service.Route.TheVariants.{Status, Object, Changes, Style}
-
--- whether a method asks for an answer with its body (GET) or without it (HEAD); another asks for none of these
-abbrev pub body_asked : List ℕ → Option Bool
-body_asked method =
-    if bytes_eq method (codes "GET") then Some true
-    else if bytes_eq method (codes "HEAD") then Some false
-    else None
 
 -- what is shown at a path
 abbrev pub route_of : List ℕ → Option Route

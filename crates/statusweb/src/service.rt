@@ -2,13 +2,16 @@
 ghost use Rattle.std.specs.Prelude.{◌≡◌, Some, OnOk};
 ghost use Rattle.http.specs.Request.{head_of};
 ghost use Rattle.http_server.specs.Response.{IsBlank};
-ghost use Rattle.statusweb.specs.Service.{route_of, body_asked, IsMethodAnswer, IsAnswerAt, IsAnswer};
+ghost use Rattle.status_serving.specs.Methods.{body_asked};
+ghost use Rattle.statusweb.specs.Service.{route_of, IsMethodAnswer, IsAnswerAt, IsAnswer};
 
 use bytes::Bytes;
 use http::{Request, StatusCode};
 use http_server::{Response, Service};
 use page_watching::clock;
-use status_serving::{ChangesForm, Form, Site, send_changes, send_object, send_status, send_style};
+use status_serving::{
+    ChangesForm, Form, Site, body_asked, send_changes, send_object, send_status, send_style,
+};
 use std::alloc::AllocError;
 use std::sync::Wait;
 use std::time::Clock;
@@ -79,16 +82,6 @@ fn send_path<R: Wait>(
         Some(Route::Status(form)) => send_status(site, now, form, query, whole, response),
         Some(Route::Object) => send_object(site, now, query, whole, response),
         Some(Route::Changes(form)) => send_changes(site, now, form, whole, response),
-    }
-}
-
-fn body_asked(method: &str) -> Option<bool>
-    ensures { result ≡ body_asked method.now }
-{
-    match method {
-        "GET" => Some(true),
-        "HEAD" => Some(false),
-        _ => None,
     }
 }
 

@@ -1,9 +1,9 @@
 use Rattle.std.proofs.Common.{map, inl, inr}
 use Rattle.std.proofs.lemmas.List.{nil_from_length}
 use Rattle.std.specs.Slice.Iter.{iter_rest}
+use Rattle.status_reading.proofs.ZipSteps.{zip_over}
 use Rattle.statusdesk.specs.Notes.{said_view}
 use Rattle.statusdesk.specs.Said.{said_if_for}
-use Rattle.statusdesk.proofs.SaidSteps.{zip_over}
 use Rattle.statusdesk.proofs.said.said_of.Goals as goal
 
 pub returns : goal.returns

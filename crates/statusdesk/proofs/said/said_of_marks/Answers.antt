@@ -1,11 +1,11 @@
 use Rattle.std.proofs.Common.{map, inl, inr}
 use Rattle.std.proofs.lemmas.List.{nil_from_length}
 use Rattle.std.specs.Slice.Iter.{iter_rest}
+use Rattle.status_reading.proofs.ZipSteps.{zip_over, map_over}
 use Rattle.statusdesk.specs.Notes.{said_view}
 use Rattle.statusdesk.specs.Said.{said_of_mark}
 use Rattle.statusdesk.specs.Marking.{dones_in}
 use Rattle.statusdesk.proofs.MarkSteps.{texts_in}
-use Rattle.statusdesk.proofs.SaidSteps.{zip_over, map_over}
 use Rattle.statusdesk.proofs.said.said_of_marks.Goals as goal
 
 pub returns : goal.returns

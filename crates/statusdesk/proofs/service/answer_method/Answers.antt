@@ -2,7 +2,8 @@ use Rattle.std.proofs.Common.{◌≡◌, Bool, Option, Some, rules, subst}
 use Rattle.http.specs.Request.{head_of}
 use Rattle.web_answers.proofs.FieldSteps.{on_ok}
 use Rattle.statusdesk.specs.Objects.{desk_view}
-use Rattle.statusdesk.specs.Service.{body_asked, IsMethodAnswer}
+use Rattle.status_serving.specs.Methods.{body_asked}
+use Rattle.statusdesk.specs.Service.{IsMethodAnswer}
 use Rattle.statusdesk.proofs.service.answer_method.Goals as goal
 
 pub returns-in-Some : goal.returns-in-Some

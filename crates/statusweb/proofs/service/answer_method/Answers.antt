@@ -1,6 +1,7 @@
 use Rattle.std.proofs.Common.{◌≡◌, Bool, Option, Some, rules, subst}
 use Rattle.http.specs.Request.{head_of}
-use Rattle.statusweb.specs.Service.{body_asked, IsMethodAnswer}
+use Rattle.status_serving.specs.Methods.{body_asked}
+use Rattle.statusweb.specs.Service.{IsMethodAnswer}
 use Rattle.web_answers.proofs.FieldSteps.{on_ok}
 use Rattle.statusweb.proofs.service.answer_method.Goals as goal
 
