@@ -347,6 +347,7 @@ def play_marks(program):
         check("their commands", (commands_at(east), commands_at(west)), (
             ["ACKNOWLEDGE_HOST_PROBLEM;db1;2;1;0;ann;on it", "ACKNOWLEDGE_SVC_PROBLEM;web1;HTTP;2;1;0;ann;on it"],
             ["ACKNOWLEDGE_SVC_PROBLEM;web1;HTTP;2;1;0;ann;on it"]))
+        desk.page_with("/marks", "east: web1 HTTP: queued 3")
         page = desk.page_with("/marks", "west: web1 HTTP: queued 4")
         check("what came of them", sorted(note.partition(";")[0] for note in alarms(page)[1]),
               ["east: db1: queued 3", "east: web1 HTTP: queued 3", "west: web1 HTTP: queued 4"])
