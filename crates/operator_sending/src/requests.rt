@@ -1,12 +1,12 @@
 //! The commands of a request, one after another.
 
-ghost use Rattle.std.specs.Prelude.{◌≡◌, IfOk, List, MatchOption, None, Some, map};
+ghost use Rattle.std.specs.Prelude.{◌≡◌, IfErr, IfOk, List, MatchOption, None, Some, map};
 ghost use Rattle.gate_model.specs.declared.submission.Body.{Body};
 ghost use Rattle.status_reading.specs.Rows.{page_view};
 ghost use Rattle.operator_effects.specs.Commands.{commands_of};
 ghost use Rattle.operator_effects.specs.Refusals.{first_refusal};
 ghost use Rattle.operator_ports.specs.Commands.{entered_at};
-ghost use Rattle.operator_sending.specs.Faults.{fault_of};
+ghost use Rattle.operator_sending.specs.Faults.{fault_of, IsFaultOn, IsPrintFault, IsRequestFault};
 ghost use Rattle.operator_sending.specs.Reports.{AreAnswered, IsCarriedOut, meant, sinks};
 
 use crate::reporting::report;
@@ -32,7 +32,9 @@ use std::time::Clock;
 const NOBODY: &[u8] = b"operator";
 
 // The user who runs the program: that of sudo, or else the one who logged in.
-fn user(rt: &(impl Env + AllocGlobal), alloc: Global) -> Result<Text, ControlFault> {
+fn user(rt: &(impl Env + AllocGlobal), alloc: Global) -> Result<Text, ControlFault>
+    ensures { IfErr result (λ fault. fault ≡ ControlFault.OutOfMemory) }
+{
     for name in ["SUDO_USER", "LOGNAME", "USER"] {
         if let Ok(user) = env::var(rt, name) {
             if !user.is_empty() {
@@ -84,13 +86,14 @@ fn objection<W: Sink, E: Sink>(
     output: &mut W,
     errors: &mut E,
 ) -> Result<Option<u8>, ControlFault>
-    ensures { IfOk result (λ found. MatchOption found
+    ensures found { IfOk result (λ found. MatchOption found
         ((first_refusal (page_view page.now) commands.now ≡ None)
         × (sinks (W.state output.new) (E.state errors.new)
         ≡ sinks (W.state output.old) (E.state errors.old)))
         (λ status. AreAnswered json (page_view page.now) commands.now status
         (sinks (W.state output.old) (E.state errors.old))
         (sinks (W.state output.new) (E.state errors.new)))) }
+    ensures fault { IfErr result IsPrintFault }
 {
     let Some((command, outcome)) = first_refusal(alloc, page, commands)? else {
         return Ok(None);
@@ -119,9 +122,10 @@ fn send_all<R: Net<Listener = TcpListener, Stream = TcpStream> + Clock, W: Sink,
     output: &mut W,
     errors: &mut E,
 ) -> Result<u8, ControlFault>
-    ensures { IfOk result (λ status. AreAnswered json (page_view before.now) commands.now status
+    ensures answered { IfOk result (λ status. AreAnswered json (page_view before.now) commands.now status
         (sinks (W.state output.old) (E.state errors.old))
         (sinks (W.state output.new) (E.state errors.new))) }
+    ensures fault { IfErr result IsPrintFault }
 {
     if let Some(status) = objection(alloc, before, commands, json, output, errors)? {
         return Ok(status);
@@ -155,9 +159,10 @@ fn commands_of(
     user: Text,
     request: Request,
 ) -> Result<Vec<Command>, ControlFault>
-    ensures { IfOk result (λ commands. (bodies : List Body)
+    ensures commands { IfOk result (λ commands. (bodies : List Body)
         × (map Some bodies ≡ commands_of (page_view page.now) entered user request)
         × (commands.items ≡ map (entered_at entered) bodies)) }
+    ensures fault { IfErr result (IsFaultOn request) }
 {
     match commands_for(alloc, page, entered, user, request) {
         Ok(bodies) => Ok(entered_at(alloc, entered, bodies)?),
@@ -180,9 +185,10 @@ fn on_page<
     output: &mut W,
     errors: &mut E,
 ) -> Result<u8, ControlFault>
-    ensures { IfOk result (λ status. IsCarriedOut json request status
+    ensures carried_out { IfOk result (λ status. IsCarriedOut json request status
         (sinks (W.state output.old) (E.state errors.old))
         (sinks (W.state output.new) (E.state errors.new))) }
+    ensures fault { IfErr result (IsFaultOn request) }
 {
     let entered = now(rt)?;
     let user = user(rt, alloc)?;
@@ -214,7 +220,8 @@ fn unescaped(alloc: Global, options: &Options, request: Request) -> Result<Reque
 
 /// Carries out a request over the gateway of these options: reports the first of its commands that
 /// the gateway would refuse by its page, or else sends them and reports how each ended. Returns the
-/// exit status: that of the first command that doesn't end well, after which none is sent, or 0.
+/// exit status: that of the first command that doesn't end well, after which none is sent, or 0. An
+/// error is that of the options, of the words, of a page that doesn't come or is none, or of a device.
 pub fn carry_out_request<
     R: Net<Listener = TcpListener, Stream = TcpStream> + Clock + Files + Env + AllocGlobal,
     W: Sink,
@@ -227,10 +234,12 @@ pub fn carry_out_request<
     output: &mut W,
     errors: &mut E,
 ) -> Result<u8, ControlFault>
-    ensures { IfOk result (λ status. IsCarriedOut options.now.json
+    ensures carried_out { IfOk result (λ status. IsCarriedOut options.now.json
         (meant options.now.escaped request) status
         (sinks (W.state output.old) (E.state errors.old))
         (sinks (W.state output.new) (E.state errors.new))) }
+    ensures fault { IfErr result
+        (IsRequestFault options.now (meant options.now.escaped request)) }
 {
     let (places, text) = fetched(rt, alloc, options)?;
     let request = unescaped(alloc, options, request)?;

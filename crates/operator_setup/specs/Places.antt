@@ -1,7 +1,7 @@
 -- Addresses, paths and times that words name: `IsAddressText`, `IsAskedAt`, `ArePlacesOf`. Own rules: a port that is
 -- bound at each address of the machine (0.0.0.0, ::) is asked at its loopback address (RFC 1122, 3.2.1.3; RFC 4291, 2.5);
 -- a wait is 1 to 3600 seconds, and 10 where none is named.
-use Rattle.std.specs.Prelude.{◌≡◌, ℕ, ◌&&◌, nat_le, List, [], ◌∷◌, Option, Some, None, if◌then◌else◌}
+use Rattle.std.specs.Prelude.{◌≡◌, ◌⊎◌, ℕ, ◌&&◌, nat_le, List, [], ◌∷◌, Option, Some, None, if◌then◌else◌}
 use Rattle.std.specs.Str.{IsUtf8}
 use Rattle.std.specs.declared.net.ipv4_addr.Ipv4Addr.{Ipv4Addr}
 use Rattle.std.specs.declared.net.ipv6_addr.Ipv6Addr.{Ipv6Addr}
@@ -14,7 +14,7 @@ use Rattle.std.specs.Net.Socket.{socket_ip, socket_port}
 use Rattle.gate_grammar.specs.Numbers.{number_of}
 use Rattle.operator_commands.specs.declared.request.Options.{Options}
 use Rattle.operator_setup.specs.declared.fault.ControlFault.{ControlFault}
-use Rattle.operator_setup.specs.declared.fault.ControlFault.TheVariants.{Unreadable, BadFile, OutOfMemory}
+use Rattle.operator_setup.specs.declared.fault.ControlFault.TheVariants.{BadAddress, BadWait, Unreadable, BadFile, NoPage, OutOfMemory}
 use Rattle.operator_setup.specs.declared.places.Places.{Places}
 
 -- 0.0.0.0 is asked at 127.0.0.1, and any other address at itself
@@ -83,3 +83,23 @@ IsOfConfiguration Unreadable = Unit {0}
 IsOfConfiguration (BadFile text) = Unit {0}
 IsOfConfiguration OutOfMemory = Unit {0}
 IsOfConfiguration _ = ⊥
+
+-- the option is there, and no address
+abbrev pub IsBadOption : Option (List ℕ) → Type 0
+IsBadOption None = ⊥
+IsBadOption (Some text) = IsNoAddress text
+
+-- why there are no addresses: an option is none, or the configuration has this fault
+abbrev pub IsOfAddresses : Options → ControlFault → Type 0
+IsOfAddresses options BadAddress = IsBadOption options.operators ⊎ IsBadOption options.pages
+IsOfAddresses options fault = IsOfConfiguration fault
+
+-- why there are no ports: `--wait` is no time, or there are no addresses
+abbrev pub IsOfPlaces : Options → ControlFault → Type 0
+IsOfPlaces options BadWait = wait_of options.wait ≡ None
+IsOfPlaces options fault = IsOfAddresses options fault
+
+-- why no page was fetched: none comes, or there are no ports
+abbrev pub IsOfFetch : Options → ControlFault → Type 0
+IsOfFetch options (NoPage fault) = Unit {0}
+IsOfFetch options fault = IsOfPlaces options fault

@@ -11,8 +11,10 @@ use status_reading::{ReadFault, StatusPage, read_status_page};
 use std::alloc::Global;
 use std::time::{Clock, SystemTime};
 
-/// The seconds since 1970, at most 4294967295.
-pub fn now(rt: &impl Clock) -> Result<Moment, ControlFault> {
+/// The seconds since 1970, at most 4294967295. `NoClock`: the clock can't be read.
+pub fn now(rt: &impl Clock) -> Result<Moment, ControlFault>
+    ensures { IfErr result (λ fault. fault ≡ ControlFault.NoClock) }
+{
     let Ok(now) = SystemTime::now(rt) else {
         return Err(ControlFault::NoClock);
     };

@@ -3,7 +3,7 @@
 ghost use Rattle.std.specs.Prelude.{◌≡◌, ◌≢◌, ◌↔◌, IfErr, IfOk, MatchOption, MatchResult, Err, None};
 ghost use Rattle.std.specs.Option.{ok_or, option_map};
 ghost use Rattle.std.specs.Str.{IsUtf8};
-ghost use Rattle.operator_setup.specs.Places.{ArePlacesOf, IsAddressOf, IsAddressText, IsAskedAt, IsAskedAtV4, IsAskedAtV6, IsAskedIp, IsNoAddress, IsNoPath, IsOfConfiguration, wait_of};
+ghost use Rattle.operator_setup.specs.Places.{ArePlacesOf, IsAddressOf, IsAddressText, IsAskedAt, IsAskedAtV4, IsAskedAtV6, IsAskedIp, IsNoAddress, IsNoPath, IsOfAddresses, IsOfConfiguration, IsOfFetch, IsOfPlaces, wait_of};
 
 use crate::fault::ControlFault;
 use gate_config::{Config, read_config};
@@ -192,7 +192,7 @@ fn configured_addresses<F: Files>(
 ) -> Result<(SocketAddr, SocketAddr), ControlFault>
     ensures operators { IfOk result (λ found. IsAddressOf options.now.operators found.0) }
     ensures pages { IfOk result (λ found. IsAddressOf options.now.pages found.1) }
-    ensures fault { IfErr result (λ fault. fault ≢ ControlFault.BadWait) }
+    ensures fault { IfErr result (IsOfAddresses options.now) }
 {
     let config = configuration(files, alloc, options)?;
     let operators = address_or(&options.operators, config.operators.socket)?;
@@ -208,7 +208,7 @@ fn addresses_in<F: Files>(
 ) -> Result<(SocketAddr, SocketAddr), ControlFault>
     ensures operators { IfOk result (λ found. IsAddressOf options.now.operators found.0) }
     ensures pages { IfOk result (λ found. IsAddressOf options.now.pages found.1) }
-    ensures fault { IfErr result (λ fault. fault ≢ ControlFault.BadWait) }
+    ensures fault { IfErr result (IsOfAddresses options.now) }
 {
     match (&options.operators, &options.pages) {
         (Some(operators), Some(pages)) => Ok((address_in(operators)?, address_in(pages)?)),
@@ -225,6 +225,7 @@ pub fn places_for<F: Files>(
 ) -> Result<Places, ControlFault>
     ensures places { IfOk result (ArePlacesOf options.now) }
     ensures bad_wait { (result ≡ Err ControlFault.BadWait) ↔ (wait_of options.now.wait ≡ None) }
+    ensures fault { IfErr result (IsOfPlaces options.now) }
 {
     let seconds = wait_in(options)?;
     let (operators, pages) = addresses_in(files, alloc, options)?;
@@ -243,6 +244,7 @@ pub fn fetched<R: Net<Listener = TcpListener, Stream = TcpStream> + Clock + File
 ) -> Result<(Places, Vec<u8>), ControlFault>
     ensures places { IfOk result (λ found. ArePlacesOf options.now found.0) }
     ensures bad_wait { (result ≡ Err ControlFault.BadWait) ↔ (wait_of options.now.wait ≡ None) }
+    ensures fault { IfErr result (IsOfFetch options.now) }
 {
     let places = places_for(rt, alloc, options)?;
     match fetch(rt, alloc, places.pages) {

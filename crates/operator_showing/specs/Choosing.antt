@@ -1,13 +1,15 @@
 -- Which objects of a page `--state` and `--host` choose (`IsAskedFor`), and their lines (`chosen_text`). Own rules.
 use Rattle.std.specs.Prelude.{◌≡◌, ℕ, ◌==◌, Bool, if◌then◌else◌, List, [], ◌∷◌, ◌++◌, drop, find, Option, Some, None}
 use Rattle.std.specs.List.{flat_map, slice_split, zip}
-use Rattle.std.specs.Str.{str_eq_ignore_ascii_case}
+use Rattle.std.specs.Str.{IsUtf8, str_eq_ignore_ascii_case}
 use Rattle.gate_model.specs.declared.state.State.TheVariants.{Pending, Ok, Warning, Critical, Unknown, Up, Down, Unreachable}
 use Rattle.status_merge.specs.declared.gateway.MergedObject.{MergedObject}
 use Rattle.status_merge.specs.declared.query.Choice.{Choice}
 use Rattle.status_merge.specs.declared.query.Choice.TheVariants.{All, Problems, Unhandled, Stale, In}
 use Rattle.status_merge.specs.Asking.{Asked, choice_word, only}
 use Rattle.status_merge.specs.Selecting.{is_selected}
+use Rattle.operator_setup.specs.declared.fault.ControlFault.{ControlFault}
+use Rattle.operator_setup.specs.declared.fault.ControlFault.TheVariants.{BadState, BadWords, OutOfMemory}
 
 -- what `--state` may be
 abbrev pub choices : List Choice
@@ -36,6 +38,13 @@ host_in (Some host) = host
 abbrev pub IsAskedFor : Option (List ℕ) → Option (List ℕ) → Asked → Type 0
 IsAskedFor state host asked =
     (choice : Choice) × (choice_in state ≡ Some choice) × (asked ≡ record (only choice) { host = host_in host })
+
+-- why nothing is asked for: the word is no choice, or the text of a host's name is no UTF-8, or memory runs out
+abbrev pub IsQueryFault : Option (List ℕ) → Option (List ℕ) → ControlFault → Type 0
+IsQueryFault state host BadState = choice_in state ≡ None
+IsQueryFault state host BadWords = ¬ (IsUtf8 (host_in host))
+IsQueryFault state host OutOfMemory = Unit {0}
+IsQueryFault state host fault = ⊥
 
 -- ---- lines
 

@@ -1,5 +1,5 @@
 -- What `status` prints: `IsShown`. What a gateway shows isn't known here, so some page that it showed is meant.
-use Rattle.std.specs.Prelude.{◌≡◌, ℕ, Bool, true, false, List, [], ◌∷◌, ◌++◌, Option, Some, None, Ok}
+use Rattle.std.specs.Prelude.{◌≡◌, ◌⊎◌, ℕ, Bool, true, false, List, [], ◌∷◌, ◌++◌, Option, Some, None, Ok}
 use Rattle.std.specs.List.{flat_map}
 use Rattle.gate_reader.specs.Sink.{SinkState, Delivers}
 use Rattle.status_reading.specs.declared.page.StatusPage.{StatusPage}
@@ -9,8 +9,12 @@ use Rattle.status_merge.specs.Asking.{Asked}
 use Rattle.status_merge.specs.Objects.{merged, objects_on, with_hosts}
 use Rattle.status_merge.specs.Selecting.{selected}
 use Rattle.status_export.specs.Document.{compact_text, status_document}
+use Rattle.operator_commands.specs.declared.request.Options.{Options}
+use Rattle.operator_setup.specs.declared.fault.ControlFault.{ControlFault}
+use Rattle.operator_setup.specs.declared.fault.ControlFault.TheVariants.{BadPage, WriteFault, OutOfMemory}
 use Rattle.operator_setup.specs.Pages.{IsPageIn}
-use Rattle.operator_showing.specs.Choosing.{IsAskedFor, object_lines, chosen_text}
+use Rattle.operator_setup.specs.Places.{IsOfFetch}
+use Rattle.operator_showing.specs.Choosing.{IsAskedFor, IsQueryFault, object_lines, chosen_text}
 
 -- a gateway of this name, whose page this is
 pub record IsAlone (name : List ℕ) (page : StatusPage) (gateway : Gateway) : Type 0 where
@@ -66,3 +70,17 @@ pub record IsShown (json : Bool) (state host : Option (List ℕ)) (before after 
   pub is_asked : IsAskedFor state host asked
   pub text : List ℕ
   pub shown : IsShownOf json state host asked text before after
+
+-- why a text isn't printed, or a part of it
+abbrev pub IsShowFault : ControlFault → Type 0
+IsShowFault BadPage = Unit {0}
+IsShowFault WriteFault = Unit {0}
+IsShowFault OutOfMemory = Unit {0}
+IsShowFault fault = ⊥
+
+-- why nothing is printed, or a part: what is asked for has a fault, no page comes or none is in the text, or the output
+-- can't be written
+abbrev pub IsStatusFault : Options → Option (List ℕ) → Option (List ℕ) → ControlFault → Type 0
+IsStatusFault options state host BadPage = Unit {0}
+IsStatusFault options state host WriteFault = Unit {0}
+IsStatusFault options state host fault = IsQueryFault state host fault ⊎ IsOfFetch options fault

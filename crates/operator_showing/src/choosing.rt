@@ -1,9 +1,9 @@
 //! The objects of a page that `--state` and `--host` choose, and their lines.
 
-ghost use Rattle.std.specs.Prelude.{◌≡◌, map, IfOk};
+ghost use Rattle.std.specs.Prelude.{◌≡◌, map, IfErr, IfOk};
 ghost use Rattle.status_merge.specs.Asking.{asked_by};
 ghost use Rattle.status_merge.specs.Selecting.{is_selected};
-ghost use Rattle.operator_showing.specs.Choosing.{is_named, named_choice, choice_in, host_in, IsAskedFor, object_lines, chosen_text};
+ghost use Rattle.operator_showing.specs.Choosing.{is_named, named_choice, choice_in, host_in, IsAskedFor, IsQueryFault, object_lines, chosen_text};
 
 use gate_model::{State, Text};
 use operator_setup::ControlFault;
@@ -67,7 +67,8 @@ pub(crate) fn query_in(
     state: &Option<Text>,
     host: &Option<Text>,
 ) -> Result<Query, ControlFault>
-    ensures { IfOk result (λ query. IsAskedFor state.now host.now (asked_by query)) }
+    ensures asked { IfOk result (λ query. IsAskedFor state.now host.now (asked_by query)) }
+    ensures fault { IfErr result (IsQueryFault state.now host.now) }
 {
     let choice = choice_in(state).ok_or(ControlFault::BadState)?;
     let Ok(host) = str::from_utf8(host_in(host)) else {

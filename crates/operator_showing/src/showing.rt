@@ -1,8 +1,8 @@
 //! The status page, whole or in part, as it came or as JSON.
 
-ghost use Rattle.std.specs.Prelude.{◌≡◌, ◌||◌, is_some, IfOk};
+ghost use Rattle.std.specs.Prelude.{◌≡◌, ◌||◌, is_some, IfErr, IfOk};
 ghost use Rattle.status_merge.specs.Asking.{asked_by};
-ghost use Rattle.operator_showing.specs.Shown.{IsAlone, chosen_on, json_on, IsPageShown, IsChosenShown, IsJsonShown, IsShown};
+ghost use Rattle.operator_showing.specs.Shown.{IsAlone, chosen_on, json_on, IsPageShown, IsChosenShown, IsJsonShown, IsShowFault, IsShown, IsStatusFault};
 
 use crate::choosing::{chosen_text, object_lines, query_in};
 use gate_model::Text;
@@ -58,7 +58,8 @@ fn json_on(alloc: Global, gateway: Gateway<'_>, query: &Query) -> Result<Vec<u8>
 
 // Prints a text, where it is a page.
 fn show<W: Sink>(alloc: Global, text: &[u8], output: &mut W) -> Result<u8, ControlFault>
-    ensures { IfOk result (λ status. (status ≡ 0)
+    ensures fault { IfErr result IsShowFault }
+    ensures shown { IfOk result (λ status. (status ≡ 0)
         × IsPageShown text.now (W.state output.old) (W.state output.new)) }
 {
     let _page = page_of(alloc, text)?;
@@ -73,7 +74,8 @@ fn show_chosen<W: Sink>(
     query: &Query,
     output: &mut W,
 ) -> Result<u8, ControlFault>
-    ensures { IfOk result (λ status. (status ≡ 0)
+    ensures fault { IfErr result IsShowFault }
+    ensures shown { IfOk result (λ status. (status ≡ 0)
         × IsChosenShown text.now (asked_by query.now) (W.state output.old) (W.state output.new)) }
 {
     let page = page_of(alloc, text)?;
@@ -90,7 +92,8 @@ fn show_json<W: Sink>(
     query: &Query,
     output: &mut W,
 ) -> Result<u8, ControlFault>
-    ensures { IfOk result (λ status. (status ≡ 0)
+    ensures fault { IfErr result IsShowFault }
+    ensures shown { IfOk result (λ status. (status ≡ 0)
         × IsJsonShown text.now name.now (asked_by query.now)
         (W.state output.old) (W.state output.new)) }
 {
@@ -119,6 +122,8 @@ pub fn run_status<R: Net<Listener = TcpListener, Stream = TcpStream> + Clock + F
     ensures status { IfOk result (λ status. status ≡ 0) }
     ensures shown { IfOk result (λ _. IsShown options.now.json wanted.entry.0.now wanted.entry.1.now
         (W.state output.old) (W.state output.new)) }
+    ensures fault { IfErr result
+        (IsStatusFault options.now wanted.entry.0.now wanted.entry.1.now) }
 {
     let query = query_in(alloc, wanted.0, wanted.1)?;
     let (places, text) = fetched(rt, alloc, options)?;

@@ -1,8 +1,8 @@
 use Rattle.operator_sending.proofs.requests.on_page.Goals as goal
 
-pub returns : goal.returns
-returns g c =
-    let commands = c.in_ok-commands.ensures in
+pub returns-clause-carried_out : goal.returns-clause-carried_out
+returns-clause-carried_out g c =
+    let commands = c.in_ok-commands.ensures.commands in
     record {
       text = c.args.text.now;
       page = c.in_ok-before.before;
@@ -11,5 +11,5 @@ returns g c =
       user = c.in_ok-user.user;
       bodies = commands.0;
       are_commands = commands.1;
-      answered = rw (c.as_slice.ensures.value, commands.2) at c.in_ok-status.ensures;
+      answered = rw (c.as_slice.ensures.value, commands.2) at c.in_ok-status.ensures.answered;
     }

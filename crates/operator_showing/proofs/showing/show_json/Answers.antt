@@ -1,8 +1,8 @@
 use Rattle.std.proofs.Common.{refl}
 use Rattle.operator_showing.proofs.showing.show_json.Goals as goal
 
-pub returns : goal.returns
-returns g c = (
+pub returns-clause-shown : goal.returns-clause-shown
+returns-clause-shown g c = (
   refl,
   record {
     page = c.in_ok-page.page;
