@@ -1,10 +1,11 @@
 //! The word `restore`: its files, its addresses, and what it prints.
 
-ghost use Rattle.std.specs.Prelude.{◌≡◌, ◌≤◌, ◌⊎◌, ◌==◌, ℕ, List, true, if◌then◌else◌, IfOk};
+ghost use Rattle.std.specs.Prelude.{◌≡◌, ◌≤◌, ◌⊎◌, ◌==◌, ℕ, List, true, if◌then◌else◌, IfErr, IfOk};
 ghost use Rattle.gate_model.specs.declared.record.Moment.{Moment};
 ghost use Rattle.gate_reader.specs.Sink.{Delivers};
 ghost use Rattle.operator_restoring.specs.Lines.{AreLinesOf, commands_of, is_dry_run, IsDryEnd, IsDryRun};
 ghost use Rattle.operator_restoring.specs.Restored.{IsPlanned, AreSent, IsRestored};
+ghost use Rattle.operator_restoring.specs.Faults.{IsOutputFault, IsNoTarget, IsNotRestored};
 
 use crate::gateway::Gateway;
 use crate::live::{LiveGateway, Target};
@@ -57,7 +58,9 @@ fn carry_out<F: Files + Clock, G: Gateway>(
 }
 
 // What a log says is restored once: after a crash the page is newer than it.
-fn put_aside<F: Files>(files: &F, alloc: Global, page: &str) -> Result<(), ControlFault> {
+fn put_aside<F: Files>(files: &F, alloc: Global, page: &str) -> Result<(), ControlFault>
+    ensures { IfErr result (λ fault. fault ≡ ControlFault.OutOfMemory) }
+{
     let from = format!(in alloc; "{page}.log")?;
     let to = format!(in alloc; "{page}.log.restored")?;
     let _missing = fs::rename(files, from.as_str(), to.as_str());
@@ -66,7 +69,8 @@ fn put_aside<F: Files>(files: &F, alloc: Global, page: &str) -> Result<(), Contr
 
 // Prints why restoring ended early, and returns the exit status.
 fn report<E: Sink>(alloc: Global, fault: RestoreFault, errors: &mut E) -> Result<u8, ControlFault>
-    ensures { IfOk result (λ status. 2 ≤ status) }
+    ensures early { IfOk result (λ status. 2 ≤ status) }
+    ensures unsaid { IfErr result IsOutputFault }
 {
     let text = format!(in alloc; "nscagatectl: {fault}\n")?;
     print(errors, text.as_bytes())?;
@@ -84,6 +88,7 @@ fn print_lines<W: Sink>(
         × AreLinesOf (commands_of entered prospect) text
         × Delivers (W.state output.old) (W.state output.new) text) }
     ensures status { IfOk result (λ status. status ≡ (if prospect.named == 0 then 0 else 1)) }
+    ensures unsaid { IfErr result IsOutputFault }
 {
     let status = if prospect.named == 0 { 0 } else { 1 };
     let lines = lines_of(alloc, prospect, entered)?;
@@ -99,7 +104,8 @@ fn finish<F: Files, W: Sink>(
     count: usize,
     output: &mut W,
 ) -> Result<u8, ControlFault>
-    ensures { IfOk result (λ status. status ≡ 0 → count ≡ 0) }
+    ensures all { IfOk result (λ status. status ≡ 0 → count ≡ 0) }
+    ensures unsaid { IfErr result IsOutputFault }
 {
     if count > 0 {
         return Ok(1);
@@ -119,8 +125,9 @@ fn send_all<F: Files + Clock, G: Gateway, W: Sink, E: Sink>(
     output: &mut W,
     errors: &mut E,
 ) -> Result<u8, ControlFault>
-    ensures { IfOk result (λ status. IsPlanned prospect → status ≡ 0 → AreSent G.has_results
+    ensures sent { IfOk result (λ status. IsPlanned prospect → status ≡ 0 → AreSent G.has_results
         × IsRestored G.shows G.has_others order.now.table.now order.now.entered) }
+    ensures unsaid { IfErr result IsOutputFault }
 {
     print(output, prospect.source.as_slice())?;
     let mut lines = Vec::new(alloc);
@@ -153,6 +160,7 @@ fn restore_by<F: Files + Clock, G: Gateway, W: Sink, E: Sink>(
         × IsRestored G.shows G.has_others order.now.table.now order.now.entered)) }
     ensures dry_run { IfOk result (λ status. IsPlanned prospect → order.now.dry_run ≡ true
         → IsDryRun order.now.entered status (W.state output.old) (W.state output.new)) }
+    ensures unsaid { IfErr result IsOutputFault }
 {
     print(errors, prospect.lines.as_slice())?;
     let dry_run = order.dry_run;
@@ -166,7 +174,7 @@ fn restore_by<F: Files + Clock, G: Gateway, W: Sink, E: Sink>(
 
 /// Brings a fresh gateway to what a kept status page and a kept log page show, and names what isn't
 /// shown again. Returns the exit status: 0 where each row is shown again, or a newer result of its
-/// object.
+/// object. An error is `WriteFault` or `OutOfMemory`.
 pub fn restore_to<F: Files + Clock, G: Gateway, W: Sink, E: Sink>(
     rt: &F,
     alloc: Global,
@@ -182,6 +190,7 @@ pub fn restore_to<F: Files + Clock, G: Gateway, W: Sink, E: Sink>(
     // A dry run prints what would be sent, unless that can't be planned.
     ensures dry_run { IfOk result (λ status. order.now.dry_run ≡ true
         → IsDryEnd order.now.entered status (W.state output.old) (W.state output.new)) }
+    ensures unsaid { IfErr result IsOutputFault }
 {
     match prospect_of(rt, alloc, order.options, order.kept, order.entered) {
         Ok(prospect) => {
@@ -203,7 +212,9 @@ fn target_of<'a, F: Files>(
     agents: &Option<Text>,
     pid: &'a Option<Text>,
     config: &'a Config,
-) -> Result<Target<'a>, ControlFault> {
+) -> Result<Target<'a>, ControlFault>
+    ensures { IfErr result (IsNoTarget options.now agents.now pid.now) }
+{
     let (places, pid) = (places_for(files, alloc, options)?, path_of(pid)?);
     Ok(Target {
         agents: address_or(agents, config.agents.socket)?,
@@ -217,7 +228,8 @@ fn target_of<'a, F: Files>(
 
 /// Restores to the gateway that the words name, or prints what would be sent. Returns the exit status:
 /// that of `restore_to`, or 2 or 3 where there is no such gateway. The task is `Restore`; another is
-/// `BadWords`.
+/// `BadWords`, as is a path that is no UTF-8. An error is also a fault of the ports or of the
+/// configuration, `NoClock`, or that of `restore_to`.
 pub fn restore<
     R: Net<Listener = TcpListener, Stream = TcpStream> + Clock + Files,
     W: Sink,
@@ -230,8 +242,9 @@ pub fn restore<
     output: &mut W,
     errors: &mut E,
 ) -> Result<u8, ControlFault>
-    ensures { IfOk result (λ status. is_dry_run task.now ≡ true
+    ensures dry_run { IfOk result (λ status. is_dry_run task.now ≡ true
         → (entered : Moment) × IsDryEnd entered status (W.state output.old) (W.state output.new)) }
+    ensures fault { IfErr result (IsNotRestored options.now task.now) }
 {
     let Task::Restore {
         page,

@@ -1,5 +1,8 @@
 //! The word `stop`: keeps a gateway's status page and its log page, and shuts it down.
 
+ghost use Rattle.std.specs.Prelude.{◌≡◌, IfErr};
+ghost use Rattle.operator_restoring.specs.Faults.{IsNotStopped};
+
 use crate::stopping::{Stopped, stop_by};
 use gate_grammar::Command;
 use gate_model::Body;
@@ -29,7 +32,9 @@ struct LiveStop<'a, R> {
     pid: Option<&'a str>,
 }
 
-fn pages_of<'a, R: Clock>(rt: &'a R, places: Places) -> Result<LivePages<'a, R>, ControlFault> {
+fn pages_of<'a, R: Clock>(rt: &'a R, places: Places) -> Result<LivePages<'a, R>, ControlFault>
+    ensures { IfErr result (λ fault. fault ≡ ControlFault.NoClock) }
+{
     match LivePages::new(rt, places.pages, places.seconds) {
         Ok(pages) => Ok(pages),
         Err(_) => Err(ControlFault::NoClock),
@@ -42,7 +47,9 @@ fn has_ended<R: Clock + Files>(
     alloc: Global,
     pid: &str,
     seconds: u32,
-) -> Result<bool, ControlFault> {
+) -> Result<bool, ControlFault>
+    ensures { IfErr result (λ fault. fault ≡ ControlFault.NoClock) }
+{
     let Ok(begun) = Instant::now(rt) else {
         return Err(ControlFault::NoClock);
     };
@@ -128,7 +135,8 @@ impl<'a, R: Net<Listener = TcpListener, Stream = TcpStream> + Clock + Files> Sto
 
 /// Keeps a gateway's status page and its log page, and shuts it down. Returns the exit status: 0
 /// where nothing that was answered `queued` is missing, 1 where it has ended and what is kept may
-/// be older, and 3 where it didn't answer or hasn't ended. The task is `Stop`.
+/// be older, and 3 where it didn't answer or hasn't ended. The task is `Stop`; another is `BadWords`,
+/// as is a path that is no UTF-8. An error is also a fault of the ports, or that of `stop_by`.
 pub fn stop<R: Net<Listener = TcpListener, Stream = TcpStream> + Clock + Files, W: Sink, E: Sink>(
     rt: &R,
     alloc: Global,
@@ -136,7 +144,9 @@ pub fn stop<R: Net<Listener = TcpListener, Stream = TcpStream> + Clock + Files, 
     task: &Task,
     output: &mut W,
     errors: &mut E,
-) -> Result<u8, ControlFault> {
+) -> Result<u8, ControlFault>
+    ensures { IfErr result (IsNotStopped options.now task.now) }
+{
     let Task::Stop { page, log, pid } = task else {
         return Err(ControlFault::BadWords);
     };

@@ -1,6 +1,7 @@
 //! A gateway that is stopped, and what is kept of it.
 
-ghost use Rattle.std.specs.Prelude.{◌≡◌, ◌⊎◌, ℕ, true, List, IfOk, IfSome};
+ghost use Rattle.std.specs.Prelude.{◌≡◌, ◌⊎◌, ℕ, true, List, IfErr, IfOk, IfSome};
+ghost use Rattle.operator_restoring.specs.Faults.{IsOutputFault, IsStopFault};
 ghost use Rattle.operator_restoring.specs.Restored.{IsShown};
 ghost use Rattle.operator_restoring.specs.Stopped.{IsAllKept, IsLogKept};
 ghost use Rattle.operator_restoring.specs.inner.Kept.{IsKeptAs};
@@ -29,23 +30,30 @@ pub trait Stopped {
     // It answered `closing`.
     ghost closes: { Type 0 };
 
+    // Its process has ended.
+    ghost ends: { Type 0 } = { Unit {0} };
+
     /// Its page before the close.
     fn page(&mut self, alloc: Global) -> Option<Vec<u8>>
         ensures { IfSome result (λ text. shows text.items) };
 
-    /// Shuts it down: whether it answered `closing`.
+    /// Shuts it down: whether it answered `closing`. The error of this and of the others is `NoClock`.
     fn shut_down(&mut self, alloc: Global) -> Result<bool, ControlFault>
-        ensures { IfOk result (λ is_closing. is_closing ≡ true → closes) };
+        ensures closed { IfOk result (λ is_closing. is_closing ≡ true → closes) }
+        ensures fault { IfErr result (λ fault. fault ≡ ControlFault.NoClock) };
 
     /// The time begins within which its pages are waited for.
-    fn begin(&mut self) -> Result<(), ControlFault>;
+    fn begin(&mut self) -> Result<(), ControlFault>
+        ensures { IfErr result (λ fault. fault ≡ ControlFault.NoClock) };
 
     /// Its next page, after a pause.
     fn next(&mut self, alloc: Global) -> Next
         ensures { IsShown shows result };
 
     /// Whether its process has ended within the time, where one is named.
-    fn has_ended(&mut self, alloc: Global) -> Result<bool, ControlFault>;
+    fn has_ended(&mut self, alloc: Global) -> Result<bool, ControlFault>
+        ensures ended { IfOk result (λ has_ended. has_ended ≡ true → ends) }
+        ensures fault { IfErr result (λ fault. fault ≡ ControlFault.NoClock) };
 
     /// What its daemon printed, if it can be read.
     fn printed(&mut self, alloc: Global) -> Option<Vec<u8>>
@@ -112,7 +120,8 @@ fn keep_first<S: Stopped>(alloc: Global, stopped: &mut S) -> Kept
 // Keeps the pages of a gateway that ends, until there is none any more.
 #[tactic(auto, using(crate::proofs::StopSteps::kept_better))]
 fn keep_last<S: Stopped>(alloc: Global, stopped: &mut S) -> Result<Kept, ControlFault>
-    ensures { IfOk result (IsKeptAs S.shows S.has_page S.prints S.has_log) }
+    ensures kept { IfOk result (IsKeptAs S.shows S.has_page S.prints S.has_log) }
+    ensures fault { IfErr result (λ fault. fault ≡ ControlFault.NoClock) }
 {
     stopped.begin()?;
     let mut kept = Kept::Nothing;
@@ -168,7 +177,8 @@ fn await_log<S: Stopped>(alloc: Global, stopped: &mut S, seconds: u32) -> Kept
 
 // Prints what the gateway doesn't do, and returns the exit status 3.
 fn refuse<E: Sink>(errors: &mut E, text: &[u8]) -> Result<u8, ControlFault>
-    ensures { IfOk result (λ status. status ≡ 3) }
+    ensures status { IfOk result (λ status. status ≡ 3) }
+    ensures fault { IfErr result IsOutputFault }
 {
     print(errors, text)?;
     Ok(3)
@@ -176,8 +186,9 @@ fn refuse<E: Sink>(errors: &mut E, text: &[u8]) -> Result<u8, ControlFault>
 
 // Prints what is kept, and returns the exit status.
 fn report<W: Sink, E: Sink>(kept: Kept, output: &mut W, errors: &mut E) -> Result<u8, ControlFault>
-    ensures { IfOk result (λ status. status ≡ 0
+    ensures status { IfOk result (λ status. status ≡ 0
         → (kept ≡ Kept.LastPage) ⊎ (kept ≡ Kept.Log)) }
+    ensures fault { IfErr result IsOutputFault }
 {
     let text = match kept {
         Kept::Log | Kept::LastPage => {
@@ -196,7 +207,7 @@ fn report<W: Sink, E: Sink>(kept: Kept, output: &mut W, errors: &mut E) -> Resul
 /// Keeps a gateway's status page, shuts it down, and keeps its last page and, where `log_seconds` is
 /// there, its log page, which is waited for so long. Returns the exit status: 0 where nothing that was
 /// answered `queued` is missing, 1 where it has ended and what is kept may be older, and 3 where it
-/// didn't answer or hasn't ended.
+/// didn't answer or hasn't ended. An error is `NoClock`, `WriteFault` or `OutOfMemory`.
 #[tactic(auto, using(crate::proofs::StopSteps::kept_better, crate::proofs::StopSteps::all_kept))]
 pub fn stop_by<S: Stopped, W: Sink, E: Sink>(
     alloc: Global,
@@ -206,8 +217,10 @@ pub fn stop_by<S: Stopped, W: Sink, E: Sink>(
     errors: &mut E,
 ) -> Result<u8, ControlFault>
     // The gateway answered `closing`, and its last page is kept, or its whole log page.
-    ensures { IfOk result (λ status. status ≡ 0
+    ensures kept { IfOk result (λ status. status ≡ 0
         → S.closes × IsAllKept S.shows S.has_page S.prints S.has_log) }
+    ensures ended { IfOk result (λ status. (status ≡ 3) ⊎ (S.closes × S.ends)) }
+    ensures fault { IfErr result IsStopFault }
 {
     let first = keep_first(alloc, stopped);
     if !stopped.shut_down(alloc)? {

@@ -9,8 +9,12 @@ use Rattle.page_changes.specs.declared.comparing.Change.{Change}
 use Rattle.page_changes.specs.Changes.{changed}
 use Rattle.change_lines.specs.Lines.{line}
 use Rattle.operator_json.specs.Changes.{change_json}
+use Rattle.operator_commands.specs.declared.request.Options.{Options}
+use Rattle.operator_setup.specs.declared.fault.ControlFault.{ControlFault}
+use Rattle.operator_setup.specs.declared.fault.ControlFault.TheVariants.{BadInterval, BadPage, WriteFault, NoPage}
 use Rattle.operator_setup.specs.Pages.{IsPageIn}
-use Rattle.operator_setup.specs.Places.{seconds_of}
+use Rattle.operator_setup.specs.Places.{IsOfFetch, seconds_of}
+use Rattle.operator_showing.specs.Shown.{IsShowFault}
 
 -- the seconds of `--interval`, or else 1
 abbrev pub interval_of : Option (List ℕ) → Option ℕ
@@ -44,10 +48,27 @@ AreFollowed json one [] before after = after ≡ before
 AreFollowed json one (other ∷ others) before after =
     (between : SinkState) × IsChangePrinted json one other before between × AreFollowed json other others between after
 
--- what is other on each of some pages
-abbrev pub IsFollowed : Bool → List ℕ → SinkState → SinkState → Type 0
-IsFollowed json one before after = (others : List (List ℕ)) × AreFollowed json one others before after
+-- what is other on each of so many pages
+abbrev pub IsFollowedFor : ℕ → Bool → List ℕ → SinkState → SinkState → Type 0
+IsFollowedFor count json one before after =
+    (others : List (List ℕ)) × (length others ≡ count) × AreFollowed json one others before after
+
+-- of some page, and of so many pages after it
+abbrev pub IsWatchedFor : ℕ → Bool → SinkState → SinkState → Type 0
+IsWatchedFor count json before after = (one : List ℕ) × IsFollowedFor count json one before after
 
 -- of some page, and of some pages after it
 abbrev pub IsWatched : Bool → SinkState → SinkState → Type 0
-IsWatched json before after = (one : List ℕ) × IsFollowed json one before after
+IsWatched json before after = (count : ℕ) × IsWatchedFor count json before after
+
+-- why no further page is followed: none comes or none is in the text, or the output can't be written
+abbrev pub IsFollowFault : ControlFault → Type 0
+IsFollowFault (NoPage fault) = Unit {0}
+IsFollowFault fault = IsShowFault fault
+
+-- the same, or why none is: `--interval` is none, or there are no ports
+abbrev pub IsWatchFault : Options → Option (List ℕ) → ControlFault → Type 0
+IsWatchFault options interval BadInterval = interval_of interval ≡ None
+IsWatchFault options interval BadPage = Unit {0}
+IsWatchFault options interval WriteFault = Unit {0}
+IsWatchFault options interval fault = IsOfFetch options fault

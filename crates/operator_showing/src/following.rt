@@ -1,10 +1,11 @@
 //! One page after another, and what is other on each.
 
-ghost use Rattle.std.specs.Prelude.{◌≡◌, ◌++◌, Err, IfErr, IfOk, OnOk};
+ghost use Rattle.std.specs.Prelude.{◌≡◌, ◌-◌, ◌^◌, ◌++◌, ℕ, Err, IfErr, IfOk, OnOk};
 ghost use Rattle.std.specs.List.{flat_map};
 ghost use Rattle.std.specs.Option.{ok_or};
 ghost use Rattle.page_fetching.specs.declared.fetching.FetchFault.{FetchFault};
-ghost use Rattle.operator_showing.specs.Followed.{IsChangePrinted, IsFollowed, IsPrinted, IsWatched, change_line, interval_of};
+ghost use Rattle.operator_showing.specs.Shown.{IsShowFault};
+ghost use Rattle.operator_showing.specs.Followed.{IsChangePrinted, IsFollowFault, IsFollowedFor, IsPrinted, IsWatchFault, IsWatched, IsWatchedFor, change_line, interval_of};
 
 use change_lines::push_change;
 use gate_grammar::read_number;
@@ -94,7 +95,7 @@ fn print_changes<W: Sink>(
 ) -> Result<(), ControlFault>
     ensures printed { OnOk result (IsChangePrinted json before.now after.now
         (W.state output.old) (W.state output.new)) }
-    ensures fault { (fault : FetchFault) → result ≡ Err (ControlFault.NoPage fault) → ⊥ }
+    ensures fault { IfErr result IsShowFault }
 {
     let before = page_of(alloc, before)?;
     let after = page_of(alloc, after)?;
@@ -114,8 +115,11 @@ fn follow<R: Net<Listener = TcpListener, Stream = TcpStream> + Clock, W: Sink>(
     json: bool,
     output: &mut W,
 ) -> Result<u8, ControlFault>
-    ensures { (fault : FetchFault) → result ≡ Err (ControlFault.NoPage fault)
-        → IsFollowed json first.items (W.state output.old) (W.state output.new) }
+    ensures followed { (fault : FetchFault) → result ≡ Err (ControlFault.NoPage fault)
+        → (count : ℕ) × IsFollowedFor count json first.items (W.state output.old) (W.state output.new) }
+    ensures endless { IfOk result (λ status. (status ≡ 0)
+        × IsFollowedFor (2 ^ 64 - 1) json first.items (W.state output.old) (W.state output.new)) }
+    ensures fault { IfErr result IsFollowFault }
 {
     drop(page_of(alloc, first.as_slice())?);
     let mut before = first;
@@ -132,7 +136,8 @@ fn follow<R: Net<Listener = TcpListener, Stream = TcpStream> + Clock, W: Sink>(
 }
 
 /// Prints what is other on each page of the gateway of these options, until there is none, which is
-/// the fault `NoPage`. Between two pages lie `--interval` seconds.
+/// the fault `NoPage`, or 2^64 - 1 were, for status 0. Between two pages lie `--interval` seconds. An
+/// error is also `BadInterval`, a fault of the options' ports, `BadPage`, `WriteFault` or `OutOfMemory`.
 #[tactic(auto, using(crate::proofs::FollowSteps::nothing))]
 pub fn run_watch<R: Net<Listener = TcpListener, Stream = TcpStream> + Clock + Files, W: Sink>(
     rt: &R,
@@ -141,8 +146,11 @@ pub fn run_watch<R: Net<Listener = TcpListener, Stream = TcpStream> + Clock + Fi
     interval: &Option<Text>,
     output: &mut W,
 ) -> Result<u8, ControlFault>
-    ensures { (fault : FetchFault) → result ≡ Err (ControlFault.NoPage fault)
+    ensures watched { (fault : FetchFault) → result ≡ Err (ControlFault.NoPage fault)
         → IsWatched options.now.json (W.state output.old) (W.state output.new) }
+    ensures endless { IfOk result (λ status. (status ≡ 0)
+        × IsWatchedFor (2 ^ 64 - 1) options.now.json (W.state output.old) (W.state output.new)) }
+    ensures fault { IfErr result (IsWatchFault options.now interval.now) }
 {
     let interval = interval_in(interval)?;
     let (places, text) = fetched(rt, alloc, options)?;

@@ -17,7 +17,7 @@ returns-then-dry_run-clause-dry_run g c = λ planned dry.
     }
 
 pub returns-clause-restored : goal.returns-clause-restored
-returns-clause-restored g c = λ planned zero. inr (c.in_ok-status.ensures planned zero)
+returns-clause-restored g c = λ planned zero. inr (c.in_ok-status.ensures.sent planned zero)
 
 pub returns-clause-dry_run : goal.returns-clause-dry_run
 returns-clause-dry_run g c = λ planned dry. absurd (let no = c.if-dry_run.false in cc)

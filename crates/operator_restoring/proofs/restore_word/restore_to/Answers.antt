@@ -5,4 +5,4 @@ pub returns-in_ok-status-in-Ok-clause-dry_run : goal.returns-in_ok-status-in-Ok-
 returns-in_ok-status-in-Ok-clause-dry_run g c = λ dry. inr (c.in_ok-status-in-Ok.ensures.dry_run c.in-Ok.ensures dry)
 
 pub returns-in_ok-reported-in-Err-clause-dry_run : goal.returns-in_ok-reported-in-Err-clause-dry_run
-returns-in_ok-reported-in-Err-clause-dry_run g c = λ dry. inl c.in_ok-reported-in-Err.ensures
+returns-in_ok-reported-in-Err-clause-dry_run g c = λ dry. inl c.in_ok-reported-in-Err.ensures.early
