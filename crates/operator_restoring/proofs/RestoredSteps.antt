@@ -1,5 +1,5 @@
 -- What status 0 rests on: where nothing is named, no row was foreseen to be missing.
-use Rattle.std.proofs.Common.{◌≡◌, ℕ, ◌+◌, Bool, List, map, inl, inr, ap, ◌∙◌, subst, arith}
+use Rattle.std.proofs.Common.{◌≡◌, ℕ, ◌+◌, ◌≤◌, Bool, List, map, inl, inr, ap, ◌∙◌, subst, arith}
 use Rattle.std.specs.Prelude.{min}
 use Rattle.gate_model.specs.declared.object.ObjectLine.{ObjectLine}
 use Rattle.gate_model.specs.declared.record.Moment.{Moment}
@@ -14,7 +14,7 @@ use Rattle.operator_restore.specs.Naming.{row_count, left_count}
 use Rattle.status_reading.specs.declared.page.StatusPage.{StatusPage}
 use Rattle.page_return.specs.declared.comparing.Missing.{Missing}
 use Rattle.page_return.specs.declared.returning.Unforeseen.{Unforeseen}
-use Rattle.operator_restoring.specs.Restored.{IsShownBack, IsPlanned, IsSentOn, IsRestored}
+use Rattle.operator_restoring.specs.Restored.{AreMissing, IsShownBack, IsPlanned, IsSentOn, IsRestored}
 use Rattle.operator_restoring.specs.inner.Found.{IsFound}
 
 pub of_log : (fresh configured : List ObjectLine) (page log : List ℕ) (now : Moment) (prospect : Prospect)
@@ -44,6 +44,17 @@ pub shown_back : (shows : List ℕ → Type 0) (kept : List ℕ) (page : StatusP
     → row_count foreseen ≡ 0 → rows ≡ 0 → IsShownBack shows kept
 shown_back shows kept page foreseen found rows written is counted none zero =
     record { page = page; is_page = written; text = is.text; shown = is.shown; back = is.back none (omega (arith, counted, zero)) }
+
+pub missing_rows : (shows : List ℕ → Type 0) (kept : List ℕ) (page : StatusPage) (foreseen : Missing) (found : Unforeseen) (rows : ℕ)
+    → IsTextOf kept page → IsFound shows page foreseen found → rows ≡ min (row_count found.missing) 18446744073709551615
+    → AreMissing shows kept foreseen rows
+missing_rows shows kept page foreseen found rows written is counted =
+    record { page = page; is_page = written; text = is.text; shown = is.shown; found = found; compared = is.compared; count = counted }
+
+-- where something is counted, one of the numbers is more than 0
+pub some_counted : (named left rows first count : ℕ) → first ≡ min (named + left) 18446744073709551615
+    → count ≡ min (first + rows) 18446744073709551615 → 1 ≤ count → 1 ≤ named + left + rows
+some_counted named left rows first count one two some = omega arith
 
 -- where nothing is counted, each number is 0
 pub none_counted : (named left rows first count : ℕ) → first ≡ min (named + left) 18446744073709551615

@@ -1,19 +1,21 @@
 -- What the status 0 of `restore` means: `AreSent` and `IsRestored`, where a gateway shows some texts, and some results and
--- some other commands were sent to it. Own rule.
-use Rattle.std.specs.Prelude.{◌≡◌, ◌⊎◌, ℕ, Bool, List, map}
+-- some other commands were sent to it; and the status 1: `IsNamed`. Own rules.
+use Rattle.std.specs.Prelude.{◌≡◌, ◌≤◌, ◌⊎◌, ℕ, ◌+◌, min, Bool, List, map}
 use Rattle.gate_model.specs.declared.object.ObjectLine.{ObjectLine}
 use Rattle.gate_model.specs.declared.record.Moment.{Moment}
 use Rattle.gate_model.specs.declared.submission.Body.{Body}
 use Rattle.gate_grammar.specs.declared.commands.Command.{Command}
 use Rattle.status_reading.specs.declared.page.StatusPage.{StatusPage}
 use Rattle.restore_plan.specs.Changed.{fates_on}
+use Rattle.page_return.specs.declared.comparing.Missing.{Missing}
+use Rattle.page_return.specs.declared.returning.Unforeseen.{Unforeseen}
 use Rattle.operator_effects.specs.declared.watching.Next.{Next}
 use Rattle.operator_effects.specs.declared.watching.Next.TheVariants.{Page, Gone, Over}
 use Rattle.operator_ports.specs.Commands.{entered_at}
 use Rattle.operator_restore.specs.declared.prospect.Prospect.{Prospect}
-use Rattle.operator_restore.specs.Naming.{left_count}
+use Rattle.operator_restore.specs.Naming.{left_count, row_count}
 use Rattle.operator_restore.specs.Prospect.{sent_by, IsTextOf, IsLogProspect, IsPageProspect}
-use Rattle.operator_restore.specs.Back.{IsBackOn}
+use Rattle.operator_restore.specs.Back.{IsBackOn, IsCompared}
 
 -- what is read next is a text that the gateway shows, where it is a page
 abbrev pub IsShown : (List ℕ → Type 0) → Next → Type 0
@@ -28,6 +30,16 @@ pub record IsShownBack (shows : List ℕ → Type 0) (kept : List ℕ) : Type 0 
   pub text : List ℕ
   pub shown : shows text
   pub back : IsBackOn page text
+
+-- so many rows of this text are missing on a page that the gateway shows, and weren't foreseen to be: at most 2^64 - 1
+pub record AreMissing (shows : List ℕ → Type 0) (kept : List ℕ) (foreseen : Missing) (rows : ℕ) : Type 0 where
+  pub page : StatusPage
+  pub is_page : IsTextOf kept page
+  pub text : List ℕ
+  pub shown : shows text
+  pub found : Unforeseen
+  pub compared : IsCompared page foreseen text found
+  pub count : rows ≡ min (row_count found.missing) 18446744073709551615
 
 -- ---- what is planned
 
@@ -80,3 +92,13 @@ pub record IsRestored (shows : List ℕ → Type 0) (others : List Command → T
   pub none_named : prospect.named ≡ 0
   pub sent : IsSentOn shows others table entered prospect.shown.items prospect.others.items 0
   pub back : IsShownBack shows prospect.kept.items
+
+-- something is named: of what was kept, or as left out, or as missing
+pub record IsNamed (shows : List ℕ → Type 0) (others : List Command → Type 0) (table : List ObjectLine) (entered : Moment) : Type 0 where
+  pub prospect : Prospect
+  pub planned : IsPlanned prospect
+  pub left : ℕ
+  pub sent : IsSentOn shows others table entered prospect.shown.items prospect.others.items left
+  pub rows : ℕ
+  pub missing : AreMissing shows prospect.kept.items prospect.foreseen rows
+  pub some : 1 ≤ prospect.named + left + rows

@@ -3,7 +3,7 @@
 ghost use Rattle.std.specs.Prelude.{◌≡◌, IfOk};
 ghost use Rattle.operator_restore.specs.Naming.{row_count};
 ghost use Rattle.operator_restoring.specs.inner.Found.{IsFound};
-ghost use Rattle.operator_restoring.specs.Restored.{IsShownBack};
+ghost use Rattle.operator_restoring.specs.Restored.{AreMissing, IsShownBack};
 
 use crate::gateway::Gateway;
 use crate::restore_fault::RestoreFault;
@@ -52,8 +52,9 @@ pub fn compare_pages<G: Gateway>(
     left: usize,
     lines: &mut Vec<u8>,
 ) -> Result<usize, RestoreFault>
-    ensures { IfOk result (λ rows.
+    ensures back { IfOk result (λ rows.
         row_count foreseen.now ≡ 0 → rows ≡ 0 → IsShownBack G.shows kept.now) }
+    ensures missing { IfOk result (AreMissing G.shows kept.now foreseen.now) }
 {
     let page = read_status_page(alloc, kept)?;
     let found = await_rows(alloc, gateway, &page, foreseen, left)?;

@@ -4,7 +4,7 @@ ghost use Rattle.std.specs.Prelude.{◌≡◌, ◌≤◌, ◌⊎◌, ◌==◌, �
 ghost use Rattle.gate_model.specs.declared.record.Moment.{Moment};
 ghost use Rattle.gate_reader.specs.Sink.{Delivers};
 ghost use Rattle.operator_restoring.specs.Lines.{AreLinesOf, commands_of, is_dry_run, IsDryEnd, IsDryRun};
-ghost use Rattle.operator_restoring.specs.Restored.{IsPlanned, AreSent, IsRestored};
+ghost use Rattle.operator_restoring.specs.Restored.{IsPlanned, AreSent, IsRestored, IsNamed};
 ghost use Rattle.operator_restoring.specs.Faults.{IsOutputFault, IsNoTarget, IsNotRestored};
 
 use crate::gateway::Gateway;
@@ -48,8 +48,10 @@ fn carry_out<F: Files + Clock, G: Gateway>(
     prospect: Prospect,
     lines: &mut Vec<u8>,
 ) -> Result<usize, RestoreFault>
-    ensures { IfOk result (λ count. IsPlanned prospect → count ≡ 0 → AreSent G.has_results
+    ensures sent { IfOk result (λ count. IsPlanned prospect → count ≡ 0 → AreSent G.has_results
         × IsRestored G.shows G.has_others order.now.table.now order.now.entered) }
+    ensures some { IfOk result (λ count. IsPlanned prospect → 1 ≤ count
+        → IsNamed G.shows G.has_others order.now.table.now order.now.entered) }
 {
     gateway.send_results(alloc, prospect.results.as_slice())?;
     let prospect = in_time(rt, alloc, order.options, order.kept, prospect, lines)?;
@@ -105,6 +107,7 @@ fn finish<F: Files, W: Sink>(
     output: &mut W,
 ) -> Result<u8, ControlFault>
     ensures all { IfOk result (λ status. status ≡ 0 → count ≡ 0) }
+    ensures some { IfOk result (λ status. status ≡ 1 → 1 ≤ count) }
     ensures unsaid { IfErr result IsOutputFault }
 {
     if count > 0 {
@@ -127,6 +130,8 @@ fn send_all<F: Files + Clock, G: Gateway, W: Sink, E: Sink>(
 ) -> Result<u8, ControlFault>
     ensures sent { IfOk result (λ status. IsPlanned prospect → status ≡ 0 → AreSent G.has_results
         × IsRestored G.shows G.has_others order.now.table.now order.now.entered) }
+    ensures some { IfOk result (λ status. IsPlanned prospect → status ≡ 1
+        → IsNamed G.shows G.has_others order.now.table.now order.now.entered) }
     ensures unsaid { IfErr result IsOutputFault }
 {
     print(output, prospect.source.as_slice())?;
@@ -158,6 +163,9 @@ fn restore_by<F: Files + Clock, G: Gateway, W: Sink, E: Sink>(
     ensures restored { IfOk result (λ status. IsPlanned prospect → status ≡ 0
         → (order.now.dry_run ≡ true) ⊎ (AreSent G.has_results
         × IsRestored G.shows G.has_others order.now.table.now order.now.entered)) }
+    ensures some { IfOk result (λ status. IsPlanned prospect → status ≡ 1
+        → (order.now.dry_run ≡ true)
+        ⊎ IsNamed G.shows G.has_others order.now.table.now order.now.entered) }
     ensures dry_run { IfOk result (λ status. IsPlanned prospect → order.now.dry_run ≡ true
         → IsDryRun order.now.entered status (W.state output.old) (W.state output.new)) }
     ensures unsaid { IfErr result IsOutputFault }
@@ -174,7 +182,7 @@ fn restore_by<F: Files + Clock, G: Gateway, W: Sink, E: Sink>(
 
 /// Brings a fresh gateway to what a kept status page and a kept log page show, and names what isn't
 /// shown again. Returns the exit status: 0 where each row is shown again, or a newer result of its
-/// object. An error is `WriteFault` or `OutOfMemory`.
+/// object; 1 where something is named; that of a `RestoreFault` where it ends early. An error is `WriteFault` or `OutOfMemory`.
 pub fn restore_to<F: Files + Clock, G: Gateway, W: Sink, E: Sink>(
     rt: &F,
     alloc: Global,
@@ -186,6 +194,9 @@ pub fn restore_to<F: Files + Clock, G: Gateway, W: Sink, E: Sink>(
     ensures restored { IfOk result (λ status. status ≡ 0
         → (order.now.dry_run ≡ true) ⊎ (AreSent G.has_results
         × IsRestored G.shows G.has_others order.now.table.now order.now.entered)) }
+
+    ensures some { IfOk result (λ status. status ≡ 1 → (order.now.dry_run ≡ true)
+        ⊎ IsNamed G.shows G.has_others order.now.table.now order.now.entered) }
 
     // A dry run prints what would be sent, unless that can't be planned.
     ensures dry_run { IfOk result (λ status. order.now.dry_run ≡ true

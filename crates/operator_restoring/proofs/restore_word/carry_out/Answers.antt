@@ -1,9 +1,12 @@
 use Rattle.operator_restoring.proofs.restore_word.carry_out.Goals as goal
 
-pub returns : goal.returns
-returns g c =
+pub returns-clause-sent : goal.returns-clause-sent
+returns-clause-sent g c =
     let sent = rw c.as_slice.ensures.value at c.in_ok-send_results.ensures in
     λ planned none. (
       record { prospect = c.args.prospect; planned = planned; sent = sent },
-      c.in_ok-count.ensures (c.in_ok-prospect.ensures planned) none,
+      c.in_ok-count.ensures.restored (c.in_ok-prospect.ensures planned) none,
     )
+
+pub returns-clause-some : goal.returns-clause-some
+returns-clause-some g c = λ planned some. c.in_ok-count.ensures.some (c.in_ok-prospect.ensures planned) some

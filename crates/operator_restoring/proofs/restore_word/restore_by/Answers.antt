@@ -21,3 +21,9 @@ returns-clause-restored g c = λ planned zero. inr (c.in_ok-status.ensures.sent 
 
 pub returns-clause-dry_run : goal.returns-clause-dry_run
 returns-clause-dry_run g c = λ planned dry. absurd (let no = c.if-dry_run.false in cc)
+
+pub returns-then-dry_run-clause-some : goal.returns-then-dry_run-clause-some
+returns-then-dry_run-clause-some g c = λ planned one. inl c.if-dry_run.true
+
+pub returns-clause-some : goal.returns-clause-some
+returns-clause-some g c = λ planned one. inr (c.in_ok-status.ensures.some planned one)
