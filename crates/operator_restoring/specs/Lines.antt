@@ -10,7 +10,7 @@ use Rattle.operator_commands.specs.declared.request.Task.{Task}
 use Rattle.operator_commands.specs.declared.request.Task.TheVariants.{Restore}
 use Rattle.operator_ports.specs.Commands.{entered_at}
 use Rattle.operator_restore.specs.declared.prospect.Prospect.{Prospect}
-use Rattle.operator_restoring.specs.Restored.{IsPlanned}
+use Rattle.operator_restoring.specs.Restored.{IsPlannedAt}
 
 -- the line of a command; one that no line can hold has the escapes of a page
 abbrev pub IsLineOf : Command → List ℕ → Type 0
@@ -29,9 +29,9 @@ abbrev pub commands_of : Moment → Prospect → List Command
 commands_of entered prospect = map (entered_at entered) (prospect.results.items ++ prospect.others.items)
 
 -- the lines of all that would be sent were printed, and the status is 0 where nothing had to be named
-pub record IsDryRun (entered : Moment) (status : ℕ) (before after : SinkState) : Type 0 where
+pub record IsDryRun (old : Bool) (entered : Moment) (status : ℕ) (before after : SinkState) : Type 0 where
   pub prospect : Prospect
-  pub planned : IsPlanned prospect
+  pub planned : IsPlannedAt old entered prospect
   pub text : List ℕ
   pub lines : AreLinesOf (commands_of entered prospect) text
   pub printed : Delivers before after text
@@ -42,6 +42,11 @@ abbrev pub is_dry_run : Task → Bool
 is_dry_run (Restore page log agents old dry_run pid) = dry_run
 is_dry_run other = false
 
+-- whether they ask for a page that is old
+abbrev pub is_old_asked : Task → Bool
+is_old_asked (Restore page log agents old dry_run pid) = old
+is_old_asked other = false
+
 -- a dry run ended with this status: what would be sent, entered at this moment, was printed, or can't be planned
-abbrev pub IsDryEnd : Moment → ℕ → SinkState → SinkState → Type 0
-IsDryEnd entered status before after = (2 ≤ status) ⊎ IsDryRun entered status before after
+abbrev pub IsDryEnd : Bool → Moment → ℕ → SinkState → SinkState → Type 0
+IsDryEnd old entered status before after = (2 ≤ status) ⊎ IsDryRun old entered status before after

@@ -14,7 +14,7 @@ use Rattle.operator_effects.specs.declared.watching.Next.TheVariants.{Page, Gone
 use Rattle.operator_ports.specs.Commands.{entered_at}
 use Rattle.operator_restore.specs.declared.prospect.Prospect.{Prospect}
 use Rattle.operator_restore.specs.Naming.{left_count, row_count}
-use Rattle.operator_restore.specs.Prospect.{sent_by, IsTextOf, IsLogProspect, IsPageProspect}
+use Rattle.operator_restore.specs.Prospect.{sent_by, IsTextOf, IsLogProspect, IsPageProspect, until_of}
 use Rattle.operator_restore.specs.Back.{IsBackOn, IsCompared}
 
 -- what is read next is a text that the gateway shows, where it is a page
@@ -43,33 +43,36 @@ pub record AreMissing (shows : List ℕ → Type 0) (kept : List ℕ) (foreseen 
 
 -- ---- what is planned
 
--- this is what is sent of some log
-pub record IsOfLog (prospect : Prospect) : Type 0 where
+-- this is what is sent of some log, as planned at this moment
+pub record IsOfLog (now : Moment) (prospect : Prospect) : Type 0 where
   pub fresh : List ObjectLine
   pub configured : List ObjectLine
   pub page : List ℕ
   pub log : List ℕ
-  pub now : Moment
   pub planned : IsLogProspect fresh configured page log now prospect
 
--- of some page
-pub record IsOfPage (prospect : Prospect) : Type 0 where
+-- of some page, where an old one is asked for or not
+pub record IsOfPage (old : Bool) (now : Moment) (prospect : Prospect) : Type 0 where
   pub fresh : List ObjectLine
   pub text : List ℕ
-  pub old : Bool
-  pub now : Moment
   pub planned : IsPageProspect fresh text old now prospect
 
 -- this is what is sent of some log or some page
-unfoldable pub IsPlanned : Prospect → Type 0
-IsPlanned prospect = IsOfLog prospect ⊎ IsOfPage prospect
+unfoldable pub IsPlannedAt : Bool → Moment → Prospect → Type 0
+IsPlannedAt old now prospect = IsOfLog now prospect ⊎ IsOfPage old now prospect
+
+-- it was planned when the commands were entered, or anew once the time of such a plan was over
+pub record IsPlanned (old : Bool) (entered : Moment) (prospect : Prospect) : Type 0 where
+  pub moment : Moment
+  pub since : (moment ≡ entered) ⊎ ((until_of entered).0 ≤ moment.0)
+  pub planned : IsPlannedAt old moment prospect
 
 -- ---- what is sent
 
--- the results of a plan were sent
-pub record AreSent (results : List Body → Type 0) : Type 0 where
+-- the results of the plan of this moment were sent
+pub record AreSent (results : List Body → Type 0) (old : Bool) (entered : Moment) : Type 0 where
   pub prospect : Prospect
-  pub planned : IsPlanned prospect
+  pub planned : IsPlannedAt old entered prospect
   pub sent : results prospect.results.items
 
 -- of these commands those were sent, entered at this moment, that a gateway over these objects is sent once it shows some
@@ -86,17 +89,17 @@ pub record IsSentOn (shows : List ℕ → Type 0) (others : List Command → Typ
   pub count : left ≡ left_count (fates_on table page shown_page commands)
 
 -- nothing was to be named of what was kept, nothing else is left out, and the gateway shows each row of it again
-pub record IsRestored (shows : List ℕ → Type 0) (others : List Command → Type 0) (table : List ObjectLine) (entered : Moment) : Type 0 where
+pub record IsRestored (shows : List ℕ → Type 0) (others : List Command → Type 0) (table : List ObjectLine) (old : Bool) (entered : Moment) : Type 0 where
   pub prospect : Prospect
-  pub planned : IsPlanned prospect
+  pub planned : IsPlanned old entered prospect
   pub none_named : prospect.named ≡ 0
   pub sent : IsSentOn shows others table entered prospect.shown.items prospect.others.items 0
   pub back : IsShownBack shows prospect.kept.items
 
 -- something is named: of what was kept, or as left out, or as missing
-pub record IsNamed (shows : List ℕ → Type 0) (others : List Command → Type 0) (table : List ObjectLine) (entered : Moment) : Type 0 where
+pub record IsNamed (shows : List ℕ → Type 0) (others : List Command → Type 0) (table : List ObjectLine) (old : Bool) (entered : Moment) : Type 0 where
   pub prospect : Prospect
-  pub planned : IsPlanned prospect
+  pub planned : IsPlanned old entered prospect
   pub left : ℕ
   pub sent : IsSentOn shows others table entered prospect.shown.items prospect.others.items left
   pub rows : ℕ

@@ -1,7 +1,8 @@
 //! What restoring sends, of the files that were kept.
 
-ghost use Rattle.std.specs.Prelude.{IfOk};
-ghost use Rattle.operator_restoring.specs.Restored.{IsPlanned};
+ghost use Rattle.std.specs.Prelude.{Bool, IfOk};
+ghost use Rattle.gate_model.specs.declared.record.Moment.{Moment};
+ghost use Rattle.operator_restoring.specs.Restored.{IsPlannedAt, IsPlanned};
 
 use crate::restore_fault::RestoreFault;
 use gate_model::{Moment, ObjectTable};
@@ -72,7 +73,7 @@ fn by_log(
     printed: &[u8],
     now: Moment,
 ) -> Result<Prospect, RestoreFault>
-    ensures { IfOk result IsPlanned }
+    ensures { IfOk result (λ found. (old : Bool) → IsPlannedAt old now found) }
 {
     let prospect = look_ahead(alloc, tables, page, printed, now)?;
     Ok(prospect)
@@ -85,13 +86,13 @@ fn by_page(
     old: bool,
     now: Moment,
 ) -> Result<Prospect, RestoreFault>
-    ensures { IfOk result IsPlanned }
+    ensures { IfOk result (IsPlannedAt old now) }
 {
     let prospect = look_ahead_by_page(alloc, fresh, text, old, now)?;
     Ok(prospect)
 }
 
-/// What restoring would send.
+/// What restoring would send, planned at this moment.
 pub fn prospect_of<F: Files>(
     files: &F,
     alloc: Global,
@@ -99,7 +100,7 @@ pub fn prospect_of<F: Files>(
     kept: KeptFiles<'_>,
     now: Moment,
 ) -> Result<Prospect, RestoreFault>
-    ensures { IfOk result IsPlanned }
+    ensures { IfOk result (IsPlannedAt kept.entry.old now) }
 {
     let tables = tables_of(files, alloc, options)?;
     let text = read_file(files, alloc, kept.page);
@@ -123,7 +124,8 @@ pub fn in_time<R: Clock + Files>(
     prospect: Prospect,
     lines: &mut Vec<u8>,
 ) -> Result<Prospect, RestoreFault>
-    ensures { IfOk result (λ found. IsPlanned prospect → IsPlanned found) }
+    ensures { IfOk result (λ found. (entered : Moment) → IsPlanned kept.entry.old entered prospect
+        → IsPlanned kept.entry.old entered found) }
 {
     let Ok(now) = now(rt) else {
         return Err(RestoreFault::NoClock);

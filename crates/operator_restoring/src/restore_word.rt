@@ -3,8 +3,8 @@
 ghost use Rattle.std.specs.Prelude.{◌≡◌, ◌≤◌, ◌⊎◌, ◌==◌, ℕ, List, true, if◌then◌else◌, IfErr, IfOk};
 ghost use Rattle.gate_model.specs.declared.record.Moment.{Moment};
 ghost use Rattle.gate_reader.specs.Sink.{Delivers};
-ghost use Rattle.operator_restoring.specs.Lines.{AreLinesOf, commands_of, is_dry_run, IsDryEnd, IsDryRun};
-ghost use Rattle.operator_restoring.specs.Restored.{IsPlanned, AreSent, IsRestored, IsNamed};
+ghost use Rattle.operator_restoring.specs.Lines.{AreLinesOf, commands_of, is_dry_run, is_old_asked, IsDryEnd, IsDryRun};
+ghost use Rattle.operator_restoring.specs.Restored.{IsPlannedAt, AreSent, IsRestored, IsNamed};
 ghost use Rattle.operator_restoring.specs.Faults.{IsOutputFault, IsNoTarget, IsNotRestored};
 
 use crate::gateway::Gateway;
@@ -48,10 +48,11 @@ fn carry_out<F: Files + Clock, G: Gateway>(
     prospect: Prospect,
     lines: &mut Vec<u8>,
 ) -> Result<usize, RestoreFault>
-    ensures sent { IfOk result (λ count. IsPlanned prospect → count ≡ 0 → AreSent G.has_results
-        × IsRestored G.shows G.has_others order.now.table.now order.now.entered) }
-    ensures some { IfOk result (λ count. IsPlanned prospect → 1 ≤ count
-        → IsNamed G.shows G.has_others order.now.table.now order.now.entered) }
+    ensures sent { IfOk result (λ count. IsPlannedAt order.now.kept.old order.now.entered prospect → count ≡ 0
+        → AreSent G.has_results order.now.kept.old order.now.entered
+        × IsRestored G.shows G.has_others order.now.table.now order.now.kept.old order.now.entered) }
+    ensures some { IfOk result (λ count. IsPlannedAt order.now.kept.old order.now.entered prospect → 1 ≤ count
+        → IsNamed G.shows G.has_others order.now.table.now order.now.kept.old order.now.entered) }
 {
     gateway.send_results(alloc, prospect.results.as_slice())?;
     let prospect = in_time(rt, alloc, order.options, order.kept, prospect, lines)?;
@@ -128,10 +129,11 @@ fn send_all<F: Files + Clock, G: Gateway, W: Sink, E: Sink>(
     output: &mut W,
     errors: &mut E,
 ) -> Result<u8, ControlFault>
-    ensures sent { IfOk result (λ status. IsPlanned prospect → status ≡ 0 → AreSent G.has_results
-        × IsRestored G.shows G.has_others order.now.table.now order.now.entered) }
-    ensures some { IfOk result (λ status. IsPlanned prospect → status ≡ 1
-        → IsNamed G.shows G.has_others order.now.table.now order.now.entered) }
+    ensures sent { IfOk result (λ status. IsPlannedAt order.now.kept.old order.now.entered prospect → status ≡ 0
+        → AreSent G.has_results order.now.kept.old order.now.entered
+        × IsRestored G.shows G.has_others order.now.table.now order.now.kept.old order.now.entered) }
+    ensures some { IfOk result (λ status. IsPlannedAt order.now.kept.old order.now.entered prospect → status ≡ 1
+        → IsNamed G.shows G.has_others order.now.table.now order.now.kept.old order.now.entered) }
     ensures unsaid { IfErr result IsOutputFault }
 {
     print(output, prospect.source.as_slice())?;
@@ -160,14 +162,15 @@ fn restore_by<F: Files + Clock, G: Gateway, W: Sink, E: Sink>(
     output: &mut W,
     errors: &mut E,
 ) -> Result<u8, ControlFault>
-    ensures restored { IfOk result (λ status. IsPlanned prospect → status ≡ 0
-        → (order.now.dry_run ≡ true) ⊎ (AreSent G.has_results
-        × IsRestored G.shows G.has_others order.now.table.now order.now.entered)) }
-    ensures some { IfOk result (λ status. IsPlanned prospect → status ≡ 1
+    ensures restored { IfOk result (λ status. IsPlannedAt order.now.kept.old order.now.entered prospect → status ≡ 0
+        → (order.now.dry_run ≡ true) ⊎ (AreSent G.has_results order.now.kept.old order.now.entered
+        × IsRestored G.shows G.has_others order.now.table.now order.now.kept.old order.now.entered)) }
+    ensures some { IfOk result (λ status. IsPlannedAt order.now.kept.old order.now.entered prospect → status ≡ 1
         → (order.now.dry_run ≡ true)
-        ⊎ IsNamed G.shows G.has_others order.now.table.now order.now.entered) }
-    ensures dry_run { IfOk result (λ status. IsPlanned prospect → order.now.dry_run ≡ true
-        → IsDryRun order.now.entered status (W.state output.old) (W.state output.new)) }
+        ⊎ IsNamed G.shows G.has_others order.now.table.now order.now.kept.old order.now.entered) }
+    ensures dry_run { IfOk result (λ status. IsPlannedAt order.now.kept.old order.now.entered prospect
+        → order.now.dry_run ≡ true
+        → IsDryRun order.now.kept.old order.now.entered status (W.state output.old) (W.state output.new)) }
     ensures unsaid { IfErr result IsOutputFault }
 {
     print(errors, prospect.lines.as_slice())?;
@@ -182,7 +185,8 @@ fn restore_by<F: Files + Clock, G: Gateway, W: Sink, E: Sink>(
 
 /// Brings a fresh gateway to what a kept status page and a kept log page show, and names what isn't
 /// shown again. Returns the exit status: 0 where each row is shown again, or a newer result of its
-/// object; 1 where something is named; that of a `RestoreFault` where it ends early. An error is `WriteFault` or `OutOfMemory`.
+/// object; 1 where something is named; that of a `RestoreFault` where it ends early. An error is
+/// `WriteFault` or `OutOfMemory`.
 pub fn restore_to<F: Files + Clock, G: Gateway, W: Sink, E: Sink>(
     rt: &F,
     alloc: Global,
@@ -192,15 +196,15 @@ pub fn restore_to<F: Files + Clock, G: Gateway, W: Sink, E: Sink>(
     errors: &mut E,
 ) -> Result<u8, ControlFault>
     ensures restored { IfOk result (λ status. status ≡ 0
-        → (order.now.dry_run ≡ true) ⊎ (AreSent G.has_results
-        × IsRestored G.shows G.has_others order.now.table.now order.now.entered)) }
+        → (order.now.dry_run ≡ true) ⊎ (AreSent G.has_results order.now.kept.old order.now.entered
+        × IsRestored G.shows G.has_others order.now.table.now order.now.kept.old order.now.entered)) }
 
     ensures some { IfOk result (λ status. status ≡ 1 → (order.now.dry_run ≡ true)
-        ⊎ IsNamed G.shows G.has_others order.now.table.now order.now.entered) }
+        ⊎ IsNamed G.shows G.has_others order.now.table.now order.now.kept.old order.now.entered) }
 
     // A dry run prints what would be sent, unless that can't be planned.
     ensures dry_run { IfOk result (λ status. order.now.dry_run ≡ true
-        → IsDryEnd order.now.entered status (W.state output.old) (W.state output.new)) }
+        → IsDryEnd order.now.kept.old order.now.entered status (W.state output.old) (W.state output.new)) }
     ensures unsaid { IfErr result IsOutputFault }
 {
     match prospect_of(rt, alloc, order.options, order.kept, order.entered) {
@@ -254,7 +258,8 @@ pub fn restore<
     errors: &mut E,
 ) -> Result<u8, ControlFault>
     ensures dry_run { IfOk result (λ status. is_dry_run task.now ≡ true
-        → (entered : Moment) × IsDryEnd entered status (W.state output.old) (W.state output.new)) }
+        → (entered : Moment) × IsDryEnd (is_old_asked task.now) entered status
+        (W.state output.old) (W.state output.new)) }
     ensures fault { IfErr result (IsNotRestored options.now task.now) }
 {
     let Task::Restore {

@@ -1,6 +1,6 @@
 //! What is sent to a gateway, and what it shows then.
 
-ghost use Rattle.std.specs.Prelude.{◌≡◌, ◌≤◌, IfOk};
+ghost use Rattle.std.specs.Prelude.{Bool, ◌≡◌, ◌≤◌, IfOk};
 ghost use Rattle.operator_restoring.specs.Lines.{IsLineOf, AreLinesOf, commands_of};
 ghost use Rattle.operator_restoring.specs.Restored.{IsPlanned, IsSentOn, IsRestored, IsNamed};
 
@@ -116,10 +116,10 @@ pub fn send_others<G: Gateway>(
     prospect: Prospect,
     lines: &mut Vec<u8>,
 ) -> Result<usize, RestoreFault>
-    ensures restored { IfOk result (λ count. IsPlanned prospect → count ≡ 0
-        → IsRestored G.shows G.has_others table.now entered) }
-    ensures some { IfOk result (λ count. IsPlanned prospect → 1 ≤ count
-        → IsNamed G.shows G.has_others table.now entered) }
+    ensures restored { IfOk result (λ count. (old : Bool) → IsPlanned old entered prospect
+        → count ≡ 0 → IsRestored G.shows G.has_others table.now old entered) }
+    ensures some { IfOk result (λ count. (old : Bool) → IsPlanned old entered prospect
+        → 1 ≤ count → IsNamed G.shows G.has_others table.now old entered) }
 {
     let Prospect {
         others,

@@ -1,5 +1,5 @@
--- What `watch` prints: `AreFollowed`. What a gateway shows isn't known here, so some pages that it showed are meant. Own
--- rules.
+-- What `watch` prints: `IsWatched`, and why it ends with a fault: `IsWatchFault`. What a gateway shows isn't known here, so
+-- some pages that it showed are meant. Own rules.
 use Rattle.std.specs.Prelude.{◌≡◌, ◌⊎◌, ℕ, Bool, true, false, List, [], ◌∷◌, ◌++◌, length, codes, Option, Some, None}
 use Rattle.std.specs.List.{flat_map}
 use Rattle.gate_reader.specs.Sink.{SinkState, Delivers}

@@ -4,7 +4,7 @@
 //! and the cause on standard error.
 #![tactic(auto)]
 
-ghost use Rattle.std.specs.Prelude.{IfOk};
+ghost use Rattle.std.specs.Prelude.{◌≡◌, IfErr, IfOk};
 ghost use Rattle.statusdesk.specs.Guarding.{IsGuardOf};
 
 mod commanding;
@@ -81,7 +81,8 @@ fn guard_of<'a>(
     settings: &'a Settings<'a>,
     key: [u8; 64],
 ) -> Result<Guard<'a>, DeskFault>
-    ensures { IfOk result (IsGuardOf settings.now key) }
+    ensures guard { IfOk result (IsGuardOf settings.now key) }
+    ensures fault { IfErr result (λ fault. fault ≡ DeskFault.OutOfMemory) }
 {
     Ok(Guard {
         hosts: Vec::from_slice(alloc, settings.hosts.as_slice())?,

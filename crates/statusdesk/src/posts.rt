@@ -1,9 +1,10 @@
 //! The operators' ports of the gateways. A thread for each sends the orders in its outbox, one after
 //! another, so a gateway that doesn't answer keeps its own orders waiting and nobody else.
 
-ghost use Rattle.std.specs.Prelude.{◌≡◌, [], ◌∷◌, ◌++◌, map, IfOk, IfSome, OnErr};
+ghost use Rattle.std.specs.Prelude.{◌≡◌, false, [], ◌∷◌, ◌++◌, map, IfOk, IfSome, IfNone, OnErr};
 ghost use Rattle.desk_outbox.specs.Outbox.{OutboxView};
 ghost use Rattle.desk_outbox.specs.Showing.{shown_in};
+ghost use Rattle.desk_words.specs.Words.{has_port};
 ghost use Rattle.statusdesk.specs.Objects.{place_of};
 
 use desk_outbox::{Asked, Labelled, Outbox, Receipt, Shown, TakeFault};
@@ -249,9 +250,10 @@ pub fn posts_at<'a>(alloc: Global, places: &[Place<'a>]) -> Result<Vec<Post<'a>>
     Ok(posts)
 }
 
-/// The operators' port of the gateway of this name.
+/// The operators' port of the gateway of this name, if there is one.
 pub fn post_of<'p, 'a>(posts: &'p [Post<'a>], name: &str) -> Option<&'p Post<'a>>
-    ensures { IfSome result (λ post. post.now.place.name.now ≡ name.now) }
+    ensures some { IfSome result (λ post. post.now.place.name.now ≡ name.now) }
+    ensures none { IfNone result (has_port (map place_of posts.now) name.now ≡ false) }
 {
     for post in posts {
         if post.place.name == name {

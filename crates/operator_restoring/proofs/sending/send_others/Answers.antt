@@ -5,17 +5,17 @@ pub returns-clause-restored : goal.returns-clause-restored
 returns-clause-restored g c =
     let sent = rw c.as_slice.ensures.value at c.in_ok-left.ensures in
     let back = rw c.as_slice-2.ensures.value at c.in_ok-rows.ensures.back in
-    λ planned none.
+    λ old planned none.
     let zero = none_counted c.args.prospect.named c.in_ok-left.left c.in_ok-rows.rows c.saturating_add.result c.saturating_add-2.result
     c.saturating_add.ensures c.saturating_add-2.ensures none in
-    restored g.G.Gateway.shows g.G.Gateway.has_others c.args.table.now c.args.entered c.args.prospect c.in_ok-left.left c.in_ok-rows.rows
+    restored g.G.Gateway.shows g.G.Gateway.has_others c.args.table.now old c.args.entered c.args.prospect c.in_ok-left.left c.in_ok-rows.rows
     planned sent back zero.0 zero.1 zero.2
 
 pub returns-clause-some : goal.returns-clause-some
 returns-clause-some g c =
     let sent = rw c.as_slice.ensures.value at c.in_ok-left.ensures in
     let missing = rw c.as_slice-2.ensures.value at c.in_ok-rows.ensures.missing in
-    λ planned some. record {
+    λ old planned some. record {
       prospect = c.args.prospect;
       planned = planned;
       left = c.in_ok-left.left;
