@@ -1,9 +1,13 @@
-//! Tests of the operators' program through the public items of its crates: words, the lines that
-//! are sent, the answers, and what pages show.
+//! Tests of nscagatectl through the public items of its crates: the happy path of each call, also over
+//! files, ports and outputs.
 #![tactic(auto)]
 
 #[cfg(test)]
+mod asking;
+#[cfg(test)]
 mod effects;
+#[cfg(test)]
+mod files;
 #[cfg(test)]
 mod keeping;
 #[cfg(test)]
@@ -13,6 +17,10 @@ mod logs;
 #[cfg(test)]
 mod reports;
 #[cfg(test)]
+mod restore_word;
+#[cfg(test)]
 mod restoring;
+#[cfg(test)]
+mod stopping;
 #[cfg(test)]
 mod words;

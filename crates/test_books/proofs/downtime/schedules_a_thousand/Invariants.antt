@@ -1,5 +1,0 @@
-use Rattle.std.proofs.Common.{◌≡◌}
-use Rattle.test_books.proofs.downtime.schedules_a_thousand.Given as goal
-
-abbrev pub invariant-entries : goal.invariant-entries
-invariant-entries l = l.book.objects ≡ 2
