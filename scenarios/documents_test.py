@@ -132,9 +132,8 @@ def options_of_programs():
     for name, crate in PROGRAMS.items():
         text = "".join(read(path) for path in glob.glob(f"crates/{crate}/src/*.rt"))
         found[name] = {f"--{option}" for option in re.findall(r'\b(?:option|list|flag|long)\(\s*(?:alloc,\s*)?"([a-z-]+)"', text)}
-    found["nscagatectl"].update(("--help", "--version"))
-    for name in ("statusweb", "statusdesk"):
-        found[name].add("--help")
+    for name in ("nscagatectl", "statusweb", "statusdesk"):
+        found[name].update(("--help", "--version"))
     return found
 
 

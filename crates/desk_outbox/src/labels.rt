@@ -71,7 +71,9 @@ impl Labelled {
     pub(crate) fn into_label(self) -> Label
         ensures { result ≡ self.label }
     {
-        self.label
+        let Labelled { label, order } = self;
+        drop(order);
+        label
     }
 }
 
@@ -112,7 +114,7 @@ pub fn labelled_order(
     ensures order { IfOk result (IsLabelledOf (page_view page.now) now form.now) }
     ensures refused { IfErr result (IsObjection (page_view page.now) now form.now) }
 {
-    let order = order_on(alloc, page, now, form)?;
     let label = Label::of(alloc, form, now)?;
+    let order = order_on(alloc, page, now, form)?;
     Ok(Labelled { label, order })
 }

@@ -113,21 +113,23 @@ fn settled_of(
 ) -> Result<Settled, AllocError>
     ensures { IfOk result (λ settled. settled ≡ settled_of order answer now) }
 {
-    let text = text_of(alloc, &order.order().command().body, answer)?;
+    let text = text_of(alloc, &order.order().command().body, answer);
+    let label = order.into_label();
     Ok(Settled {
-        label: order.into_label(),
+        label,
         moment: now,
         is_queued: is_queued(answer),
-        text,
+        text: text?,
     })
 }
 
 fn lapsed_of(alloc: Global, order: Labelled, now: u32) -> Result<Settled, AllocError>
     ensures { IfOk result (λ settled. settled ≡ lapsed_of order now) }
 {
+    let label = order.into_label();
     let text = Text::copied(alloc, b"not sent: it waited for 30 seconds")?;
     Ok(Settled {
-        label: order.into_label(),
+        label,
         moment: now,
         is_queued: false,
         text,
@@ -160,12 +162,16 @@ impl Outbox {
         ensures kept { OnErr result (self.new ≡ self.old) }
     {
         if self.waiting.len() >= MOST_WAITING {
+            drop(order);
             return Err(TakeFault::Full);
         }
         let receipt = Receipt::of(&order);
         match self.waiting.push_back(order) {
             Ok(()) => Ok(receipt),
-            Err(_) => Err(TakeFault::OutOfMemory),
+            Err(order) => {
+                drop(order);
+                Err(TakeFault::OutOfMemory)
+            }
         }
     }
 

@@ -27,9 +27,9 @@ option_of name = record (new_rule name) { long = Some name; action = Some Set }
 abbrev pub list_of : List ℕ → Rule
 list_of name = record (new_rule name) { long = Some name; action = Some Append }
 
--- the words are all that follows the program's name
+-- the words are all that follows the program's name; there is a version
 abbrev pub unnamed : App → App
-unnamed app = record app { top = record app.top { no_binary_name = true } }
+unnamed app = record app { top = record app.top { no_binary_name = true; has_version = true } }
 
 -- the options
 abbrev pub program : App

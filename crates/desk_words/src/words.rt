@@ -16,6 +16,9 @@ use status_serving::refresh_in;
 use std::alloc::{AllocError, Global};
 use std::net::SocketAddr;
 
+// What `--version` prints after the program's name: that of CHANGELOG.md.
+const VERSION: &str = "1.0.0";
+
 /// What the program is run with.
 #[derive(Drop)]
 pub struct Settings<'a> {
@@ -63,7 +66,7 @@ pub enum BadValue {
 /// Why the words are no settings.
 #[derive(Debug, Drop)]
 pub enum WordsFault {
-    /// clap refuses them, or they ask for help: its message.
+    /// clap refuses them, or they ask for help or the version: its message.
     Refused(Error),
     /// An option can't have this value.
     Bad(BadValue),
@@ -106,9 +109,10 @@ fn list<'a>(alloc: Global, name: &'a str, help: &'a str) -> Arg<'a>
 fn unnamed<'a>(alloc: Global) -> Command<'a>
     ensures { app_of result ≡ unnamed (new_app (codes "statusdesk")) }
 {
-    Command::new(alloc, "statusdesk").no_binary_name(true).about(
-        "Shows the status pages of gateways, with forms that send an operator's commands",
-    )
+    Command::new(alloc, "statusdesk")
+        .version(VERSION)
+        .no_binary_name(true)
+        .about("Shows the status pages of gateways, with forms that send an operator's commands")
 }
 
 fn command_line<'a>(alloc: Global) -> Result<Command<'a>, AllocError>
@@ -270,7 +274,7 @@ fn fault_of(error: Error) -> WordsFault
 
 /// Reads the words after the program's name, in any spelling that `clap` reads.
 ///
-/// `Refused`: clap refuses them, or they ask for help. `Bad`: this value. `OutOfMemory` may be
+/// `Refused`: clap refuses them, or they ask for help or the version. `Bad`: this value. `OutOfMemory` may be
 /// returned in place of any answer.
 pub fn read_words<'a>(alloc: Global, words: &'a [String]) -> Result<Settings<'a>, WordsFault>
     ensures asked { IfOk result (AskFor (map string_bytes words.entry.now)) }

@@ -99,7 +99,10 @@ pub(crate) fn start_worker<
     };
     match scope.spawn_with(promise, run) {
         Ok(handle) => Ok(handle),
-        Err(_) => Err(Unstarted),
+        Err(failed) => {
+            drop(failed);
+            Err(Unstarted)
+        }
     }
 }
 
@@ -175,6 +178,9 @@ pub(crate) fn start_applier<
     };
     match scope.spawn_with(promise, run) {
         Ok(handle) => Ok(handle),
-        Err(_) => Err(Unstarted),
+        Err(failed) => {
+            drop(failed);
+            Err(Unstarted)
+        }
     }
 }

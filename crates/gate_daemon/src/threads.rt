@@ -12,7 +12,7 @@ use gate_pages::Board;
 use gate_queue::{Closer, Taker};
 use gate_worker::{Connections, Hold, Wake, Watch};
 use std::sync::{Mutex, Wait};
-use std::thread::{Scope, Threads};
+use std::thread::{JoinHandle, Scope, Threads};
 use std::time::Clock;
 
 // What the threads of a gateway begin with, but for their gate and board.
@@ -24,6 +24,23 @@ pub(crate) struct Start<A, O, P, H> {
     pub(crate) workers: Workers<A, O, H>,
     pub(crate) pages: P,
     pub(crate) hold: H,
+}
+
+// Starts the thread that shows pages.
+fn start_pages<'s, E, R: Threads + Wait + Clock + Sync, P: Connections + Send + Drop + 's, K, W>(
+    shared: &Shared<'s, R, K, W>,
+    scope: &Scope<'s, E>,
+    pages: P,
+    board: &'s Mutex<Board>,
+) -> Result<JoinHandle<()>, Unstarted> {
+    let Shared { rt, alloc, .. } = *shared;
+    match scope.spawn(move || run_pages(rt, alloc, pages, board)) {
+        Ok(handle) => Ok(handle),
+        Err(failed) => {
+            drop(failed);
+            Err(Unstarted)
+        }
+    }
 }
 
 // Starts all threads and joins them. The gate is closed then.
@@ -66,8 +83,8 @@ pub(crate) fn run_threads<
         drop((workers, pages));
         return Err(Unstarted);
     };
-    let Ok(shows) = scope.spawn(move || run_pages(rt, alloc, pages, board)) else {
-        close_gate(closable);
+    let Ok(shows) = start_pages(shared, scope, pages, board) else {
+        drop(close_gate(closable));
         drop((applies.join(rt), workers));
         return Err(Unstarted);
     };
@@ -76,6 +93,7 @@ pub(crate) fn run_threads<
     let (mut taker, applier, _) = applies.join(rt);
     taker.learn(&notice);
     let last = show_close(rt, alloc, &applier, board, notice.moment());
+    drop(notice);
     wake_pages(shared.wake, last);
     shows.join(rt);
     match cause {

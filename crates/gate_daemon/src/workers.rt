@@ -118,6 +118,7 @@ pub(crate) fn run_workers<
         mut collected,
     } = workers;
     let Some(client) = clients.pop() else {
+        drop((clients, endpoints));
         let cause = run_operator(closable, scope, operator, operator_endpoint, &mut collected);
         return (collected, cause);
     };
@@ -139,6 +140,8 @@ pub(crate) fn run_workers<
             (collected, cause)
         }
         Err(Unstarted) => {
+            drop((clients, endpoints));
+            drop((operator, operator_endpoint));
             close_and_wake(closable);
             (collected, None)
         }

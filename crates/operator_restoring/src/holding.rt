@@ -192,16 +192,30 @@ impl Held {
     }
 
     // Lets go of the worker, and waits until it has submitted all that was sent.
-    fn release<R: Clock>(self, rt: &R, alloc: Global) -> io::Result<()> {
+    fn release<R: Clock>(&self, rt: &R, alloc: Global) -> io::Result<()> {
         self.stream.shutdown(Shutdown::Write)?;
-        let mut rest = Vec::new(alloc);
         let mut reader = Timed::new(rt, &self.stream, Instant::now(rt)?, SENT_WITHIN);
+        let mut rest = Vec::new(alloc);
         reader.read_to_end(&mut rest)?;
         Ok(())
     }
 }
 
 // ---- all of them
+
+fn connect_all<R: Net<Listener = TcpListener, Stream = TcpStream> + Clock>(
+    rt: &R,
+    alloc: Global,
+    address: SocketAddr,
+    workers: u32,
+    spare: u32,
+) -> io::Result<Vec<Held>> {
+    let mut held = Vec::new(alloc);
+    for _ in 0..workers {
+        held.push(Held::connect(rt, address, spare)?)?;
+    }
+    Ok(held)
+}
 
 impl Hold {
     /// Connects so often to the agents' port, and waits until each connection is served. The kernel
@@ -215,15 +229,18 @@ impl Hold {
         spare: u32,
     ) -> io::Result<Hold> {
         let begun = Instant::now(rt)?;
-        let mut held = Vec::new(alloc);
-        for _ in 0..workers {
-            held.push(Held::connect(rt, address, spare)?)?;
-        }
+        let held = connect_all(rt, alloc, address, workers, spare)?;
         let mut hold = Hold { held, turn: 0 };
+        hold.await_greetings(rt, begun)?;
+        Ok(hold)
+    }
+
+    // Waits until each connection is greeted, or its time is over.
+    fn await_greetings<R: Clock>(&mut self, rt: &R, begun: Instant) -> io::Result<()> {
         for _ in 0..u64::MAX {
-            hold.keep(rt)?;
-            if hold.held.iter().all(|one| one.greeted.is_some()) {
-                return Ok(hold);
+            self.keep(rt)?;
+            if self.held.iter().all(|one| one.greeted.is_some()) {
+                return Ok(());
             }
             if Duration::from_secs(GREETED_WITHIN) <= begun.elapsed(rt)? {
                 break;
@@ -264,9 +281,9 @@ impl Hold {
 
     /// Lets go of the workers, and waits until they have submitted all that was sent. Returns whether
     /// each served its connection until then.
-    pub fn release<R: Clock>(self, rt: &R, alloc: Global) -> io::Result<bool> {
+    pub fn release<R: Clock>(&self, rt: &R, alloc: Global) -> io::Result<bool> {
         let was_held = self.is_held();
-        for one in self.held {
+        for one in self.held.iter() {
             one.release(rt, alloc)?;
         }
         Ok(was_held)

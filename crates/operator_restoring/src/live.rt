@@ -78,13 +78,13 @@ fn has_gone<F: Files>(files: &F, alloc: Global, pid: Option<&str>) -> bool {
     }
 }
 
-/// The next page of a gateway, within the time and while its process runs.
-pub fn fetch_page<R: Net<Listener = TcpListener, Stream = TcpStream> + Clock + Files>(
+// The next page of these, while the gateway's process runs.
+fn page_of<R: Net<Listener = TcpListener, Stream = TcpStream> + Clock + Files>(
     rt: &R,
     alloc: Global,
     target: &Target<'_>,
+    pages: &mut LivePages<'_, R>,
 ) -> Result<Vec<u8>, RestoreFault> {
-    let mut pages = pages_of(rt, target)?;
     for _ in 0..u64::MAX {
         match pages.next(alloc) {
             Next::Page(text) => return Ok(text),
@@ -94,6 +94,16 @@ pub fn fetch_page<R: Net<Listener = TcpListener, Stream = TcpStream> + Clock + F
         }
     }
     Err(RestoreFault::NoPage)
+}
+
+/// The next page of a gateway, within the time and while its process runs.
+pub fn fetch_page<R: Net<Listener = TcpListener, Stream = TcpStream> + Clock + Files>(
+    rt: &R,
+    alloc: Global,
+    target: &Target<'_>,
+) -> Result<Vec<u8>, RestoreFault> {
+    let mut pages = pages_of(rt, target)?;
+    page_of(rt, alloc, target, &mut pages)
 }
 
 // ---- results
@@ -112,7 +122,7 @@ fn own_page<'a>(
     }
 }
 
-// Sends the results of objects that have none on this page over held connections.
+// Sends the results of objects that have none on this page over held connections, while each is held.
 fn send_over<R: Clock>(
     rt: &R,
     alloc: Global,
@@ -121,12 +131,28 @@ fn send_over<R: Clock>(
     page: &StatusPage<'_>,
     results: &[Body],
 ) -> Result<(), RestoreFault> {
+    if !hold.is_held() {
+        return Err(RestoreFault::NotHeld);
+    }
     for body in results {
         if is_pending(table, page, body) && hold.send(rt, alloc, body).is_err() {
             return Err(RestoreFault::NotHeld);
         }
     }
     Ok(())
+}
+
+// Sends the results of objects that have none, by the gateway's own page, over held connections.
+fn send_by_page<R: Net<Listener = TcpListener, Stream = TcpStream> + Clock + Files>(
+    rt: &R,
+    alloc: Global,
+    target: &Target<'_>,
+    hold: &mut Hold,
+    results: &[Body],
+) -> Result<(), RestoreFault> {
+    let text = settled_page(rt, alloc, target, hold)?;
+    let page = own_page(alloc, target, text.as_slice())?;
+    send_over(rt, alloc, hold, target.table, &page, results)
 }
 
 // Holds the agents' workers, and sends the results of objects that have none then. A worker that was
@@ -141,16 +167,27 @@ fn send_held<R: Net<Listener = TcpListener, Stream = TcpStream> + Clock + Files>
     let Ok(mut hold) = made else {
         return Err(RestoreFault::NotHeld);
     };
-    let text = settled_page(rt, alloc, target, &mut hold)?;
-    let page = own_page(alloc, target, text.as_slice())?;
-    if !hold.is_held() {
-        return Err(RestoreFault::NotHeld);
-    }
-    send_over(rt, alloc, &mut hold, target.table, &page, results)?;
+    send_by_page(rt, alloc, target, &mut hold, results)?;
     match hold.release(rt, alloc) {
         Ok(true) => Ok(()),
         _ => Err(RestoreFault::NotHeld),
     }
+}
+
+// Whether one of these results is of an object that has none yet, by the gateway's own page.
+fn is_one_pending<R: Net<Listener = TcpListener, Stream = TcpStream> + Clock + Files>(
+    rt: &R,
+    alloc: Global,
+    target: &Target<'_>,
+    results: &[Body],
+) -> Result<bool, RestoreFault> {
+    let text = fetch_page(rt, alloc, target)?;
+    let page = own_page(alloc, target, text.as_slice())?;
+    Ok(
+        results
+            .iter()
+            .any(|body| is_pending(target.table, &page, body)),
+    )
 }
 
 // Sends results, where one of them is of an object that has none yet.
@@ -160,12 +197,7 @@ fn send_part_of_results<R: Net<Listener = TcpListener, Stream = TcpStream> + Clo
     target: &Target<'_>,
     results: &[Body],
 ) -> Result<(), RestoreFault> {
-    let text = fetch_page(rt, alloc, target)?;
-    let page = own_page(alloc, target, text.as_slice())?;
-    let is_due = results
-        .iter()
-        .any(|body| is_pending(target.table, &page, body));
-    if is_due {
+    if is_one_pending(rt, alloc, target, results)? {
         send_held(rt, alloc, target, results)
     } else {
         Ok(())
@@ -188,6 +220,35 @@ fn hold_and_send<R: Net<Listener = TcpListener, Stream = TcpStream> + Clock + Fi
     Err(RestoreFault::NotHeld)
 }
 
+// Deletes the markers that a killed restore has left on a fresh gateway. One with other objects keeps
+// them.
+fn clear<R: Net<Listener = TcpListener, Stream = TcpStream> + Clock + Files>(
+    rt: &R,
+    alloc: Global,
+    target: &Target<'_>,
+    page: &StatusPage<'_>,
+) -> Result<(), RestoreFault> {
+    if !is_fresh(page) {
+        return Err(RestoreFault::NotFresh);
+    }
+    if page.objects.len() == target.table.len() {
+        delete_markers(rt, alloc, target, page)
+    } else {
+        Ok(())
+    }
+}
+
+// The same, by the gateway's own page.
+fn make_clear<R: Net<Listener = TcpListener, Stream = TcpStream> + Clock + Files>(
+    rt: &R,
+    alloc: Global,
+    target: &Target<'_>,
+) -> Result<(), RestoreFault> {
+    let text = fetch_page(rt, alloc, target)?;
+    let page = read_status_page(alloc, text.as_slice())?;
+    clear(rt, alloc, target, &page)
+}
+
 // Sends results to a fresh gateway, and deletes the markers that a killed restore has left there. One
 // with other objects is sent nothing.
 fn send_results<R: Net<Listener = TcpListener, Stream = TcpStream> + Clock + Files>(
@@ -196,14 +257,7 @@ fn send_results<R: Net<Listener = TcpListener, Stream = TcpStream> + Clock + Fil
     target: &Target<'_>,
     results: &[Body],
 ) -> Result<(), RestoreFault> {
-    let text = fetch_page(rt, alloc, target)?;
-    let page = read_status_page(alloc, text.as_slice())?;
-    if !is_fresh(&page) {
-        return Err(RestoreFault::NotFresh);
-    }
-    if page.objects.len() == target.table.len() {
-        delete_markers(rt, alloc, target, &page)?;
-    }
+    make_clear(rt, alloc, target)?;
     for some in results.chunks(part_size(target, target.workers)) {
         hold_and_send(rt, alloc, target, some)?;
     }

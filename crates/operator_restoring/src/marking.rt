@@ -24,7 +24,9 @@ fn send_one<R: Net<Listener = TcpListener, Stream = TcpStream> + Clock>(
 ) -> Result<(), RestoreFault> {
     let (places, entered) = (target.places, Moment(0));
     let command = Command { entered, body };
-    match send(rt, alloc, places.operators, places.seconds, &command) {
+    let answer = send(rt, alloc, places.operators, places.seconds, &command);
+    drop(command);
+    match answer {
         Ok(Reply::Queued(_)) => Ok(()),
         Ok(_) => Err(RestoreFault::NotQueued),
         Err(fault) => Err(RestoreFault::NoAnswer(fault)),
@@ -71,10 +73,13 @@ pub fn delete_markers<R: Net<Listener = TcpListener, Stream = TcpStream> + Clock
 }
 
 // Whether a page shows the marker with this text.
-fn shows(page: &StatusPage<'_>, text: &[u8]) -> bool {
-    page.comments
-        .iter()
-        .any(|row| is_marker(row) && row.text == text)
+fn shows(alloc: Global, page: &[u8], text: &[u8]) -> Result<bool, RestoreFault> {
+    let page = read_status_page(alloc, page)?;
+    Ok(
+        page.comments
+            .iter()
+            .any(|row| is_marker(row) && row.text == text),
+    )
 }
 
 // The first page that shows the marker with this text, while the workers are held. Where they aren't
@@ -93,10 +98,10 @@ fn await_marker<R: Net<Listener = TcpListener, Stream = TcpStream> + Clock + Fil
     for _ in 0..u64::MAX {
         let _held = hold.keep(rt);
         let page = fetch_page(rt, alloc, target)?;
-        let is_shown = shows(&read_status_page(alloc, page.as_slice())?, text);
-        if is_shown {
+        if shows(alloc, page.as_slice(), text)? {
             return Ok(page);
         }
+        drop(page);
         match begun.elapsed(rt) {
             Ok(spent) if spent < within => {}
             Ok(_) => return Err(RestoreFault::NotApplied),
@@ -104,6 +109,17 @@ fn await_marker<R: Net<Listener = TcpListener, Stream = TcpStream> + Clock + Fil
         }
     }
     Err(RestoreFault::NotApplied)
+}
+
+// Deletes the markers that the text of a page shows.
+fn delete_markers_of<R: Net<Listener = TcpListener, Stream = TcpStream> + Clock>(
+    rt: &R,
+    alloc: Global,
+    target: &Target<'_>,
+    text: &[u8],
+) -> Result<(), RestoreFault> {
+    let page = read_status_page(alloc, text)?;
+    delete_markers(rt, alloc, target, &page)
 }
 
 /// A page of the gateway from after it has applied all that was queued before this call, while the
@@ -118,11 +134,7 @@ pub fn settled_page<R: Net<Listener = TcpListener, Stream = TcpStream> + Clock +
     add_marker(rt, alloc, target, number)?;
     let text = marker_text(alloc, number)?;
     let page = await_marker(rt, alloc, target, hold, text.as_slice())?;
-    delete_markers(
-        rt,
-        alloc,
-        target,
-        &read_status_page(alloc, page.as_slice())?,
-    )?;
+    drop(text);
+    delete_markers_of(rt, alloc, target, page.as_slice())?;
     Ok(page)
 }

@@ -92,6 +92,41 @@ fn by_page(
     Ok(prospect)
 }
 
+// The plan of a printed log, and of the kept page, where there is one.
+fn by_printed<F: Files>(
+    files: &F,
+    alloc: Global,
+    options: &Options,
+    page: &str,
+    printed: &[u8],
+    now: Moment,
+) -> Result<Prospect, RestoreFault>
+    ensures { IfOk result (λ found. (old : Bool) → IsPlannedAt old now found) }
+{
+    let tables = tables_of(files, alloc, options)?;
+    match read_file(files, alloc, page) {
+        Ok(text) => by_log(alloc, tables, text.as_slice(), printed, now),
+        Err(_) => by_log(alloc, tables, b"", printed, now),
+    }
+}
+
+// The plan of the kept page alone.
+fn by_kept<F: Files>(
+    files: &F,
+    alloc: Global,
+    options: &Options,
+    kept: KeptFiles<'_>,
+    now: Moment,
+) -> Result<Prospect, RestoreFault>
+    ensures { IfOk result (IsPlannedAt kept.entry.old now) }
+{
+    let fresh = table_in(files, alloc, options)?;
+    match read_file(files, alloc, kept.page) {
+        Ok(text) => by_page(alloc, fresh, text.as_slice(), kept.old, now),
+        Err(_) => Err(RestoreFault::Unreadable),
+    }
+}
+
 /// What restoring would send, planned at this moment.
 pub fn prospect_of<F: Files>(
     files: &F,
@@ -102,15 +137,9 @@ pub fn prospect_of<F: Files>(
 ) -> Result<Prospect, RestoreFault>
     ensures { IfOk result (IsPlannedAt kept.entry.old now) }
 {
-    let tables = tables_of(files, alloc, options)?;
-    let text = read_file(files, alloc, kept.page);
-    match (log_text(files, alloc, kept)?, text) {
-        (Some(printed), Ok(text)) => {
-            by_log(alloc, tables, text.as_slice(), printed.as_slice(), now)
-        }
-        (Some(printed), Err(_)) => by_log(alloc, tables, b"", printed.as_slice(), now),
-        (None, Ok(text)) => by_page(alloc, tables.fresh, text.as_slice(), kept.old, now),
-        (None, Err(_)) => Err(RestoreFault::Unreadable),
+    match log_text(files, alloc, kept)? {
+        Some(printed) => by_printed(files, alloc, options, kept.page, printed.as_slice(), now),
+        None => by_kept(files, alloc, options, kept, now),
     }
 }
 
@@ -128,13 +157,16 @@ pub fn in_time<R: Clock + Files>(
         → IsPlanned kept.entry.old entered found) }
 {
     let Ok(now) = now(rt) else {
+        drop(prospect);
         return Err(RestoreFault::NoClock);
     };
     if now.0 < prospect.until.0 {
         return Ok(prospect);
     }
+    let named = prospect.named;
+    drop(prospect);
     let anew = prospect_of(rt, alloc, options, kept, now)?;
-    if anew.named > prospect.named {
+    if anew.named > named {
         lines.extend_from_slice(anew.lines.as_slice())?;
     }
     Ok(anew)

@@ -3,8 +3,8 @@
 ghost use Rattle.std.specs.Prelude.{◌≡◌, ◌≤◌, ◌⊎◌, ◌==◌, ℕ, List, true, if◌then◌else◌, IfErr, IfOk};
 ghost use Rattle.gate_model.specs.declared.record.Moment.{Moment};
 ghost use Rattle.gate_reader.specs.Sink.{Delivers};
-ghost use Rattle.operator_restoring.specs.Lines.{AreLinesOf, commands_of, is_dry_run, is_old_asked, IsDryEnd, IsDryRun};
-ghost use Rattle.operator_restoring.specs.Restored.{IsPlannedAt, AreSent, IsRestored, IsNamed};
+ghost use Rattle.operator_restoring.specs.Lines.{AreLinesOf, commands_of, is_dry_run, is_old_asked, IsDryEnd};
+ghost use Rattle.operator_restoring.specs.Orders.{IsPlanOf, IsCarriedOut, IsNamedOf, IsDryRunOf, IsDryEndOf};
 ghost use Rattle.operator_restoring.specs.Faults.{IsOutputFault, IsNoTarget, IsNotRestored};
 
 use crate::gateway::Gateway;
@@ -48,11 +48,10 @@ fn carry_out<F: Files + Clock, G: Gateway>(
     prospect: Prospect,
     lines: &mut Vec<u8>,
 ) -> Result<usize, RestoreFault>
-    ensures sent { IfOk result (λ count. IsPlannedAt order.now.kept.old order.now.entered prospect → count ≡ 0
-        → AreSent G.has_results order.now.kept.old order.now.entered
-        × IsRestored G.shows G.has_others order.now.table.now order.now.kept.old order.now.entered) }
-    ensures some { IfOk result (λ count. IsPlannedAt order.now.kept.old order.now.entered prospect → 1 ≤ count
-        → IsNamed G.shows G.has_others order.now.table.now order.now.kept.old order.now.entered) }
+    ensures sent { IfOk result (λ count. IsPlanOf order.now prospect → count ≡ 0
+        → IsCarriedOut G.has_results G.shows G.has_others order.now) }
+    ensures some { IfOk result (λ count. IsPlanOf order.now prospect → 1 ≤ count
+        → IsNamedOf G.shows G.has_others order.now) }
 {
     gateway.send_results(alloc, prospect.results.as_slice())?;
     let prospect = in_time(rt, alloc, order.options, order.kept, prospect, lines)?;
@@ -129,11 +128,10 @@ fn send_all<F: Files + Clock, G: Gateway, W: Sink, E: Sink>(
     output: &mut W,
     errors: &mut E,
 ) -> Result<u8, ControlFault>
-    ensures sent { IfOk result (λ status. IsPlannedAt order.now.kept.old order.now.entered prospect → status ≡ 0
-        → AreSent G.has_results order.now.kept.old order.now.entered
-        × IsRestored G.shows G.has_others order.now.table.now order.now.kept.old order.now.entered) }
-    ensures some { IfOk result (λ status. IsPlannedAt order.now.kept.old order.now.entered prospect → status ≡ 1
-        → IsNamed G.shows G.has_others order.now.table.now order.now.kept.old order.now.entered) }
+    ensures sent { IfOk result (λ status. IsPlanOf order.now prospect → status ≡ 0
+        → IsCarriedOut G.has_results G.shows G.has_others order.now) }
+    ensures some { IfOk result (λ status. IsPlanOf order.now prospect → status ≡ 1
+        → IsNamedOf G.shows G.has_others order.now) }
     ensures unsaid { IfErr result IsOutputFault }
 {
     print(output, prospect.source.as_slice())?;
@@ -162,15 +160,12 @@ fn restore_by<F: Files + Clock, G: Gateway, W: Sink, E: Sink>(
     output: &mut W,
     errors: &mut E,
 ) -> Result<u8, ControlFault>
-    ensures restored { IfOk result (λ status. IsPlannedAt order.now.kept.old order.now.entered prospect → status ≡ 0
-        → (order.now.dry_run ≡ true) ⊎ (AreSent G.has_results order.now.kept.old order.now.entered
-        × IsRestored G.shows G.has_others order.now.table.now order.now.kept.old order.now.entered)) }
-    ensures some { IfOk result (λ status. IsPlannedAt order.now.kept.old order.now.entered prospect → status ≡ 1
-        → (order.now.dry_run ≡ true)
-        ⊎ IsNamed G.shows G.has_others order.now.table.now order.now.kept.old order.now.entered) }
-    ensures dry_run { IfOk result (λ status. IsPlannedAt order.now.kept.old order.now.entered prospect
-        → order.now.dry_run ≡ true
-        → IsDryRun order.now.kept.old order.now.entered status (W.state output.old) (W.state output.new)) }
+    ensures restored { IfOk result (λ status. IsPlanOf order.now prospect → status ≡ 0
+        → (order.now.dry_run ≡ true) ⊎ IsCarriedOut G.has_results G.shows G.has_others order.now) }
+    ensures some { IfOk result (λ status. IsPlanOf order.now prospect → status ≡ 1
+        → (order.now.dry_run ≡ true) ⊎ IsNamedOf G.shows G.has_others order.now) }
+    ensures dry_run { IfOk result (λ status. IsPlanOf order.now prospect → order.now.dry_run ≡ true
+        → IsDryRunOf order.now status (W.state output.old) (W.state output.new)) }
     ensures unsaid { IfErr result IsOutputFault }
 {
     print(errors, prospect.lines.as_slice())?;
@@ -196,15 +191,14 @@ pub fn restore_to<F: Files + Clock, G: Gateway, W: Sink, E: Sink>(
     errors: &mut E,
 ) -> Result<u8, ControlFault>
     ensures restored { IfOk result (λ status. status ≡ 0
-        → (order.now.dry_run ≡ true) ⊎ (AreSent G.has_results order.now.kept.old order.now.entered
-        × IsRestored G.shows G.has_others order.now.table.now order.now.kept.old order.now.entered)) }
+        → (order.now.dry_run ≡ true) ⊎ IsCarriedOut G.has_results G.shows G.has_others order.now) }
 
-    ensures some { IfOk result (λ status. status ≡ 1 → (order.now.dry_run ≡ true)
-        ⊎ IsNamed G.shows G.has_others order.now.table.now order.now.kept.old order.now.entered) }
+    ensures some { IfOk result (λ status. status ≡ 1
+        → (order.now.dry_run ≡ true) ⊎ IsNamedOf G.shows G.has_others order.now) }
 
     // A dry run prints what would be sent, unless that can't be planned.
     ensures dry_run { IfOk result (λ status. order.now.dry_run ≡ true
-        → IsDryEnd order.now.kept.old order.now.entered status (W.state output.old) (W.state output.new)) }
+        → IsDryEndOf order.now status (W.state output.old) (W.state output.new)) }
     ensures unsaid { IfErr result IsOutputFault }
 {
     match prospect_of(rt, alloc, order.options, order.kept, order.entered) {
@@ -278,12 +272,13 @@ pub fn restore<
         log: path_of(log)?,
         old: *old,
     };
+    let entered = now(rt)?;
     let config = configuration(rt, alloc, options)?;
     let order = Order {
         options,
         kept,
         table: &config.table,
-        entered: now(rt)?,
+        entered,
         dry_run: *dry_run,
     };
     let target = target_of(rt, alloc, options, agents, pid, &config)?;

@@ -1,8 +1,8 @@
 //! What becomes of commands on a gateway that shows newer results.
 
-ghost use Rattle.std.specs.Prelude.{◌≡◌, ◌++◌, IfOk, OnOk};
+ghost use Rattle.std.specs.Prelude.{◌≡◌, [], ◌∷◌, ◌++◌, IfOk, OnOk};
 ghost use Rattle.gate_model.specs.State.{is_same_state};
-ghost use Rattle.restore_plan.specs.Changed.{state_on, are_same, is_same_on, left_by, fates_by, fates_on};
+ghost use Rattle.restore_plan.specs.Changed.{state_on, are_same, is_same_on, left_by, fates_by, fates_of, fates_on};
 
 use crate::fates::{Cause, Fate, copied, copied_service, object_of};
 use gate_model::{Body, ObjectId, ObjectTable, State, Text};
@@ -95,18 +95,48 @@ fn left_by(
     Ok(Some(left))
 }
 
+fn push(fates: &mut Vec<Fate>, fate: Fate) -> Result<(), AllocError>
+    ensures { OnOk result (fates.new.items ≡ fates.old.items ++ fate ∷ []) }
+{
+    fates.push(fate)?;
+    Ok(())
+}
+
 /// Appends the fates of a command, given the comment that it leaves in its place.
 fn push_fates(fates: &mut Vec<Fate>, body: Body, left: Option<Body>) -> Result<(), AllocError>
     ensures { OnOk result (fates.new.items ≡ fates.old.items ++ fates_by body left) }
 {
     match left {
-        None => fates.push(Fate::Sent(body))?,
-        Some(comment) => {
-            fates.push(Fate::Left(Cause::Changed, body))?;
-            fates.push(Fate::Sent(comment))?;
+        None => push(fates, Fate::Sent(body)),
+        Some(comment) => match push(fates, Fate::Left(Cause::Changed, body)) {
+            Ok(()) => push(fates, Fate::Sent(comment)),
+            Err(error) => {
+                drop(comment);
+                Err(error)
+            }
+        },
+    }
+}
+
+/// Appends the fates of a command on a gateway that shows this page, where the other was foreseen.
+fn push_fates_on(
+    fates: &mut Vec<Fate>,
+    alloc: Global,
+    fresh: &ObjectTable,
+    foreseen: &StatusPage<'_>,
+    shown: &StatusPage<'_>,
+    body: Body,
+) -> Result<(), AllocError>
+    ensures { OnOk result (fates.new.items
+        ≡ fates.old.items ++ fates_of fresh.now foreseen.now shown.now body) }
+{
+    match left_by(alloc, fresh, foreseen, shown, &body) {
+        Ok(comment) => push_fates(fates, body, comment),
+        Err(error) => {
+            drop(body);
+            Err(error)
         }
     }
-    Ok(())
 }
 
 /// The fates of commands that are no results, on a gateway over these objects that shows this page,
@@ -126,8 +156,7 @@ pub fn fates_on(
     let mut left = commands;
     left.reverse();
     while let Some(body) = left.pop() {
-        let comment = left_by(alloc, fresh, foreseen, shown, &body)?;
-        push_fates(&mut fates, body, comment)?;
+        push_fates_on(&mut fates, alloc, fresh, foreseen, shown, body)?;
     }
     Ok(fates)
 }

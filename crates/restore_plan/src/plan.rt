@@ -1,6 +1,6 @@
 //! The fates of all records, and what is sent.
 
-ghost use Rattle.std.specs.Prelude.{◌≡◌, ◌≤◌, ◌++◌, length, take, drop, filter_map, None, IfOk, OnOk};
+ghost use Rattle.std.specs.Prelude.{◌≡◌, ◌≤◌, [], ◌∷◌, ◌++◌, length, take, drop, filter_map, None, IfOk, OnOk};
 ghost use Rattle.std.specs.Option.{option_to_list};
 ghost use Rattle.gate_model.specs.Table.{IsFaultless};
 ghost use Rattle.restore_plan.specs.Rehearsal.{first_refusal};
@@ -224,6 +224,13 @@ pub fn plan_of(
     Ok(Plan { results, others })
 }
 
+fn push_body(commands: &mut Vec<Body>, body: Body) -> Result<(), AllocError>
+    ensures { OnOk result (commands.new.items ≡ commands.old.items ++ body ∷ []) }
+{
+    commands.push(body)?;
+    Ok(())
+}
+
 /// Appends the commands that are sent by these fates.
 fn push_sent(commands: &mut Vec<Body>, fates: Vec<Fate>) -> Result<(), AllocError>
     ensures { OnOk result (
@@ -233,8 +240,8 @@ fn push_sent(commands: &mut Vec<Body>, fates: Vec<Fate>) -> Result<(), AllocErro
     left.reverse();
     while let Some(fate) = left.pop() {
         match fate {
-            Fate::Sent(body) => commands.push(body)?,
-            Fate::Left(_, _) => {}
+            Fate::Sent(body) => push_body(commands, body)?,
+            Fate::Left(_, body) => drop(body),
         }
     }
     Ok(())

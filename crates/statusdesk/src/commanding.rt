@@ -61,6 +61,7 @@ fn post_order<'a, R: Wait>(
 {
     let Some(post) = post_of(desk.posts, name) else {
         // Each gateway has one.
+        drop(order);
         return Done::Objected(Objection::OutOfMemory);
     };
     match post.put(desk.site.rt, order, intake) {
@@ -83,6 +84,7 @@ fn objected<'a>(objection: Objection) -> Done<'a>
     ensures taken { posted_at result ≡ [] }
 {
     if is_elsewhere(&objection) {
+        drop(objection);
         Done::NotAsked
     } else {
         Done::Objected(objection)

@@ -58,7 +58,7 @@ fn bind<R: Net<Listener = TcpListener, Stream = TcpStream>>(
     Ok((listener, bound))
 }
 
-// Prints the help that the words ask for, or fails with clap's message about them.
+// Prints the help or the version that the words ask for, or fails with clap's message about them.
 fn refuse(rt: &(impl Print + AllocGlobal), error: &Error) -> Result<(), DeskFault> {
     let text = error.to_string(rt.alloc())?;
     if error.use_stderr() {

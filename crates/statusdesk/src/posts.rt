@@ -152,6 +152,7 @@ impl<'a> Post<'a> {
         ensures kept { OnErr result (intake.new ≡ intake.old) }
     {
         if intake.entries.reserve(1).is_err() {
+            drop(order);
             return Err(TakeFault::OutOfMemory);
         }
         let gateway = self.place.name;

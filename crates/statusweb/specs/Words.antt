@@ -27,9 +27,9 @@ gateway = record (new_rule (codes "gateway")) { long = Some (codes "gateway"); r
 abbrev pub host : Rule
 host = record (new_rule (codes "host")) { long = Some (codes "host"); action = Some Append }
 
--- the words are all that follows the program's name
+-- the words are all that follows the program's name; there is a version
 abbrev pub unnamed : App → App
-unnamed app = record app { top = record app.top { no_binary_name = true } }
+unnamed app = record app { top = record app.top { no_binary_name = true; has_version = true } }
 
 -- `--listen`, `--gateway`, `--title`, `--refresh`, `--every` and `--host`
 abbrev pub program : App

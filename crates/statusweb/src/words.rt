@@ -13,6 +13,9 @@ use status_serving::refresh_in;
 use std::alloc::{AllocError, Global};
 use std::net::SocketAddr;
 
+// What `--version` prints after the program's name: that of CHANGELOG.md.
+const VERSION: &str = "1.0.0";
+
 /// What the program is run with.
 #[derive(Drop)]
 pub struct Settings<'a> {
@@ -47,7 +50,7 @@ pub enum BadValue {
 /// Why the words are no settings.
 #[derive(Debug, Drop)]
 pub enum WordsFault {
-    /// clap refuses them, or they ask for help: its message.
+    /// clap refuses them, or they ask for help or the version: its message.
     Refused(Error),
     /// An option can't have this value.
     Bad(BadValue),
@@ -102,9 +105,10 @@ fn host<'a>(alloc: Global) -> Arg<'a>
 fn unnamed<'a>(alloc: Global) -> Command<'a>
     ensures { app_of result ≡ unnamed (new_app (codes "statusweb")) }
 {
-    Command::new(alloc, "statusweb").no_binary_name(true).about(
-        "Shows the status pages of gateways to browsers, scripts and Prometheus",
-    )
+    Command::new(alloc, "statusweb")
+        .version(VERSION)
+        .no_binary_name(true)
+        .about("Shows the status pages of gateways to browsers, scripts and Prometheus")
 }
 
 fn command_line<'a>(alloc: Global) -> Result<Command<'a>, AllocError>
@@ -205,7 +209,7 @@ fn fault_of(error: Error) -> WordsFault
 /// more, `--title TEXT`, `--refresh SECONDS`, `--every SECONDS` and `--host NAME` as often as needed, in
 /// any spelling that `clap` reads.
 ///
-/// `Refused`: clap refuses them, or they ask for help. `Bad`: this value. `OutOfMemory` may be
+/// `Refused`: clap refuses them, or they ask for help or the version. `Bad`: this value. `OutOfMemory` may be
 /// returned in place of any answer.
 pub fn read_words<'a>(alloc: Global, words: &'a [String]) -> Result<Settings<'a>, WordsFault>
     ensures asked { IfOk result (AskFor (map string_bytes words.entry.now)) }

@@ -2,7 +2,7 @@ ghost use Rattle.std.specs.Prelude.{◌≡◌};
 
 use crate::browser::{Browser, limit_of};
 use http_server::{Config, Connection, Service};
-use mio::net::TcpListener;
+use mio::net::{TcpListener, TcpStream};
 use mio::{Events, Interest, Poll, Token};
 use std::alloc::Global;
 use std::hash::RandomState;
@@ -97,6 +97,13 @@ impl Browsers {
         longest
     }
 
+    // Puts a browser into this place.
+    fn put(&mut self, place: usize, browser: Browser) {
+        if let Some(slot) = self.browsers.get_mut(place) {
+            *slot = Some(browser);
+        }
+    }
+
     // Closes the connection at this place.
     fn close(&mut self, place: usize) {
         if place < self.browsers.len() {
@@ -120,17 +127,20 @@ impl Browsers {
         }
     }
 
+    // Accepts one connection that waits at the listener, and asks the system to report what becomes of it
+    // by this token.
+    fn accept_stream(&mut self, token: Token) -> io::Result<TcpStream> {
+        let (mut stream, _) = self.listener.accept()?;
+        let both = Interest::READABLE | Interest::WRITABLE;
+        self.poll.registry().register(&mut stream, token, both)?;
+        Ok(stream)
+    }
+
     // Accepts one connection that waits at the listener.
     fn accept_one<R: RandomSource>(&mut self, rt: &R, place: usize, now: u64) -> io::Result<()> {
-        let (mut stream, _) = self.listener.accept()?;
+        let stream = self.accept_stream(Token(place))?;
         let connection = Connection::new(self.alloc, RandomState::new(rt)?, self.config);
-        let both = Interest::READABLE | Interest::WRITABLE;
-        self.poll
-            .registry()
-            .register(&mut stream, Token(place), both)?;
-        if place < self.browsers.len() {
-            self.browsers[place] = Some(Browser::new(stream, connection, now));
-        }
+        self.put(place, Browser::new(stream, connection, now));
         Ok(())
     }
 
