@@ -171,6 +171,9 @@ fn send_notes<'t, R>(
     ensures { OnOk result (IsNoted (desk_view desk.now) now code form.now seen.now
         (said_of [] seen.now all.now) response.new) }
 {
+    let Ok(status) = StatusCode::from_u16(code) else {
+        return Err(AllocError);
+    };
     let alloc = desk.site.alloc;
     let named = named_in(form.fields());
     let known = known_of(alloc, seen, named)?;
@@ -186,9 +189,6 @@ fn send_notes<'t, R>(
         notes.as_slice(),
         false,
     )?;
-    let Ok(status) = StatusCode::from_u16(code) else {
-        return Err(AllocError);
-    };
     let kind = HeaderValue::from_static("text/html; charset=utf-8");
     send(response, status, kind, body)
 }
