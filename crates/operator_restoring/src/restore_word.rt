@@ -235,6 +235,25 @@ fn target_of<'a, F: Files>(
     })
 }
 
+// The same, to the gateway of this target.
+fn restore_at<R: Net<Listener = TcpListener, Stream = TcpStream> + Clock + Files, W: Sink, E: Sink>(
+    rt: &R,
+    alloc: Global,
+    order: &Order<'_>,
+    target: Target<'_>,
+    output: &mut W,
+    errors: &mut E,
+) -> Result<u8, ControlFault>
+    ensures dry_run { IfOk result (λ status. order.now.dry_run ≡ true
+        → IsDryEndOf order.now status (W.state output.old) (W.state output.new)) }
+    ensures unsaid { IfErr result IsOutputFault }
+{
+    match LiveGateway::new(rt, target) {
+        Ok(mut gateway) => restore_to(rt, alloc, order, &mut gateway, output, errors),
+        Err(fault) => report(alloc, fault, errors),
+    }
+}
+
 /// Restores to the gateway that the words name, or prints what would be sent. Returns the exit status:
 /// that of `restore_to`, or 2 or 3 where there is no such gateway. The task is `Restore`; another is
 /// `BadWords`, as is a path that is no UTF-8. An error is also a fault of the ports or of the
@@ -282,8 +301,5 @@ pub fn restore<
         dry_run: *dry_run,
     };
     let target = target_of(rt, alloc, options, agents, pid, &config)?;
-    match LiveGateway::new(rt, target) {
-        Ok(mut gateway) => restore_to(rt, alloc, &order, &mut gateway, output, errors),
-        Err(fault) => report(alloc, fault, errors),
-    }
+    restore_at(rt, alloc, &order, target, output, errors)
 }

@@ -90,6 +90,7 @@ impl<'a, R: Net<Listener = TcpListener, Stream = TcpStream> + Clock + Files> Sto
         };
         let places = self.places;
         let reply = send(self.rt, alloc, places.operators, places.seconds, &command);
+        drop(command);
         Ok(matches!(reply, Ok(Reply::Closing)))
     }
 
@@ -165,5 +166,7 @@ pub fn stop<R: Net<Listener = TcpListener, Stream = TcpStream> + Clock + Files, 
         log,
         pid,
     };
-    stop_by(alloc, &mut live, log_seconds, output, errors)
+    let ended = stop_by(alloc, &mut live, log_seconds, output, errors);
+    drop(live);
+    ended
 }
