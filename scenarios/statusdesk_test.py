@@ -50,6 +50,7 @@ REFUSED = [
     ("a name that leads here", 421, {"changed": [("Host", "evil.example"), ("Origin", "https://evil.example")]}),
     ("an address", 421, {"changed": [("Host", "127.0.0.1"), ("Origin", "https://127.0.0.1")]}),
     ("a host that begins alike", 421, {"changed": [("Host", HOST + ".evil.example"), ("Origin", f"https://{HOST}.evil.example")]}),
+    ("an address in brackets with more after it", 400, {"changed": [("Host", "[::1]evil"), ("Origin", "https://[::1]evil")]}),
     ("two Hosts", 400, {"changed": [("Host", HOST)] * 2}),
     ("no user", 403, {"dropped": ["X-Remote-User"]}),
     ("an empty user", 403, {"changed": [("X-Remote-User", "")]}),
@@ -91,6 +92,14 @@ REFUSED = [
     ("a form of a megabyte", 413, {"length": 1 << 20}),
 ]
 
+# Requests that pass each test, unlike those of a usual browser: what, and what is changed of one.
+ADMITTED = [
+    ("a port and other letters", {"changed": [("Host", "Desk.example:8443"), ("Origin", "https://Desk.example:8443")]}),
+    ("an address in brackets", {"changed": [("Host", "[::1]:8443"), ("Origin", "https://[::1]:8443")]}),
+    ("an old browser, and no TLS", {"changed": [("Origin", "http://" + HOST)], "dropped": ["Sec-Fetch-Site"]}),
+    ("a form of 16,384 bytes", {"length": 16384}),
+]
+
 # Other requests: method, target, user, and the status.
 ASKED = [
     ("GET", "/", "", 200), ("HEAD", "/", "", 200), ("POST", "/", "ann", 405), ("GET", "/nothing", "", 404),
@@ -104,9 +113,9 @@ ASKED = [
 
 
 def play_refusals(program):
-    """Requests that fail a test: each is refused with its status, and no line reaches the gateway."""
+    """Requests that fail a test: each is refused with its status, and no line reaches the gateway. Others are sent."""
     port = takes()
-    with Desk(program, ("east", shows(page_text(int(time.time()))).port, port.port)) as desk:
+    with Desk(program, ("east", shows(page_text(int(time.time()))).port, port.port), words=("--host", "[::1]")) as desk:
         desk.page_with(HTTP, "Acknowledge")
 
         def post(what, named=HTTP, fields=(), more=b"", length=0, **options):
@@ -122,7 +131,7 @@ def play_refusals(program):
         for method, target, user, status in ASKED:
             fields = [("Host", HOST)] + [("X-Remote-User", user)] * bool(user)
             check(f"{method} {target} for {user}", desk.ask(method, target, fields)[0], status)
-        for what, status, options in REFUSED[:37]:
+        for what, status, options in REFUSED[:38]:
             form = {**desk.marked("", ["web1;HTTP"], action="comment", text=what), **dict(options.get("fields", ()))}
             options = {name: value for name, value in options.items() if name not in ("fields", "named")}
             found = desk.post(form, path="/commands", **options)
@@ -131,6 +140,9 @@ def play_refusals(program):
         check("a page after all of these", post("the good one")[0], 303)
         check("its line", soon(lambda: [line.partition(b" ")[2] for line in port.lines]),
               [b"ADD_SVC_COMMENT;web1;HTTP;0;ann;the good one\n"])
+        for number, (what, options) in enumerate(ADMITTED, 2):
+            check(what, post(what, **options)[0], 303)
+            check(f"{what}: its line", soon(lambda number=number: commands_at(port)[number - 1:]), [f"ADD_SVC_COMMENT;web1;HTTP;0;ann;{what}"])
 
 
 # Forms that the gateway would refuse, or that ask for no command: the object, the fields, the status, and the reason.
@@ -144,6 +156,11 @@ REASONS = [
     (HTTP, {"action": "downtime", "text": "x", "for": "2h", "until": "4000000000"}, 400,
      "downtime ends after a span or at a moment: give one of them"),
     (HTTP, {"action": "downtime", "text": "x", "until": "noon"}, 400, "a time is as 2026-11-23T20:15 in UTC, or in seconds since 1970"),
+    (HTTP, {"action": "downtime", "text": "x", "until": "2023-02-29T00:00"}, 400,
+     "a time is as 2026-11-23T20:15 in UTC, or in seconds since 1970"),
+    (HTTP, {"action": "passive", "setting": "maybe"}, 400, "passive checks are on or off"),
+    (HTTP, {"action": "comment"}, 400, "the comment is missing"),
+    (HTTP, {"action": "shutdown"}, 400, "the form names no action"),
 ]
 
 
@@ -182,6 +199,20 @@ def play_lines(program):
               [(["ann", "east"], ["queued 1"])] * len(TEXTS))
 
 
+# What the page of the host below has, as its markup.
+PARTS = [
+    '<p class="state">&lt;east&gt;: DOWN <span class="badge stale">stale</span> <span class="badge">acknowledged, sticky</span> '
+    '<span class="badge">downtime 1</span>, last result 5 min ago</p><pre>&lt;script&gt;</pre>',
+    'name="host" value="&lt;b&gt;&quot;&#39;"><input type="hidden" name="service" value="">',
+    "<li>&lt;i&gt;: &lt;/li&gt;&lt;form&gt;<form",
+    'value="uncomment"><input type="hidden" name="gateway" value="&lt;east&gt;">'
+    '<input type="hidden" name="id" value="1"><button>Delete comment</button></form></li>',
+    "<li>&lt;u&gt;: &amp;amp;<form",
+    'value="cancel"><input type="hidden" name="gateway" value="&lt;east&gt;">'
+    '<input type="hidden" name="id" value="2"><button>Cancel downtime</button></form></li>',
+    'value="acknowledge"><h2>Acknowledge</h2>',
+    'value="passive"><h2>Passive checks</h2>',
+]
 FIELDS = ("token", "page", "host", "service", "action", "gateway", "id", "text", "sticky", "persistent", "for", "from", "until",
           "flexible", "services", "setting", "more")
 
@@ -189,10 +220,10 @@ FIELDS = ("token", "page", "host", "service", "action", "gateway", "id", "text",
 def play_markup(program):
     """Names and texts of a page, of users and of answers are shown as texts."""
     now = int(time.time())
-    page = (f"status {now}\nobject;<b>\"';;UP;{now};fresh;-;1;<script>\ncomment;1;<b>\"';;user;0;{now};<i>;</li><form>\n"
-            f"downtime;2;<b>\"';;fixed;0;{now};{now + 9};0;{now};<u>;&amp;\n").encode()
-    with Desk(program, ("<east>", shows(page).port, takes(b"full\n").port), users="<s>ann</s>",
-              words=("--title", "<q>")) as desk:
+    page = (f"status {now}\nobject;<b>\"';;DOWN;{now - 300};stale;sticky;1;<script>\nobject;<b>\"';a b\\\\c;OK;{now};fresh;-;0;x\n"
+            f"comment;1;<b>\"';;user;0;{now};<i>;</li><form>\ndowntime;2;<b>\"';;fixed;0;{now};{now + 9};0;{now};<u>;&amp;\n").encode()
+    port = takes(b"full\n")
+    with Desk(program, ("<east>", shows(page).port, port.port), users="<s>ann</s>", words=("--title", "<q>")) as desk:
         named, user = {"host": "<b>\"'", "service": ""}, "<s>ann</s>"
         plain = re.findall(r"<form", desk.page_with(named, "Acknowledge", user))
         status, fields, _ = desk.post(desk.form(named, user, action="comment", text="<script>1</script>"), user)
@@ -201,8 +232,13 @@ def play_markup(program):
         check("the answer is shown as a text", re.findall(r"<p class=\"alarm\" role=\"alert\">(.*)</p>", text),
               ["&lt;east&gt;: not queued: &lt;b&gt;&quot;&#39;: the queue is full"])
         check("no markup but the program's own", re.findall(r"</?(?:b|i|u|s|q|script|east)\b", text), [])
-        check("the title, the user and the comment", [one in text for one in (
-            "&lt;q&gt;", "&lt;s&gt;ann&lt;/s&gt;", "&lt;/li&gt;&lt;form&gt;")], [True] * 3)
+        check("the title and the user", [one in text for one in ("&lt;q&gt;", "&lt;s&gt;ann&lt;/s&gt;")], [True] * 2)
+        check("the state, the texts and the forms", [part for part in PARTS if part not in text], [])
+        service = {"host": "<b>\"'", "service": "a b\\\\c"}
+        desk.post(desk.form(service, user, action="comment", text="one"), user)
+        check("a name without the escapes of its page", soon(lambda: commands_at(port)[1:]), ["ADD_SVC_COMMENT;<b>\"';a b\\c;0;<s>ann</s>;one"])
+        desk.post(desk.marked("", ["<b>\"';a b\\\\c"], user, action="comment", text="two"), user, path="/commands")
+        check("a mark likewise", soon(lambda: commands_at(port)[2:]), ["ADD_SVC_COMMENT;<b>\"';a b\\c;0;<s>ann</s>;two"])
         _, fields, _ = desk.ask("GET", "/object?" + urllib.parse.urlencode(named), [("Host", HOST), ("X-Remote-User", user)])
         check("no script runs, and only its own forms are sent", fields["Content-Security-Policy"],
               "default-src 'none'; style-src 'self'; form-action 'self'; base-uri 'none'; frame-ancestors 'none'")
@@ -221,9 +257,14 @@ FORMS = [
      r"^object;web1;HTTP;CRITICAL;\d+;fresh;-;0;"),
     ("a normal acknowledgement", HTTP, {"action": "acknowledge", "text": "me"}, "ACKNOWLEDGE_SVC_PROBLEM;web1;HTTP;1;1;0;ann;me",
      r"^object;web1;HTTP;CRITICAL;\d+;fresh;normal;0;"),
+    ("an acknowledgement of the host", WEB1, {"action": "acknowledge", "text": "me too"},
+     "ACKNOWLEDGE_HOST_PROBLEM;web1;1;1;0;ann;me too", r"^object;web1;;DOWN;\d+;fresh;normal;0;"),
+    ("its end, of the host", WEB1, {"action": "unacknowledge"}, "REMOVE_HOST_ACKNOWLEDGEMENT;web1", r"^object;web1;;DOWN;\d+;fresh;-;0;"),
     ("a comment", HTTP, {"action": "comment", "text": "<b>seen"}, "ADD_SVC_COMMENT;web1;HTTP;0;ann;<b>seen",
      r"^comment;\d+;web1;HTTP;user;0;\d+;ann;<b>seen$"),
     ("its deletion", HTTP, {"action": "uncomment", "id": r"^comment;(\d+);.*<b>seen$"}, "DEL_SVC_COMMENT;ID", None),
+    ("a comment of the host that stays", WEB1, {"action": "comment", "text": "rack 4", "persistent": "1"},
+     "ADD_HOST_COMMENT;web1;1;ann;rack 4", r"^comment;\d+;web1;;user;1;\d+;ann;rack 4$"),
     ("half an hour of downtime", HTTP, {"action": "downtime", "text": "half", "for": "30m"},
      "SCHEDULE_SVC_DOWNTIME;web1;HTTP;N;+1800;1;0;0;ann;half", r"^downtime;\d+;web1;HTTP;fixed;.*;ann;half$"),
     ("two hours of downtime", WEB1, {"action": "downtime", "text": "two", "for": "2h"},
@@ -234,8 +275,15 @@ FORMS = [
     ("from and until", HTTP, {"action": "downtime", "text": "later", "for": "", "from": "4000000000", "until": "4000000600"},
      "SCHEDULE_SVC_DOWNTIME;web1;HTTP;4000000000;4000000600;1;0;0;ann;later",
      r"^downtime;\d+;web1;HTTP;fixed;0;4000000000;4000000600;.*;later$"),
+    # The seconds of the dates are those of GNU date.
+    ("from and until as dates", HTTP, {"action": "downtime", "text": "dates", "from": "2024-02-29T23:59", "until": "2106-02-07T06:28"},
+     "SCHEDULE_SVC_DOWNTIME;web1;HTTP;1709251140;4294967280;1;0;0;ann;dates",
+     r"^downtime;\d+;web1;HTTP;fixed;0;1709251140;4294967280;.*;dates$"),
     ("flexible downtime", HTTP, {"action": "downtime", "text": "flex", "for": "2h", "flexible": "90m"},
      "SCHEDULE_SVC_DOWNTIME;web1;HTTP;N;+7200;0;0;5400;ann;flex", r"^downtime;\d+;web1;HTTP;flexible;.*;flex$"),
+    ("flexible downtime for each service", WEB1, {"action": "downtime", "text": "all", "for": "1d", "flexible": "30m", "services": "on"},
+     "SCHEDULE_HOST_SVC_DOWNTIME;web1;N;+86400;0;0;1800;ann;all", r"^downtime;\d+;web1;HTTP;flexible;.*;all$"),
+    ("passive checks of the host off", WEB1, {"action": "passive", "setting": "off"}, "DISABLE_PASSIVE_HOST_CHECKS;web1", None),
     ("passive checks off", HTTP, {"action": "passive", "setting": "off"}, "DISABLE_PASSIVE_SVC_CHECKS;web1;HTTP", None),
     ("passive checks on", HTTP, {"action": "passive", "setting": "on"}, "ENABLE_PASSIVE_SVC_CHECKS;web1;HTTP", None),
 ]
@@ -254,8 +302,8 @@ def play_commands(daemon_program, program, folder):
     """Each form over a daemon: the next page names the outcome, and the daemon's page shows what the form asked for."""
     daemon = Daemon(daemon_program, folder, CONFIGURATION)
     with Desk(program, ("east", daemon.ports["pages"], daemon.ports["operators"])) as desk:
-        ask(daemon, "[1] PROCESS_SERVICE_CHECK_RESULT;web1;HTTP;2;no answer")
-        desk.page_with(HTTP, "CRITICAL")
+        ask(daemon, "[1] PROCESS_SERVICE_CHECK_RESULT;web1;HTTP;2;no answer", "[1] PROCESS_HOST_CHECK_RESULT;web1;1;down")
+        desk.page_with(WEB1, "DOWN")
         for number, (what, named, fields, command, shown) in enumerate(FORMS):
             identity = None
             if "id" in fields:
@@ -280,7 +328,7 @@ def play_commands(daemon_program, program, folder):
                 soon(lambda: "may be from before" not in desk.page(headers["Location"]))
     ask(daemon, "[1] SHUTDOWN_PROGRAM")
     _, output, _ = daemon.end()
-    check("the gateway accepted each", output.count("-> Accepted"), len(FORMS) + 1)
+    check("the gateway accepted each", output.count("-> Accepted"), len(FORMS) + 2)
 
 
 def alarms(page):
@@ -393,6 +441,7 @@ def play_slow_gateways(program):
         asked = [re.search(f'role="(?:alert|status)">{name}: ', page) is not None for name in (*ports, "other")]
         check("the gateways that show the object are asked", asked, [True] * 4 + [False])
         check("what is under way is named", ["slow: being sent" in page, "stuck: being sent" in page], [True, True])
+        check("the page loads itself again", '<meta http-equiv="refresh" content="2">' in page, True)
         for number in range(20):
             desk.post({**form, "text": f"more {number}", "gateway": "fast"})
         check("the fast one has 20 more at once", soon(lambda: len(fast.lines) == 21, 1), True)

@@ -210,7 +210,8 @@ def run_pages(name, files):
     gateways = [('east' if file == name + '.page' else file.split('.')[1], shows(data(file)).port) for file in pages]
     query = '?' + data(name + '.query').decode().strip() if name + '.query' in files else ''
     kinds = [file.rpartition('.')[2] for file in files if file not in pages and file != name + '.query']
-    test(f'{name} has pages and what they show', pages and kinds and {*kinds} <= {'json', 'metrics', 'text'}, files)
+    test(f'{name} has pages and what they show',
+         pages and kinds and {*kinds} <= {'html', 'json', 'metrics', 'object', 'text'}, files)
     with Web(*gateways) as web:
         if 'json' in kinds:
             expected = json.dumps(json.loads(data(name + '.json')), ensure_ascii=False, separators=(',', ':')).encode()
@@ -222,6 +223,10 @@ def run_pages(name, files):
         if 'text' in kinds:
             text = Tags(web.text('/' + query)).text
             test(f'{name}.text', text.encode() == data(name + '.text'), text)
+        for kind, path in [('html', '/'), ('object', '/object')]:
+            if kind in kinds:
+                answer = web.text(path + query)
+                test(f'{name}.{kind}', answer == data(f'{name}.{kind}'), answer)
 
 
 def test_pages():
@@ -272,6 +277,14 @@ def test_faults(now):
         test('without a page of any gateway the status is 503', [web.ask(path)[0].status for path in (
             '/', '/status.json', '/metrics', '/changes', '/style.css')] == [503, 503, 200, 200, 200])
         test('a page over no gateway', page.count(b'<p class="alarm"') == 2 and read['objects'] == [], page[:3000])
+
+
+def test_places(now):
+    """A gateway without a name has its address as its name."""
+    places = [f'127.0.0.1:{shows(east(now)).port}', f'[::1]:{free_port()}']
+    with Web(words=[word for place in places for word in ('--gateway', place)]) as web:
+        found = [(row['name'], row['reachable']) for row in web.json()['gateways']]
+        test('gateways without names', found == [*zip(places, [True, False])], found)
 
 
 def test_sharing(now):
@@ -361,13 +374,42 @@ def test_since(now):
         test('the latest first', found == ['web1', 'web1/SSH', 'web1/HTTP'], found)
 
 
+# The page and the feed of one change, with its moment in place of AT and SECONDS.
+CHANGES = '''\
+<!DOCTYPE html>
+<html lang="en"><head><meta charset="utf-8"><meta name="viewport" content="width=device-width,initial-scale=1">\
+<meta http-equiv="refresh" content="30"><link rel="stylesheet" href="/style.css">\
+<link rel="alternate" type="application/atom+xml" href="/changes.atom"><title>nscagate</title></head>
+<body><header><h1><a href="/">nscagate</a></h1><nav aria-label="Pages"><a href="/">Status</a> \
+<a href="/changes">Changes</a></nav></header>
+<main>
+<table><caption><h2>Changes of states</h2>1 shown, the newest first: of each gateway the last 1,000 since this program started</caption>
+<thead><tr><th scope="col">Time</th><th scope="col">Object</th><th scope="col">From</th><th scope="col">To</th>\
+<th scope="col">Gateway</th></tr></thead><tbody>
+<tr class="critical"><td class="num cell"><time datetime="AT">AT</time></td>\
+<td class="name"><a href="/?host=web%2F1"><bdi>web/1</bdi></a> <span class="soft">/</span> <bdi>HTTP</bdi></td><td class="cell" data-name="from">OK</td>\
+<td class="cell"><span class="badge state">CRITICAL</span></td><td class="cell soft" data-name="at">east</td></tr>
+</tbody></table>
+</main><footer><a href="/changes.json">changes.json</a> &middot; <a href="/changes.atom">changes.atom</a></footer>
+</body></html>
+'''
+FEED = '''\
+<?xml version="1.0" encoding="utf-8"?>
+<feed xmlns="http://www.w3.org/2005/Atom"><id>nscagate:changes</id><title>nscagate</title><updated>AT</updated>\
+<author><name>statusweb</name></author><link rel="self" href="/changes.atom"/><link href="/changes"/>
+<entry><id>nscagate:change?gateway=east&amp;host=web%2F1&amp;service=HTTP&amp;moment=SECONDS&amp;from=OK&amp;to=CRITICAL</id>\
+<title>web/1 / HTTP: OK to CRITICAL at east</title><updated>AT</updated><link href="/?host=web%2F1"/></entry>
+</feed>
+'''
+
+
 def test_changes(now):
     """The changes of states on the pages of two gateways, as a page, as JSON lines and as a feed, the newest first."""
     def page(moment, host, *states):
         return b'status %d\n' % moment + b''.join(
             b'object;%s;%s;%s;%d;fresh;-;0;x\n' % (host, service, state, moment) for service, state in states)
     odd = '<b>"&\'ä\ufffd'
-    texts = {'east': page(now, b'web1', (b'', b'UP'), (b'HTTP', b'OK')),
+    texts = {'east': page(now, b'web/1', (b'', b'UP'), (b'HTTP', b'OK')),
              'west': page(now, odd[:-1].encode() + b'\xff', (b'', b'UP'), (b'a/b c', b'WARNING'))}
     gateways = {name: shows(lambda name=name: texts[name]) for name in texts}
 
@@ -378,20 +420,24 @@ def test_changes(now):
     with Web(*[(name, gateway.port) for name, gateway in gateways.items()]) as web:
         test('no changes', web.text('/changes.json') == b'' and b'<caption><h2>Changes of states</h2>0 shown'
              in web.text('/changes') and b'<entry>' not in web.text('/changes.atom'))
-        show('east', page(now + 1, b'web1', (b'', b'UP'), (b'HTTP', b'CRITICAL')))
+        show('east', page(now + 1, b'web/1', (b'', b'UP'), (b'HTTP', b'CRITICAL')))
+
+        def moment(seconds, between):
+            return time.strftime(f'%Y-%m-%d{between}%H:%M:%SZ', time.gmtime(seconds))
+        for path, between, text in [('/changes', ' ', CHANGES), ('/changes.atom', 'T', FEED)]:
+            answer = web.text(path).decode()
+            test(f'{path} of one change',
+                 answer == text.replace('AT', moment(now + 1, between)).replace('SECONDS', str(now + 1)), answer)
         show('west', page(now + 2, odd[:-1].encode() + b'\xff', (b'', b'UP'), (b'a/b c', b'OK')))
         show('east', b'HTTP/1.1 400 Bad Request\r\n\r\n')
-        show('east', page(now + 4, b'web1', (b'', b'DOWN'), (b'HTTP', b'CRITICAL')))
-        wanted = [(now + 4, 'east', 'web1', None, 'UP', 'DOWN'), (now + 2, 'west', odd, 'a/b c', 'WARNING', 'OK'),
-                  (now + 1, 'east', 'web1', 'HTTP', 'OK', 'CRITICAL')]
+        show('east', page(now + 4, b'web/1', (b'', b'DOWN'), (b'HTTP', b'CRITICAL')))
+        wanted = [(now + 4, 'east', 'web/1', None, 'UP', 'DOWN'), (now + 2, 'west', odd, 'a/b c', 'WARNING', 'OK'),
+                  (now + 1, 'east', 'web/1', 'HTTP', 'OK', 'CRITICAL')]
         response, lines = web.ask('/changes.json')
         rows = [dict(zip(('moment', 'gateway', 'host', 'service', 'from', 'to'), row)) for row in wanted]
         test('changes as JSON lines', lines == b''.join(json.dumps(
             row, ensure_ascii=False, separators=(',', ':')).encode() + b'\n' for row in rows)
             and response.getheader('content-type') == 'application/x-ndjson', lines)
-
-        def moment(seconds, between):
-            return time.strftime(f'%Y-%m-%d{between}%H:%M:%SZ', time.gmtime(seconds))
         found = Tags(web.text('/changes'))
         test('changes as a page', [row for row in found.rows if row] == [
             [moment(when, ' '), host + (f' / {service}' if service else ''), before, after, at]
@@ -405,10 +451,10 @@ def test_changes(now):
             for when, at, host, service, before, after in wanted]
             and response.getheader('content-type') == 'application/atom+xml', feed)
         ids = [entry.findtext(atom + 'id') for entry in read.iter(atom + 'entry')]
-        test('its ids and its links', len({*ids}) == 3 and ids[2] == 'nscagate:change?gateway=east&host=web1&service=HTTP'
+        test('its ids and its links', len({*ids}) == 3 and ids[2] == 'nscagate:change?gateway=east&host=web%2F1&service=HTTP'
              f'&moment={now + 1}&from=OK&to=CRITICAL' and read.findtext(atom + 'updated') == moment(now + 4, 'T')
              and urllib.parse.parse_qs(urllib.parse.urlsplit(read.findall(atom + 'entry')[0].find(
-                 atom + 'link').get('href')).query) == {'host': ['web1']}, feed)
+                 atom + 'link').get('href')).query) == {'host': ['web/1']}, feed)
         test('each page links to them', b'<a href="/changes">' in web.text('/') and b'href="/changes.atom"' in web.text('/'))
 
 
@@ -457,7 +503,7 @@ def test_tiles(now):
 QUERIES = {
     '': 'db web1/HTTP web2/ssh web2 web1/disk web1',
     'host=WEB': 'web1/HTTP web2/ssh web2 web1/disk web1',
-    'host=eb2': 'web2/ssh web2',
+    'host=x&host=%65b2': 'web2/ssh web2',
     'service=http': 'web1/HTTP',
     'service=s': 'web2/ssh web1/disk',
     'output=disk+full': 'web2/ssh',
@@ -664,6 +710,10 @@ def test_ends(now):
         test('browsers that go end nothing', b'web1' in again.text('/') and again.process.poll() is None)
 
 
+GUARDS = ("content-security-policy: default-src 'none'; style-src 'self'; form-action 'self'; base-uri 'none'; frame-ancestors 'none'"
+          '\r\nx-content-type-options: nosniff\r\nreferrer-policy: no-referrer\r\nconnection: close\r\n')
+
+
 def exchange(web, sent):
     """All that is answered to these bytes."""
     with web.connect() as connection:
@@ -674,6 +724,11 @@ def exchange(web, sent):
         return answer
 
 
+def undated(answer):
+    """An answer without its date."""
+    return re.sub(b'\r\ndate: [^\r]*', b'', answer, count=1).decode()
+
+
 def test_requests(now):
     with Web(('east', shows(east(now)).port), words=['--title', 'a <b>', '--refresh', '60', '--host', 'status.example']) as web:
         test('where it listens is printed', web.line == f'listening 127.0.0.1:{web.port}\n'.encode(), web.line)
@@ -681,6 +736,7 @@ def test_requests(now):
         test('the title and the refresh', b'<title>(1) a &lt;b&gt;</title>' in page
              and b'http-equiv="refresh" content="60"' in page, page[:400])
         test('no refresh', b'http-equiv' not in web.text('/?refresh=0'))
+        test('a refresh after two seconds at least', b'http-equiv="refresh" content="2"' in web.text('/?refresh=1'))
         policy = response.getheader('content-security-policy')
         test('a policy without scripts', policy == "default-src 'none'; style-src 'self'; form-action 'self'; "
              "base-uri 'none'; frame-ancestors 'none'", policy)
@@ -707,7 +763,12 @@ def test_requests(now):
             found = web.ask(path, method, body=body)
             test(f'{method} {path} is {status}', found[0].status == status, found)
             test(f'{method} {path} has the policy', found[0].getheader('content-security-policy') == policy)
-        test('the methods of a refusal', web.ask('/', 'POST')[0].getheader('allow') == 'GET, HEAD')
+        text = 'content-type: text/plain; charset=utf-8\r\ncache-control: no-store\r\n'
+        for method, host, status, allowed in [('POST', 'localhost', '405 Method Not Allowed', 'allow: GET, HEAD\r\n'),
+                                              ('GET', 'other.example', '421 Misdirected Request', '')]:
+            answer = undated(exchange(web, f'{method} / HTTP/1.1\r\nHost: {host}\r\n\r\n'.encode()))
+            test(f'the whole answer {status}', answer == f'HTTP/1.1 {status}\r\n{allowed}{text}{GUARDS}'
+                 f'content-length: 3\r\n\r\n{status[:3]}', answer)
         for path in ['/', '/status.json', '/metrics', '/changes', '/changes.json', '/changes.atom', '/style.css']:
             (whole, _), (head, body) = web.ask(path), web.ask(path, 'HEAD')
             fields = [[field for field in answer.getheaders() if field[0] not in ('date', 'content-length')]
@@ -741,14 +802,16 @@ def test_style(now):
         response, style = web.ask('/style.css')
         tag = '"' + hashlib.sha256(style).hexdigest() + '"'
         test('the style has its tag', response.getheader('etag') == tag, response.getheaders())
-        for value, status in [(tag, 304), ('W/' + tag, 304), (f'"a", {tag}', 304), ('*', 304), (tag.upper(), 200),
-                              (tag[1:-1], 200), ('"a"', 200), (tag[:-2] + '"', 200), ('', 200)]:
+        kept = 'cache-control: max-age=300\r\n' + GUARDS
+        whole = {304: f'HTTP/1.1 304 Not Modified\r\netag: {tag}\r\n{kept}\r\n',
+                 200: f'HTTP/1.1 200 OK\r\netag: {tag}\r\ncontent-type: text/css; charset=utf-8\r\n{kept}'
+                      f'content-length: {len(style)}\r\n\r\n' + style.decode()}
+        for value, status in [(tag, 304), ('W/' + tag, 304), (f'"a", {tag}', 304), ('"a"\r\nIf-None-Match: "b", W/' + tag, 304),
+                              ('*', 304), (tag.upper(), 200), (tag[1:-1], 200), ('"a"', 200), (tag[:-2] + '"', 200), ('', 200)]:
             answer = exchange(web, b'GET /style.css HTTP/1.1\r\nHost: localhost\r\nIf-None-Match: '
                               + value.encode() + b'\r\n\r\n')
-            head, _, body = answer.partition(b'\r\n\r\n')
-            test(f'If-None-Match: {value[:12]} is {status}', head.startswith(b'HTTP/1.1 %d ' % status)
-                 and body == (style if status == 200 else b'') and f'etag: {tag}'.encode() in head
-                 and b'cache-control: max-age=300' in head and b'nosniff' in head and b'date: ' in head, head)
+            test(f'If-None-Match: {value[:12]!r} is {status}',
+                 b'\r\ndate: ' in answer and undated(answer) == whole[status], answer[:900])
 
 
 def test_missing_objects(now):
@@ -937,8 +1000,8 @@ def main():
     now = int(time.time())
     at_once(*[lambda check=check: run(check) for check in [test_words, test_pages, test_names]], *[
         lambda check=check: run(check, now) for check in [
-            test_texts, test_faults, test_old, test_since, test_changes, test_tiles, test_filters, test_rows, test_sharing, test_descriptors, test_ends, test_requests, test_style,
-            test_missing_objects, test_browser]])
+            test_texts, test_faults, test_places, test_old, test_since, test_changes, test_tiles, test_filters, test_rows, test_sharing,
+            test_descriptors, test_ends, test_requests, test_style, test_missing_objects, test_browser]])
     # What takes the processors for itself.
     run(test_idle_browsers, int(time.time()))
     run(test_slow_browsers, int(time.time()))

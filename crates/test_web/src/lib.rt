@@ -1,32 +1,11 @@
-//! Tests of the web servers' crates through their public items: the happy path of each call, the faults
-//! of a page, and which requests are admitted.
+//! Tests of the web servers' crates through their public items: pages, a token as another program makes
+//! it, the texts of faults, and a form from its request to what its user sees. What the servers answer is
+//! tested over sockets, by `scenarios/statusweb_test` and `scenarios/statusdesk_test`.
 #![tactic(auto)]
 
 #[cfg(test)]
-mod answers;
-#[cfg(test)]
-mod escaping;
-#[cfg(test)]
-mod export;
-#[cfg(test)]
 mod forms;
 #[cfg(test)]
-mod forms_view;
+mod orders;
 #[cfg(test)]
-mod guard;
-#[cfg(test)]
-mod memory;
-#[cfg(test)]
-mod merging;
-#[cfg(test)]
-mod outbox;
-#[cfg(test)]
-mod places;
-#[cfg(test)]
-mod reading;
-#[cfg(test)]
-mod sending;
-#[cfg(test)]
-mod view;
-#[cfg(test)]
-mod watch;
+mod pages;
