@@ -2,6 +2,7 @@
 import json
 import os
 import re
+import shlex
 import socket
 import subprocess
 import sys
@@ -53,8 +54,9 @@ def play_results_and_acknowledgements(operator):
     operator.refuses(["unack", "web1", "HTTP"], "web1 HTTP: there is no acknowledgement to remove")
     operator.refuses(["result", "web2", "--state=UP", "--output=x"], "web2: the gateway has no such host")
     operator.refuses(["result", "web1", "SMTP", "--state=OK", "--output=x"], "web1 SMTP: the host has no such service")
-    operator.refuses(["result", "web1", "--state=OK", "--output=x"],
-                     "--state is OK, WARNING, CRITICAL or UNKNOWN; of a host UP, DOWN or UNREACHABLE", 2)
+    for words in (["web1", "--state=OK"], ["web1", "HTTP", "--state=UP"]):
+        operator.refuses(["result", *words, "--output=x"],
+                         "--state is OK, WARNING, CRITICAL or UNKNOWN; of a host UP, DOWN or UNREACHABLE", 2)
 
 
 def play_comments(operator):
@@ -64,6 +66,7 @@ def play_comments(operator):
     operator.refuses(["uncomment", "3"], "comment 3: there is no comment with this number")
     operator.refuses(["uncomment", "4", "99"], "comment 99: there is no comment with this number")
     operator.refuses(["uncomment", "four"], "an id is a number", 2)
+    operator.refuses(["comment", "web1", "", "-c", "x"], "web1 : the host has no such service")
     operator.shows(["uncomment", "4"], "deleted: comment 4")
     operator.shows(["comment", "web1", "-c", "third"], "commented: web1, comment 5")
     operator.shows(["uncomment", "web1", "--all"], "comments deleted: web1")
@@ -87,8 +90,10 @@ def play_downtime(operator):
     operator.refuses(["downtime", "web1", "-c", "disk"], "downtime ends by one of --for and --until", 2)
     operator.refuses(["downtime", "web1", "-c", "disk", "--for=1h", f"--until={now + 9}"],
                      "downtime ends by one of --for and --until", 2)
-    operator.refuses(["downtime", "web1", "-c", "disk", "--for=2w"], "a span is a number with s, m, h or d, as 90m", 2)
+    for span in ("2w", "30", "h", "", "49711d"):
+        operator.refuses(["downtime", "web1", "-c", "disk", f"--for={span}"], "a span is a number with s, m, h or d, as 90m", 2)
     operator.refuses(["downtime", "web1", "-c", "disk", "--until=tomorrow"], "a time is in seconds since 1970", 2)
+    operator.refuses(["downtime", "web1", "-c", "disk", "--for=1h", "--trigger=x"], "an id is a number", 2)
     operator.refuses(["downtime", "web1", "HTTP", "-c", "disk", "--for=1h", "--services"],
                      "--services is of a host, and a service is named", 2)
     check("cancel 1 3", operator.run("cancel", "1", "3"), (0, "cancelled: downtime 1\ncancelled: downtime 3\n", ""))
@@ -168,9 +173,9 @@ def play_json(operator, program):
     check("an acknowledgement", read("ack", "web1", "HTTP", "-c", "x"),
           (0, {"status": 0, "outcome": "shown", "id": 13, "state": "CRITICAL",
                "message": "acknowledged: web1 HTTP (CRITICAL), comment 13"}))
-    check("a refusal", read("uncomment", "99"),
-          (1, {"status": 1, "outcome": "refused", "id": None, "state": None,
-               "message": "comment 99: there is no comment with this number"}))
+    check("a refusal", operator.run("uncomment", "99", "--json"),
+          (1, '{"status":1,"outcome":"refused","id":null,"state":null,'
+              '"message":"comment 99: there is no comment with this number"}\n', ""))
     check("no answer", read("comment", "web1", "-c", "a\nb"),
           (2, {"status": 2, "outcome": "no answer", "id": None, "state": None,
                "message": "web1: no line can hold the command"}))
@@ -179,6 +184,7 @@ def play_json(operator, program):
     time.sleep(0.5)
     operator.run("comment", "web1", "HTTP", "-c", "caf\u00e9")
     change = json.loads(watching.stdout.readline())
+    check("its members", list(change), ["moment", "change", "host", "service", "id", "before", "after", "author", "text"])
     check("a change as JSON", (change.pop("moment") > 1000000000, change),
           (True, {"change": "comment", "host": "web1", "service": "HTTP", "id": 14, "before": None, "after": None,
                   "author": "ann", "text": "caf\u00e9"}))
@@ -216,9 +222,9 @@ def play_configurations(program, daemon, folder):
           (2, "", "nscagatectl: an address is an IP address and a port\n"))
 
 
-def serve(answers):
-    """A port that answers each connection with this text, once it has sent something if `answers` says so."""
-    listener = socket.create_server(("127.0.0.1", 0))
+def serve(answers, received=None, host="127.0.0.1", family=socket.AF_INET):
+    """A port that answers each connection with this text, once it has sent a line if `answers` says so; that is kept."""
+    listener = socket.create_server((host, 0), family=family)
 
     def work():
         while True:
@@ -228,12 +234,69 @@ def serve(answers):
                 return
             with connection:
                 text, waits = answers
-                if waits:
-                    connection.recv(4096)
+                line = connection.makefile("rb").readline() if waits else b""
+                if received is not None:
+                    received.append(line.decode("latin-1"))
                 connection.sendall(text)
 
     threading.Thread(target=work, daemon=True).start()
-    return listener, f"127.0.0.1:{listener.getsockname()[1]}"
+    return listener, f"{host}:{listener.getsockname()[1]}"
+
+
+PAGE = ("status 1000\nobject;web1;;DOWN;900;fresh;-;1;down\nobject;web1;HTTP;CRITICAL;900;fresh;sticky;0;timeout\n"
+        "comment;3;web1;;downtime;0;900;bob;disk\ncomment;4;web1;HTTP;ack;0;900;bob;on it\n"
+        "downtime;7;web1;;fixed;0;900;4000000000;0;900;bob;disk\n")
+# Words, and the line that is sent for them; an hour later is `later`.
+SENT = (
+    ("ack web1 -c 'on it'", "ACKNOWLEDGE_HOST_PROBLEM;web1;1;1;0;ann;on it"),
+    ("ack '-con it' --sticky web1 --persistent HTTP --author bob", "ACKNOWLEDGE_SVC_PROBLEM;web1;HTTP;2;1;1;bob;on it"),
+    ("unack web1 HTTP", "REMOVE_SVC_ACKNOWLEDGEMENT;web1;HTTP"),
+    ("comment web1 --comment=seen --persistent", "ADD_HOST_COMMENT;web1;1;ann;seen"),
+    ("comment --comment 'a; b' web1 HTTP", "ADD_SVC_COMMENT;web1;HTTP;0;ann;a; b"),
+    ("uncomment 3", "DEL_HOST_COMMENT;3"), ("uncomment 4 3", "DEL_SVC_COMMENT;4"),
+    ("uncomment web1 --all", "DEL_ALL_HOST_COMMENTS;web1"), ("uncomment --all web1 HTTP", "DEL_ALL_SVC_COMMENTS;web1;HTTP"),
+    ("passive off web1 HTTP", "DISABLE_PASSIVE_SVC_CHECKS;web1;HTTP"), ("passive on web1", "ENABLE_PASSIVE_HOST_CHECKS;web1"),
+    ("result web1 --state DOWN --output 'no answer'", "PROCESS_HOST_CHECK_RESULT;web1;1;no answer"),
+    ("result web1 HTTP --state UNKNOWN --output ?", "PROCESS_SERVICE_CHECK_RESULT;web1;HTTP;3;?"),
+    ("downtime web1 HTTP -c disk --for 1h", "SCHEDULE_SVC_DOWNTIME;web1;HTTP;{now};{later};1;0;0;ann;disk"),
+    ("downtime web1 -c disk --from 2000 --until 5600 --flexible 15m --services",
+     "SCHEDULE_HOST_SVC_DOWNTIME;web1;2000;5600;0;0;900;ann;disk"),
+    ("downtime web1 -c disk --from 3000 --for 1d --trigger 7 --author bob",
+     "SCHEDULE_HOST_DOWNTIME;web1;3000;89400;1;7;0;bob;disk"),
+    ("downtime web1 -c disk --from 0 --for 49710d --flexible 30s", "SCHEDULE_HOST_DOWNTIME;web1;0;4294944000;0;0;30;ann;disk"),
+    ("downtime web1 -c disk --from 0 --for 090m", "SCHEDULE_HOST_DOWNTIME;web1;0;5400;1;0;0;ann;disk"),
+    ("cancel 7", "DEL_HOST_DOWNTIME;7"), ("shutdown", "SHUTDOWN_PROGRAM"),
+)
+
+
+def play_lines(program):
+    """The line that is sent for words, with the moment at which it is entered."""
+    received = []
+    (pages, pages_address), (operators, address) = serve((PAGE.encode("ascii"), False)), serve((b"full\n", True), received)
+    for words, line in SENT:
+        began = int(time.time())
+        status, output, errors = run(program, *shlex.split(words), "--pages", pages_address, "--operators", address)
+        check(f"the end of {words}", (status, output, errors.endswith(": the queue is full\n"), len(received)), (1, "", True, 1))
+        sent = re.match(r"\[(\d+)\] ", "".join(received))
+        now = int(sent[1]) if sent else 0
+        check(f"the moment of {words}", began <= now <= time.time(), True)
+        check(f"the line of {words}", received, [f"[{now}] {line.format(now=now, later=now + 3600)}\n"])
+        received.clear()
+    for listener in (pages, operators):
+        listener.close()
+
+
+def play_addresses(program):
+    """A port that is bound at each address of the machine is asked at its loopback."""
+    for address, loopback, family in (("0.0.0.0", "127.0.0.1", socket.AF_INET), ("[::]", "::1", socket.AF_INET6)):
+        try:
+            listener, _ = serve((PAGE.encode("ascii"), False), None, loopback, family)
+        except OSError:
+            print(f"{address} ... skipped: there is no {loopback}")
+            continue
+        pages = f"--pages={address}:{listener.getsockname()[1]}"
+        check(f"a port at {address}", run(program, "status", pages, "--operators=127.0.0.1:1"), (0, PAGE, ""))
+        listener.close()
 
 
 def play_gateways_that_fail(program, daemon):
@@ -243,19 +306,33 @@ def play_gateways_that_fail(program, daemon):
           (3, "", "nscagatectl: no status page: the gateway accepts no connection\n"))
     check("nobody at the operators", run(program, *words, pages, "--operators=127.0.0.1:1"),
           (3, "", "nscagatectl: web1: the command can't be written\n"))
-    for text, line in ((b"", "the connection was closed before an answer"), (b"hello\n", "the answer is none of a gateway"),
-                       (b"x" * 200, "the answer is none of a gateway")):
+    closed, none = "the connection was closed before an answer", "the answer is none of a gateway"
+    for text, line in ((b"", closed), (b"queued 1", closed), (b"hello\n", none), (b"x" * 200, none), (b"\n", none),
+                       (b"Queued 1\n", none), (b"Stale\n", none), (b"queued 01\n", none),
+                       (b"queued 18446744073709551616\n", none), (b"bad BadNumber 4294967296\n", none)):
         listener, address = serve((text, True))
-        check(f"an answer {text[:6]}", run(program, *words, pages, f"--operators={address}"),
+        check(f"an answer {text[:20]}", run(program, *words, pages, f"--operators={address}"),
               (3, "", f"nscagatectl: web1: {line}\n"))
         listener.close()
+    faults = (b"TooLong", b"BadByte", b"NoTime", b"UnknownCommand", b"ExtraArgument", b"MissingArgument 2", b"EmptyName 4294967295",
+              b"BadNumber 10")
     for text, line in ((b"full\n", "the queue is full"), (b"spent\n", "the operators' quota is used up"),
-                       (b"closing\n", "the gateway is closing"), (b"bad BadByte\n", "the gateway can't read the line"),
-                       (b"queued 7\n", "queued, and not shown in time")):
+                       (b"closing\n", "the gateway is closing"), (b"queued 7\n", "queued, and not shown in time"),
+                       *((b"bad " + fault + b"\n", "the gateway can't read the line") for fault in faults)):
         listener, address = serve((text, True))
         check(f"the answer {text}", run(program, *words, pages, f"--operators={address}"),
               (1, "", f"nscagatectl: web1: {line}\n"))
         listener.close()
+    for text, asked, outcome in ((b"full\n", words, (1, "not queued")), (b"queued 7\n", words, (1, "not shown")),
+                                 (b"queued 7\n", ["passive", "on", "web1"], (0, "unseen"))):
+        listener, address = serve((text, True))
+        found = json.loads(run(program, *asked, "--json", pages, f"--operators={address}")[1])
+        check(f"{outcome[1]} as JSON", (found["status"], found["outcome"]), outcome)
+        listener.close()
+    listener, address = serve((b"queued 18446744073709551615\n", True))
+    check("the last number", run(program, "passive", "on", "web1", pages, f"--operators={address}"),
+          (0, "passive checks enabled: web1, queued as 18446744073709551615; no page shows it\n", ""))
+    listener.close()
     silent = socket.create_server(("127.0.0.1", 0))
     check("no answer in time", run(program, *words, pages, f"--operators=127.0.0.1:{silent.getsockname()[1]}"),
           (3, "", "nscagatectl: web1: no answer came in time\n"))
@@ -310,6 +387,11 @@ def play_checks(operator, program, daemon, folder):
         check(f"its figures {text}", output.split(" | ")[1:], ["'a problems'=0 'a unhandled'=0 'a stale'=0\n"])
         check(f"a greater age {text}", check_gateways(program, "a=" + address, "--age", "100")[0], found[0] % 2)
         listener.close()
+    listener, address = serve((b"status %d\nobject;web1;;UP;900;fresh;-;0;up\nobject;web1;HTTP;CRITICAL;900;fresh;-;0;timeout\n"
+                               b"object;web1;SSH;OK;900;stale;-;0;ok\n" % now, False))
+    check("each figure", check_gateways(program, "a=" + address),
+          (0, "NSCAGATE OK - a: 3 objects, 1 problems, 1 unhandled, 1 stale | 'a problems'=1 'a unhandled'=1 'a stale'=1\n", ""))
+    listener.close()
     listener, mail = serve((b"220 mail\r\n", False))
     check("one of three is no gateway", check_gateways(program, "a=" + pages, "b=" + mail, "c=" + pages),
           (3, f"NSCAGATE UNKNOWN - a: {COUNTS}; b: no status page came from {mail}; c: {COUNTS} | "
@@ -347,6 +429,7 @@ def play_tests_of_configurations(program, folder):
             (hosts, None), ("", None),
             ("# a\n" + hosts + '[[host]]\nname = "db1"\nfreshnes = 3\n', "line 10: UnknownKey freshnes: did you mean freshness"),
             ("colour = 3\n" + hosts, "line 1: UnknownKey colour"),
+            ("capcty = 3\n", "line 1: UnknownKey capcty: did you mean capacity"),
             ("\nlimit = 0\nagents = \"127.0.0.1:5667\"\n" + hosts, "line 2: BadValue limit"),
             (hosts + '[[host]]\nfreshness = 3\n[[host]]\nname = "x"\n', "line 7: MissingName"),
             (hosts + '[[host.service]]\nname = "HTTP"\n', "line 8: Object 4 DuplicateService: web1 HTTP"),
@@ -571,6 +654,10 @@ def play_keeping(program, daemon_program, folder):
           (0, "stopped: all that was queued is kept\n", ""))
     check("its log page is kept", os.path.exists(page + ".log"), True)
     daemon.process.wait()
+    written = os.path.getmtime(page + ".log")
+    os.utime(page, (written + 1, written + 1))
+    check("a page that is newer than its log", ctl("restore", page, "--dry-run")[2], BY_PAGE)
+    os.utime(page, (written - 1, written - 1))
     daemon.begin()
     check("a log is restored", ctl("restore", page), (0, BY_LOG + SHOWN_AGAIN, ""))
     check("its setting is there", ctl("result", "web1", "--state=UP", "--output=x", "--wait=1"),
@@ -580,6 +667,18 @@ def play_keeping(program, daemon_program, folder):
     check("nothing to stop", ctl("stop", page, "--wait=1", "--operators=127.0.0.1:1"),
           (3, "", "nscagatectl: SHUTDOWN_PROGRAM was not answered by closing\n"))
     daemon.kill()
+    daemon.begin()
+    play_one_missing_row(ctl, page)
+    daemon.kill()
+
+
+def play_one_missing_row(ctl, page):
+    """The comment of an acknowledgement that is over is restored as a user's: its row is the one that is named."""
+    row = f"comment;1;web1;;ack;0;{int(time.time())};ann;over\n"
+    with open(page, "w", encoding="ascii") as file:
+        file.write(f"status {int(time.time())}\nobject;web1;;PENDING;-;fresh;-;0;\n{row}")
+    check("one row isn't shown again", ctl("restore", page), (1, "", f"{BY_PAGE}nscagatectl: not to be shown again: {row}"))
+    check("its comment is there", re.search(r"^comment;\d+;web1;;user;0;\d+;ann;over$", ctl("status")[1], re.M) is not None, True)
 
 
 def play_faulty_files(ctl, page):
@@ -620,6 +719,8 @@ def main():
         play_json(operator, program)
         play_users(operator, daemon, program)
         play_configurations(program, daemon, folder)
+        play_lines(program)
+        play_addresses(program)
         play_gateways_that_fail(program, daemon)
         play_checks(operator, program, daemon, folder)
         play_a_full_output(operator)

@@ -1,23 +1,27 @@
-use gate_grammar::Command;
+use gate_grammar::{Command, read_line};
 use gate_model::{Body, Moment, Outcome, Text};
-use operator_commands::{Object, Remark, Request};
-use operator_effects::{
-    Effect, Ending, Next, Pages, commands_for, ending_of, first_refusal, plain_request,
-    push_message, watch,
-};
-use operator_lines::{AskFault, Reply};
-use status_reading::{StatusPage, read_status_page};
+use operator_effects::{Next, Pages, ending_of, first_refusal, push_message, watch};
+use operator_lines::Reply;
+use status_reading::read_status_page;
 use std::alloc::Global;
-use std::test::*;
 
-const BEFORE: &str = "status 1000\nobject;web1;;UP;900;fresh;-;0;\n\
+static LINE: &str = "[1000] ACKNOWLEDGE_SVC_PROBLEM;web1;HTTP;2;1;0;ann;on it";
+
+static BEFORE: &str = "status 1000\nobject;web1;;UP;900;fresh;-;0;\n\
     object;web1;HTTP;CRITICAL;900;fresh;-;0;timeout\ncomment;3;web1;HTTP;user;0;900;ann;seen\n";
 
-const AFTER: &str = "status 1001\nobject;web1;;UP;900;fresh;-;0;\n\
+// Bob has acknowledged it, and ann has only written a comment.
+static COMMENTED: &str = "status 1001\nobject;web1;;UP;900;fresh;-;0;\n\
     object;web1;HTTP;CRITICAL;900;fresh;sticky;0;timeout\n\
-    comment;3;web1;HTTP;user;0;900;ann;seen\ncomment;4;web1;HTTP;ack;0;1001;ann;on it\n";
+    comment;3;web1;HTTP;user;0;900;ann;seen\ncomment;4;web1;HTTP;user;0;1001;ann;on it\n\
+    comment;5;web1;HTTP;ack;0;1001;bob;mine\n";
 
-/// The pages of these texts.
+static AFTER: &str = "status 1002\nobject;web1;;UP;900;fresh;-;0;\n\
+    object;web1;HTTP;CRITICAL;900;fresh;sticky;0;timeout\n\
+    comment;3;web1;HTTP;user;0;900;ann;seen\ncomment;5;web1;HTTP;ack;0;1001;bob;mine\n\
+    comment;6;web1;HTTP;ack;0;1002;ann;on it\n";
+
+/// The pages of these texts, one after another.
 #[derive(Drop)]
 struct Texts<'a> {
     texts: &'a [&'a str],
@@ -37,105 +41,50 @@ impl<'a> Pages for Texts<'a> {
     }
 }
 
-fn text(alloc: Global, text: &str) -> Option<Text> {
-    Text::copied(alloc, text.as_bytes()).ok()
-}
-
-fn acknowledgement(alloc: Global) -> Option<Request> {
-    Some(Request::Ack {
-        object: Object {
-            host: text(alloc, "web1")?,
-            service: Some(text(alloc, "HTTP")?),
-        },
-        remark: Remark {
-            text: text(alloc, "on it")?,
-            author: None,
-        },
-        sticky: true,
-        persistent: false,
-    })
-}
-
-fn command(alloc: Global, page: &StatusPage<'_>) -> Option<Body> {
-    let request = acknowledgement(alloc)?;
-    let user = text(alloc, "ann")?;
-    commands_for(alloc, page, Moment(1000), user, request)
-        .ok()?
-        .pop()
-}
-
-// The line that reports an acknowledgement that is queued, where these are the pages after it.
-fn line(alloc: Global, pages: &[&str]) -> Option<Vec<u8>> {
-    let before = read_status_page(alloc, BEFORE.as_bytes()).ok()?;
-    let body = command(alloc, &before)?;
-    let seen = watch(
-        alloc,
-        &before,
-        &body,
-        &mut Texts {
-            texts: pages,
-            next: 0,
-        },
-    )
-    .ok()?;
-    let mut line = Vec::new(alloc);
-    push_message(&mut line, &body, ending_of(&body, Reply::Queued(7), seen)).ok()?;
-    Some(line)
-}
-
-fn reports(alloc: Global, pages: &[&str], text: &str) -> bool {
-    match line(alloc, pages) {
-        Some(line) => line.as_slice() == text.as_bytes(),
-        None => false,
-    }
-}
-
 #[test]
 fn a_command_is_watched_until_it_is_shown(rt: HostRuntime) {
-    let shown = "acknowledged: web1 HTTP (CRITICAL), sticky, comment 4";
-    assert!(rt; reports(rt.alloc(), &[BEFORE, "cut", AFTER], shown));
-    assert!(rt;
-        reports(
-            rt.alloc(),
-            &[BEFORE],
-            "web1 HTTP: queued, and not shown in time"
-        )
-    );
+    let alloc = rt.alloc();
+    let before = read_status_page(alloc, BEFORE.as_bytes()).expect(&rt, "a page");
+    let command = read_line(alloc, LINE.as_bytes()).expect(&rt, "a command");
+    let body = &command.body;
+    let texts = [BEFORE, "cut", COMMENTED, AFTER];
+    let mut pages = Texts {
+        texts: &texts,
+        next: 0,
+    };
+    let seen = watch(alloc, &before, body, &mut pages).expect(&rt, "memory");
+    let shown = ending_of(body, Reply::Queued(7), seen);
+    let mut line = Vec::new(alloc);
+    push_message(&mut line, body, shown).expect(&rt, "memory");
+    let text = "acknowledged: web1 HTTP (CRITICAL), sticky, comment 6";
+    assert!(rt; line.as_slice() == text.as_bytes());
+    assert_eq!(rt; shown.status(), 0);
+    let texts = [BEFORE];
+    let mut pages = Texts {
+        texts: &texts,
+        next: 0,
+    };
+    let seen = watch(alloc, &before, body, &mut pages).expect(&rt, "memory");
+    assert_eq!(rt; ending_of(body, Reply::Queued(8), seen).status(), 1);
+    drop(command);
+    drop(before);
 }
 
-// Whether an acknowledgement of web1 HTTP is refused by this page, with the host's name escaped.
-fn is_refused(alloc: Global, page: &str) -> Option<bool> {
-    let page = read_status_page(alloc, page.as_bytes()).ok()?;
-    let request = Request::Unack {
-        object: Object {
-            host: text(alloc, "web\\x31")?,
-            service: Some(text(alloc, "HTTP")?),
+#[test]
+fn a_service_without_a_name_is_foreseen_to_be_refused(rt: HostRuntime) {
+    let alloc = rt.alloc();
+    let before = read_status_page(alloc, BEFORE.as_bytes()).expect(&rt, "a page");
+    let acknowledged = read_line(alloc, LINE.as_bytes()).expect(&rt, "a command");
+    let nameless = Command {
+        entered: Moment(1000),
+        body: Body::RemoveAck {
+            host: Text::copied(alloc, b"web1").expect(&rt, "memory"),
+            service: Some(Text::new(Vec::new(alloc))),
         },
     };
-    let request = plain_request(alloc, request).ok()?;
-    let user = text(alloc, "ann")?;
-    let mut bodies = commands_for(alloc, &page, Moment(1000), user, request).ok()?;
-    let commands = [Command {
-        entered: Moment(1000),
-        body: bodies.pop()?,
-    }];
-    let refusal = first_refusal(alloc, &page, &commands).ok()?;
-    Some(matches!(refusal, Some((_, Outcome::NotAcknowledged))))
-}
-
-#[test]
-fn a_page_foresees_a_refusal(rt: HostRuntime) {
-    assert!(rt; is_refused(rt.alloc(), BEFORE) == Some(true));
-    assert!(rt; is_refused(rt.alloc(), AFTER) == Some(false));
-}
-
-#[test]
-fn each_ending_has_its_status(rt: HostRuntime) {
-    let shown = Ending::Shown(Effect {
-        state: None,
-        id: None,
-    });
-    assert_eq!(rt; shown.status(), 0);
-    assert_eq!(rt; Ending::NotShown.status(), 1);
-    assert_eq!(rt; Ending::NoAnswer(AskFault::Ended).status(), 3);
+    let commands = [acknowledged, nameless];
+    let refusal = first_refusal(alloc, &before, &commands).expect(&rt, "memory");
+    assert!(rt; matches!(refusal, Some((_, Outcome::NoSuchService))));
+    drop(commands);
+    drop(before);
 }

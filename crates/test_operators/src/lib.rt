@@ -1,26 +1,14 @@
-//! Tests of nscagatectl through the public items of its crates: the happy path of each call, also over
-//! files, ports and outputs.
+//! Tests of nscagatectl through the public items of its crates: what no script can show, and wrong
+//! answers that a script would show late.
 #![tactic(auto)]
 
 #[cfg(test)]
-mod asking;
-#[cfg(test)]
 mod effects;
-#[cfg(test)]
-mod files;
-#[cfg(test)]
-mod keeping;
 #[cfg(test)]
 mod lines;
 #[cfg(test)]
 mod logs;
 #[cfg(test)]
-mod reports;
-#[cfg(test)]
-mod restore_word;
-#[cfg(test)]
 mod restoring;
 #[cfg(test)]
-mod stopping;
-#[cfg(test)]
-mod words;
+mod showing;

@@ -1,181 +1,150 @@
-use gate_applier::Applier;
-use gate_foresight::apply_all;
-use gate_grammar::{Command, read_line, writable, write_line};
-use gate_model::{Body, Moment, Numbered, ObjectLine, ObjectTable, Record, Text};
-use restore_plan::{Fate, Plan, commands_of, fates_on, page_of, plan_of, plan_of_page, rehearse};
+use gate_grammar::read_line;
+use gate_model::Moment;
+use operator_lines::sent_lines;
+use operator_ports::entered_at;
+use operator_restore::{
+    compare, is_pending, is_whole, kept_gateway, kept_table, log_part, look_ahead_by_page,
+};
+use page_return::find_missing;
+use restore_plan::{commands_of, page_of, plan_of, plan_of_page, rehearse};
 use status_reading::read_status_page;
-use std::alloc::Global;
-use std::test::*;
 
-// The kept log, each line applied at the moment with which it begins.
-const KEPT: [&str; 8] = [
-    "[1000] PROCESS_HOST_CHECK_RESULT;web1;0;up",
-    "[1001] PROCESS_HOST_CHECK_RESULT;web1;1;down",
-    "[1002] ADD_HOST_COMMENT;web1;0;ann;seen",
-    "[1003] ACKNOWLEDGE_HOST_PROBLEM;web1;2;0;0;ann;on it",
-    "[1004] SCHEDULE_HOST_DOWNTIME;web1;1000;1100;0;0;50;ann;over",
-    "[1005] SCHEDULE_HOST_DOWNTIME;web1;1500;2500;1;0;0;ann;first",
-    "[1006] SCHEDULE_HOST_DOWNTIME;web1;1000;1050;0;2;100;ann;too late",
-    "[1007] SCHEDULE_HOST_DOWNTIME;web1;1600;2500;1;2;0;ann;second",
-];
+static FRESH: &str = "status 800\nobject;web1;;PENDING;-;fresh;-;0;\n";
 
-// What is sent of it at 1200: the third entry would be refused, and the trigger has a new id.
-const SENT: &str = "[1200] PROCESS_HOST_CHECK_RESULT;web1;1;down\n\
-    [1200] ADD_HOST_COMMENT;web1;0;ann;seen\n\
-    [1200] ACKNOWLEDGE_HOST_PROBLEM;web1;2;0;0;ann;on it\n\
-    [1200] SCHEDULE_HOST_DOWNTIME;web1;1500;2500;1;0;0;ann;first\n\
-    [1200] SCHEDULE_HOST_DOWNTIME;web1;1600;2500;1;1;0;ann;second\n";
+// What two runs printed, one after the other. By 1200 the first entry is over, and the third, which
+// waits for the second, can't begin any more.
+static PRINTED: &str = "agents 127.0.0.1:5667\nlog 1\n\
+    [100] 2:1 DEL_HOST_COMMENT;9 -> NoSuchComment\n\
+    agents 127.0.0.1:5667\nlog 10\n\
+    [1000] 1:1 PROCESS_HOST_CHECK_RESULT;web1;0;up -> Accepted\n\
+    [1001] 1:2 PROCESS_HOST_CHECK_RESULT;web1;1;do\\x07wn -> Accepted\n\
+    [1002] 2:1 ADD_HOST_COMMENT;web1;0;ann;seen -> Accepted\n\
+    [1002] 2:2 DEL_HOST_COMMENT;9 -> NoSuchComment\n\
+    [1003] 2:3 ACKNOWLEDGE_HOST_PROBLEM;web1;2;0;0;ann;on it -> Accepted\n\
+    [1004] 2:4 SCHEDULE_HOST_DOWNTIME;web1;1000;1100;0;0;50;ann;over -> Accepted\n\
+    [1005] 2:5 SCHEDULE_HOST_DOWNTIME;web1;1500;2500;1;0;0;ann;first -> Accepted\n\
+    [1006] 2:6 SCHEDULE_HOST_DOWNTIME;web1;1000;1050;0;2;100;ann;too late -> Accepted\n\
+    [1007] 2:7 SCHEDULE_HOST_DOWNTIME;web1;1600;2500;1;2;0;ann;second -> Accepted\n\
+    [1008] 2:8 SCHEDULE_HOST_DOWNTIME;web1;1700;2500;1;4;0;ann;third -> Accepted\n";
 
 const NOW: Moment = Moment(1200);
 
-fn table(alloc: Global) -> Option<ObjectTable> {
-    let mut lines = Vec::new(alloc);
-    lines
-        .push(ObjectLine {
-            host: Text::copied(alloc, b"web1").ok()?,
-            service: None,
-            threshold: 0,
-        })
-        .ok()?;
-    ObjectTable::build(alloc, lines).ok()
-}
+// What the gateway of that log shows then.
+static KEPT: &str = "status 1200\nobject;web1;;DOWN;1001;fresh;sticky;0;do\\x07wn\n\
+    comment;1;web1;;user;0;1002;ann;seen\ncomment;2;web1;;ack;0;1003;ann;on it\n\
+    comment;4;web1;;downtime;0;1005;ann;first\ncomment;5;web1;;downtime;0;1006;ann;too late\n\
+    comment;6;web1;;downtime;0;1007;ann;second\ncomment;7;web1;;downtime;0;1008;ann;third\n\
+    downtime;2;web1;;fixed;0;1500;2500;0;-;ann;first\n\
+    downtime;3;web1;;flexible;2;1000;1050;100;-;ann;too late\n\
+    downtime;4;web1;;fixed;2;1600;2500;0;-;ann;second\n\
+    downtime;5;web1;;fixed;4;1700;2500;0;-;ann;third\n";
 
-fn record(alloc: Global, line: &str, number: u64) -> Option<Record> {
-    let Command { entered, body } = read_line(alloc, line.as_bytes()).ok()?;
-    Some(Record {
-        moment: entered,
-        item: Numbered {
-            client: 1,
-            number,
-            body,
-        },
-    })
-}
+// What is sent of it: each trigger has its new id, and what is left out has none.
+static SENT: &str = "[1200] PROCESS_HOST_CHECK_RESULT;web1;1;do\x07wn\n\
+    [1200] ADD_HOST_COMMENT;web1;0;ann;seen\n\
+    [1200] ACKNOWLEDGE_HOST_PROBLEM;web1;2;0;0;ann;on it\n\
+    [1200] SCHEDULE_HOST_DOWNTIME;web1;1500;2500;1;0;0;ann;first\n\
+    [1200] SCHEDULE_HOST_DOWNTIME;web1;1600;2500;1;1;0;ann;second\n\
+    [1200] SCHEDULE_HOST_DOWNTIME;web1;1700;2500;1;2;0;ann;third\n";
 
-fn kept(alloc: Global) -> Option<Applier> {
-    let mut records = Vec::new(alloc);
-    for line in KEPT {
-        let number = records.len() as u64 + 1;
-        records.push(record(alloc, line, number)?).ok()?;
-    }
-    apply_all(alloc, table(alloc)?, Moment(0), records, NOW).ok()
-}
+// What a fresh gateway shows once it has applied that.
+static AGAIN: &str = "status 1200\nobject;web1;;DOWN;1200;fresh;sticky;0;do\\x07wn\n\
+    comment;1;web1;;user;0;1200;ann;seen\ncomment;2;web1;;ack;0;1200;ann;on it\n\
+    comment;3;web1;;downtime;0;1200;ann;first\ncomment;4;web1;;downtime;0;1200;ann;second\n\
+    comment;5;web1;;downtime;0;1200;ann;third\n\
+    downtime;1;web1;;fixed;0;1500;2500;0;-;ann;first\n\
+    downtime;2;web1;;fixed;1;1600;2500;0;-;ann;second\n\
+    downtime;3;web1;;fixed;2;1700;2500;0;-;ann;third\n";
 
-// The plan of a kept gateway.
-fn plan(alloc: Global, kept: &Applier) -> Option<Plan> {
-    let fresh = table(alloc)?;
-    plan_of(alloc, &fresh, kept, NOW).ok()
-}
+static RESULT: &str = "[1200] PROCESS_HOST_CHECK_RESULT;web1;1;down";
 
-fn commands(alloc: Global) -> Option<Vec<Body>> {
-    let kept = kept(alloc)?;
-    let plan = plan(alloc, &kept)?;
-    commands_of(alloc, plan).ok()
-}
+// A gateway that has a newer result, and no command yet.
+static NEWER: &str = "status 1300\nobject;web1;;UP;1250;fresh;-;0;up\n";
 
-fn line(alloc: Global, body: Body) -> Option<Vec<u8>> {
-    let command = Command { entered: NOW, body };
-    if !writable(&command) {
-        return None;
-    }
-    write_line(alloc, &command).ok()
-}
-
-fn are_lines(alloc: Global, bodies: Vec<Body>, text: &str) -> Option<bool> {
-    let mut lines = Vec::new(alloc);
-    for body in bodies {
-        let line = line(alloc, body)?;
-        lines.extend_from_slice(line.as_slice()).ok()?;
-        lines.push(b'\n').ok()?;
-    }
-    Some(lines.as_slice() == text.as_bytes())
-}
-
-fn log_is_restored(alloc: Global) -> Option<bool> {
-    are_lines(alloc, commands(alloc)?, SENT)
-}
+// What is named before the kept page is restored at 1300.
+static NAMED: &str = "nscagatectl: restoring from a page that is 100 seconds old, without a log: \
+    passive checks that were disabled are enabled\n\
+    nscagatectl: not sent, since its window is over: \
+    SCHEDULE_HOST_DOWNTIME;web1;1000;1050;0;2;100;ann;too late\n\
+    nscagatectl: not to be shown again: comment;5;web1;;downtime;0;1006;ann;too late\n\
+    nscagatectl: not to be shown again: downtime;3;web1;;flexible;2;1000;1050;100;-;ann;too late\n";
 
 #[test]
 fn what_stands_of_a_log_is_sent(rt: HostRuntime) {
-    assert!(rt; log_is_restored(rt.alloc()) == Some(true));
-}
-
-// The page that a fresh gateway shows then.
-fn foreseen(alloc: Global) -> Option<Vec<u8>> {
-    let commands = commands(alloc)?;
-    let fresh = table(alloc)?;
-    rehearse(alloc, fresh, NOW, commands).ok()
-}
-
-// The plan of a kept page.
-fn page_plan(alloc: Global, text: &[u8]) -> Option<Plan> {
-    let fresh = table(alloc)?;
-    let page = read_status_page(alloc, text).ok()?;
-    plan_of_page(alloc, &fresh, &page, NOW, NOW).ok()
-}
-
-fn is_sent(alloc: Global, plan: Plan, text: &str) -> Option<bool> {
-    let bodies = commands_of(alloc, plan).ok()?;
-    are_lines(alloc, bodies, text)
-}
-
-fn page_is_restored(alloc: Global) -> Option<bool> {
-    let text = foreseen(alloc)?;
-    let plan = page_plan(alloc, text.as_slice())?;
-    is_sent(alloc, plan, SENT)
+    let alloc = rt.alloc();
+    let fresh = read_status_page(alloc, FRESH.as_bytes()).expect(&rt, "a page");
+    let log = log_part(PRINTED.as_bytes()).expect(&rt, "a log page");
+    assert_eq!(rt; is_whole(alloc, log).ok(), Some(true));
+    let kept = kept_gateway(alloc, &fresh, log, NOW).expect(&rt, "the log of a gateway");
+    let shown = page_of(alloc, &kept).expect(&rt, "memory");
+    assert!(rt; shown.as_slice() == KEPT.as_bytes());
+    let table = kept_table(alloc, &fresh).expect(&rt, "the objects of a gateway");
+    let plan = plan_of(alloc, &table, &kept, NOW).expect(&rt, "memory");
+    let commands = commands_of(alloc, plan).expect(&rt, "memory");
+    let again = rehearse(alloc, table, NOW, commands).expect(&rt, "commands that are accepted");
+    assert!(rt; again.as_slice() == AGAIN.as_bytes());
+    drop(kept);
+    drop(fresh);
 }
 
 #[test]
 fn what_a_page_shows_is_sent(rt: HostRuntime) {
-    assert!(rt; page_is_restored(rt.alloc()) == Some(true));
-}
-
-// What is sent of the acknowledgement where the host is up by now.
-const COMMENT: &str = "[1200] ADD_HOST_COMMENT;web1;0;ann;on it\n";
-
-const DOWN: &str = "status 1200\nobject;web1;;DOWN;1001;fresh;-;0;down\n";
-
-const UP: &str = "status 1200\nobject;web1;;UP;1100;fresh;-;0;up\n";
-
-fn acknowledgement(alloc: Global) -> Option<Vec<Body>> {
-    let record = record(alloc, KEPT[3], 1)?;
-    let mut sent = Vec::new(alloc);
-    sent.push(record.item.body).ok()?;
-    Some(sent)
-}
-
-fn changed(alloc: Global, sent: Vec<Body>) -> Option<Vec<Fate>> {
-    let fresh = table(alloc)?;
-    let down = read_status_page(alloc, DOWN.as_bytes()).ok()?;
-    let up = read_status_page(alloc, UP.as_bytes()).ok()?;
-    fates_on(alloc, &fresh, &down, &up, sent).ok()
-}
-
-fn is_lowered(alloc: Global) -> Option<bool> {
-    let sent = acknowledgement(alloc)?;
-    let others = changed(alloc, sent)?;
-    let results = Vec::new(alloc);
-    is_sent(alloc, Plan { results, others }, COMMENT)
+    let alloc = rt.alloc();
+    let kept = read_status_page(alloc, KEPT.as_bytes()).expect(&rt, "a page");
+    let table = kept_table(alloc, &kept).expect(&rt, "the objects of a gateway");
+    let plan = plan_of_page(alloc, &table, &kept, NOW, NOW).expect(&rt, "memory");
+    let bodies = commands_of(alloc, plan).expect(&rt, "memory");
+    let commands = entered_at(alloc, NOW, bodies).expect(&rt, "memory");
+    let lines = sent_lines(alloc, commands.as_slice()).expect(&rt, "commands with a line");
+    assert!(rt; lines.as_slice() == SENT.as_bytes());
+    drop(commands);
+    drop(table);
+    drop(kept);
 }
 
 #[test]
-fn another_problem_is_not_acknowledged(rt: HostRuntime) {
-    assert!(rt; is_lowered(rt.alloc()) == Some(true));
-}
-
-fn kept_page(alloc: Global) -> Option<Vec<u8>> {
-    let kept = kept(alloc)?;
-    page_of(alloc, &kept).ok()
-}
-
-// Whether the page of the kept gateway shows its downtime.
-fn is_shown(alloc: Global) -> Option<bool> {
-    let text = kept_page(alloc)?;
-    let page = read_status_page(alloc, text.as_slice()).ok()?;
-    Some(page.downtimes.len() == 3)
+fn a_page_is_restored_without_a_log(rt: HostRuntime) {
+    let alloc = rt.alloc();
+    let kept = read_status_page(alloc, KEPT.as_bytes()).expect(&rt, "a page");
+    let table = kept_table(alloc, &kept).expect(&rt, "the objects of a gateway");
+    let prospect = look_ahead_by_page(alloc, table, KEPT.as_bytes(), false, Moment(1300)).expect(
+        &rt,
+        "a page that is new",
+    );
+    assert!(rt; prospect.lines.as_slice() == NAMED.as_bytes());
+    assert_eq!(rt; prospect.named, 3);
+    drop(prospect);
+    drop(kept);
 }
 
 #[test]
-fn a_kept_gateway_has_a_page(rt: HostRuntime) {
-    assert!(rt; is_shown(rt.alloc()) == Some(true));
+fn a_newer_result_stays(rt: HostRuntime) {
+    let alloc = rt.alloc();
+    let fresh = read_status_page(alloc, FRESH.as_bytes()).expect(&rt, "a page");
+    let newer = read_status_page(alloc, NEWER.as_bytes()).expect(&rt, "a page");
+    let table = kept_table(alloc, &fresh).expect(&rt, "the objects of a gateway");
+    let result = read_line(alloc, RESULT.as_bytes()).expect(&rt, "a command");
+    assert!(rt; is_pending(&table, &fresh, &result.body));
+    assert!(rt; !is_pending(&table, &newer, &result.body));
+    drop(result);
+    drop(table);
+    drop(newer);
+    drop(fresh);
+}
+
+#[test]
+fn rows_are_missing_or_newer(rt: HostRuntime) {
+    let alloc = rt.alloc();
+    let kept = read_status_page(alloc, KEPT.as_bytes()).expect(&rt, "a page");
+    let again = read_status_page(alloc, AGAIN.as_bytes()).expect(&rt, "a page");
+    let foreseen = find_missing(alloc, &kept, &again).expect(&rt, "memory");
+    let found = compare(alloc, &kept, &foreseen, NEWER.as_bytes()).expect(&rt, "a page");
+    assert_eq!(rt; found.newer, 1);
+    assert!(rt; found.missing.objects.is_empty());
+    assert!(rt; found.missing.comments.as_slice() == [0, 1, 2, 4, 5].as_slice());
+    assert!(rt; found.missing.downtimes.as_slice() == [0, 2, 3].as_slice());
+    drop(found);
+    drop(foreseen);
+    drop(again);
+    drop(kept);
 }
