@@ -193,9 +193,9 @@ class Agents(threading.Thread):
             time.sleep(0.02)
 
 
-def play_agents(make, services=4000, workers=4):
+def play_agents(make, services=4000):
     """A restore beside agents whose results are newer than the kept ones."""
-    for turn in range(2):
+    for workers in (4, 16):
         unit = make(configuration(services, workers=workers))
         unit.start()
         for begin in range(0, services, 500):
@@ -217,7 +217,7 @@ def play_agents(make, services=4000, workers=4):
         wrong = [number for number in sent if page[f"s{number}"] != ("CRITICAL", "newer")]
         check("results that were sent", len(sent), services)
         check("newer results that show the kept OK", len(wrong), 0)
-        print(f"a restore beside agents, turn {turn}: {len(wrong)} of {len(sent)} newer results show the kept OK; the start took "
+        print(f"a restore beside agents of {workers} workers: {len(wrong)} of {len(sent)} newer results show the kept OK; the start took "
               f"{took:.1f} s: {unit.journal[-300:]!r}")
         unit.stop()
 

@@ -1,6 +1,8 @@
 //! The agents' port, held while results are restored: each of its workers serves a connection of
-//! this program, so that no agent's newer result comes between. A gateway drops a packet that names
-//! no host, and goes on with its connection; such packets keep it while nothing else is sent.
+//! this program, so that no agent's newer result comes between. All results go over one of them, which
+//! is let go first, once its worker has submitted them: while kept results are under way, no other
+//! worker serves an agent. A gateway drops a packet that names no host, and goes on with its
+//! connection; such packets keep it while nothing else is sent.
 
 use gate_model::{Body, Moment};
 use gate_packet::{Packet, SHORT_PACKET_SIZE, crc32, encode, encode_short, fits_short};
@@ -38,9 +40,9 @@ struct Held {
 /// Connections to the agents' port, one for each of its workers, which serve no other ones.
 #[derive(Drop)]
 pub struct Hold {
-    held: Vec<Held>,
-    // The connection over which the next result goes.
-    turn: usize,
+    // The one over which all results go.
+    sender: Held,
+    others: Vec<Held>,
 }
 
 // ---- packets
@@ -176,28 +178,26 @@ impl Held {
         }
     }
 
-    // Sends a result, if a packet can hold it.
-    fn send<R: Clock>(&mut self, rt: &R, alloc: Global, body: &Body) -> io::Result<()> {
-        let Some(moment) = self.greeted else {
-            return Err(io::Error::from(ErrorKind::NotConnected));
-        };
-        let Some(packet) = packet_of(alloc, moment, body) else {
-            return Ok(());
-        };
-        if fits_short(&packet) {
-            self.put(rt, &encode_short(&packet))
-        } else {
-            self.put(rt, &encode(&packet))
+    // Writes as many bytes as can be written now, and returns their number.
+    fn write_some(&self, bytes: &[u8]) -> io::Result<usize> {
+        self.stream.set_nonblocking(true)?;
+        let mut stream = &self.stream;
+        let written = stream.write(bytes);
+        self.stream.set_nonblocking(false)?;
+        match written {
+            Err(error) if error.kind() == ErrorKind::WouldBlock => Ok(0),
+            Err(error) if error.kind() == ErrorKind::Interrupted => Ok(0),
+            written => written,
         }
     }
 
-    // Lets go of the worker, and waits until it has submitted all that was sent.
-    fn release<R: Clock>(&self, rt: &R, alloc: Global) -> io::Result<()> {
-        self.stream.shutdown(Shutdown::Write)?;
-        let mut reader = Timed::new(rt, &self.stream, Instant::now(rt)?, SENT_WITHIN);
-        let mut rest = Vec::new(alloc);
-        reader.read_to_end(&mut rest)?;
-        Ok(())
+    // Whether the worker has submitted all that was sent, and let go of this connection.
+    fn has_ended(&self) -> io::Result<bool> {
+        match self.readable()? {
+            None => Ok(false),
+            Some(0) => Ok(true),
+            Some(_) => Err(io::Error::from(ErrorKind::InvalidData)),
+        }
     }
 }
 
@@ -207,14 +207,25 @@ fn connect_all<R: Net<Listener = TcpListener, Stream = TcpStream> + Clock>(
     rt: &R,
     alloc: Global,
     address: SocketAddr,
-    workers: u32,
+    count: u32,
     spare: u32,
 ) -> io::Result<Vec<Held>> {
     let mut held = Vec::new(alloc);
-    for _ in 0..workers {
+    for _ in 0..count {
         held.push(Held::connect(rt, address, spare)?)?;
     }
     Ok(held)
+}
+
+fn keep_all<R: Clock>(rt: &R, held: &mut [Held]) -> io::Result<()> {
+    for one in held.iter_mut() {
+        one.keep(rt)?;
+    }
+    Ok(())
+}
+
+fn are_held(held: &[Held]) -> bool {
+    held.iter().all(|one| one.is_held())
 }
 
 impl Hold {
@@ -229,17 +240,22 @@ impl Hold {
         spare: u32,
     ) -> io::Result<Hold> {
         let begun = Instant::now(rt)?;
-        let held = connect_all(rt, alloc, address, workers, spare)?;
-        let mut hold = Hold { held, turn: 0 };
+        let sender = Held::connect(rt, address, spare)?;
+        let others = connect_all(rt, alloc, address, workers.saturating_sub(1), spare)?;
+        let mut hold = Hold { sender, others };
         hold.await_greetings(rt, begun)?;
         Ok(hold)
+    }
+
+    fn is_greeted(&self) -> bool {
+        self.sender.greeted.is_some() && self.others.iter().all(|one| one.greeted.is_some())
     }
 
     // Waits until each connection is greeted, or its time is over.
     fn await_greetings<R: Clock>(&mut self, rt: &R, begun: Instant) -> io::Result<()> {
         for _ in 0..u64::MAX {
             self.keep(rt)?;
-            if self.held.iter().all(|one| one.greeted.is_some()) {
+            if self.is_greeted() {
                 return Ok(());
             }
             if Duration::from_secs(GREETED_WITHIN) <= begun.elapsed(rt)? {
@@ -253,39 +269,73 @@ impl Hold {
     /// Goes on with each connection: none is ended for its silence where this is called again within
     /// half a second. It fails where one was ended.
     pub fn keep<R: Clock>(&mut self, rt: &R) -> io::Result<()> {
-        for one in self.held.iter_mut() {
-            one.keep(rt)?;
-        }
-        Ok(())
+        self.sender.keep(rt)?;
+        keep_all(rt, self.others.as_mut_slice())
     }
 
     /// Whether each worker still serves its connection.
     pub fn is_held(&self) -> bool {
-        self.held.iter().all(|one| one.is_held())
+        self.sender.is_held() && are_held(self.others.as_slice())
     }
 
-    /// Sends a result, if a packet can hold it, over each connection in turn.
+    // Writes these bytes to the worker that takes results, and keeps the others meanwhile.
+    fn put<R: Clock>(&mut self, rt: &R, bytes: &[u8]) -> io::Result<()> {
+        let begun = Instant::now(rt)?;
+        let mut left = bytes;
+        for _ in 0..u64::MAX {
+            let count = self.sender.write_some(left)?;
+            left = left.get(count..).unwrap_or(&[]);
+            if left.is_empty() {
+                self.sender.used = Instant::now(rt)?;
+                return Ok(());
+            }
+            keep_all(rt, self.others.as_mut_slice())?;
+            if Duration::from_secs(SENT_WITHIN) <= begun.elapsed(rt)? {
+                break;
+            }
+            thread::sleep(rt, Duration::from_millis(LOOK));
+        }
+        Err(io::Error::from(ErrorKind::TimedOut))
+    }
+
+    /// Sends a result, if a packet can hold it.
     pub fn send<R: Clock>(&mut self, rt: &R, alloc: Global, body: &Body) -> io::Result<()> {
         self.keep(rt)?;
-        let Some(one) = self.held.get_mut(self.turn) else {
+        let Some(moment) = self.sender.greeted else {
             return Err(io::Error::from(ErrorKind::NotConnected));
         };
-        one.send(rt, alloc, body)?;
-        self.turn = if self.turn < self.held.len().saturating_sub(1) {
-            self.turn.saturating_add(1)
-        } else {
-            0
+        let Some(packet) = packet_of(alloc, moment, body) else {
+            return Ok(());
         };
-        Ok(())
+        if fits_short(&packet) {
+            let bytes = encode_short(&packet);
+            drop(packet);
+            self.put(rt, &bytes)
+        } else {
+            let bytes = encode(&packet);
+            drop(packet);
+            self.put(rt, &bytes)
+        }
     }
 
-    /// Lets go of the workers, and waits until they have submitted all that was sent. Returns whether
-    /// each served its connection until then.
-    pub fn release<R: Clock>(&self, rt: &R, alloc: Global) -> io::Result<bool> {
-        let was_held = self.is_held();
-        for one in self.held.iter() {
-            one.release(rt, alloc)?;
+    /// Lets go of the worker that was sent the results, and waits until it has submitted them. Returns
+    /// whether each worker served its connection until then; the others are let go with this value.
+    pub fn release<R: Clock>(&mut self, rt: &R) -> io::Result<bool> {
+        if !self.is_held() {
+            return Ok(false);
         }
-        Ok(was_held)
+        let begun = Instant::now(rt)?;
+        self.sender.stream.shutdown(Shutdown::Write)?;
+        for _ in 0..u64::MAX {
+            keep_all(rt, self.others.as_mut_slice())?;
+            if self.sender.has_ended()? {
+                return Ok(are_held(self.others.as_slice()));
+            }
+            if Duration::from_secs(SENT_WITHIN) <= begun.elapsed(rt)? {
+                break;
+            }
+            thread::sleep(rt, Duration::from_millis(LOOK));
+        }
+        Err(io::Error::from(ErrorKind::TimedOut))
     }
 }

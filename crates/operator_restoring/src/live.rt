@@ -49,13 +49,13 @@ fn spare_of(target: &Target<'_>) -> u32 {
     (target.items / 2).min(MOST_SPARE)
 }
 
-// The number of results or commands that are sent over so many connections at once.
-fn part_size(target: &Target<'_>, connections: u32) -> usize
+// The number of results or commands that are sent over one connection.
+fn part_size(target: &Target<'_>) -> usize
     ensures { 1 ≤ result }
 {
     let most = target.items.min(MOST_ITEMS);
-    let each = most.saturating_sub(spare_of(target)) as usize;
-    each.saturating_mul(connections as usize).max(1)
+    let size = most.saturating_sub(spare_of(target)) as usize;
+    size.max(1)
 }
 
 // ---- pages
@@ -168,7 +168,7 @@ fn send_held<R: Net<Listener = TcpListener, Stream = TcpStream> + Clock + Files>
         return Err(RestoreFault::NotHeld);
     };
     send_by_page(rt, alloc, target, &mut hold, results)?;
-    match hold.release(rt, alloc) {
+    match hold.release(rt) {
         Ok(true) => Ok(()),
         _ => Err(RestoreFault::NotHeld),
     }
@@ -258,7 +258,7 @@ fn send_results<R: Net<Listener = TcpListener, Stream = TcpStream> + Clock + Fil
     results: &[Body],
 ) -> Result<(), RestoreFault> {
     make_clear(rt, alloc, target)?;
-    for some in results.chunks(part_size(target, target.workers)) {
+    for some in results.chunks(part_size(target)) {
         hold_and_send(rt, alloc, target, some)?;
     }
     Ok(())
@@ -310,7 +310,7 @@ fn send_lines<R: Net<Listener = TcpListener, Stream = TcpStream> + Clock>(
     commands: &[Command],
     lines: &mut Vec<u8>,
 ) -> Result<(), RestoreFault> {
-    let size = part_size(target, 1);
+    let size = part_size(target);
     let mut outbox = Outbox::new(commands);
     for _ in 0..u64::MAX {
         let Some(command) = outbox.next() else {

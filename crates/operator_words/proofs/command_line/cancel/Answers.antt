@@ -1,0 +1,5 @@
+use Rattle.operator_words.proofs.command_line.cancel.Goals as goal
+
+pub returns : goal.returns
+returns c =
+    c.add.ensures _ _ c.plain-command.ensures c.words.ensures
