@@ -2,7 +2,7 @@ ghost use Rattle.std.specs.Prelude.{◌≡◌, ◌≢◌, IsOk, IfOk, IfErr, OnO
 ghost use Rattle.std.specs.List.{IsDistinct};
 ghost use Rattle.std.specs.Str.{bytes_eq};
 ghost use Rattle.clap.specs.Walk.{texts};
-ghost use Rattle.clap.specs.Words.{new_app, app_of, rule_of, found_of, kind_of, rows_of};
+ghost use Rattle.clap.specs.Words.{App, Rule, new_app, app_of, rule_of, with_rule, found_of, kind_of, rows_of};
 ghost use Rattle.clap.specs.declared.error.Error.{Error as Refusal};
 ghost use Rattle.page_watching.specs.Places.{name_of, NameAll};
 ghost use Rattle.desk_words.specs.declared.words.WordsFault.TheVariants.{Refused, Bad};
@@ -115,47 +115,46 @@ fn unnamed<'a>(alloc: Global) -> Command<'a>
         .about("Shows the status pages of gateways, with forms that send an operator's commands")
 }
 
+// Adds an option to a command, if there is one.
+fn add<'a>(
+    command: Result<Command<'a>, AllocError>,
+    option: Arg<'a>,
+) -> Result<Command<'a>, AllocError>
+    requires { option.global ≡ false }
+    ensures { (app : App) (rule : Rule) → rule_of option.entry ≡ rule
+        → IfOk command.entry (λ command. app_of command ≡ app)
+        → IfOk result (λ command. app_of command ≡ with_rule app rule) }
+{
+    match command {
+        Ok(command) => command.arg(option),
+        Err(fault) => Err(fault),
+    }
+}
+
 fn command_line<'a>(alloc: Global) -> Result<Command<'a>, AllocError>
     ensures { IfOk result (λ command. app_of command ≡ program) }
 {
-    unnamed(alloc)
-        .arg(option(
-            alloc,
-            "listen",
-            "Where the proxy connects, on loopback [default: 127.0.0.1:8081]",
-        ))?
-        .arg(list(
-            alloc,
-            "gateway",
-            "The pages port of a gateway, as [NAME=]ADDRESS:PORT; once for each",
-        ))?
-        .arg(list(
-            alloc,
-            "operators",
-            "The operators' port of a gateway, as NAME=ADDRESS:PORT; once for each",
-        ))?
-        .arg(list(
-            alloc,
-            "host",
-            "A name under which browsers reach it; once for each",
-        ))?
-        .arg(option(
-            alloc,
-            "user-header",
-            "The header field by which the proxy names the user [default: X-Remote-User]",
-        ))?
-        .arg(option(alloc, "users", "Who may send commands, as NAME,NAME"))?
-        .arg(option(alloc, "title", "The title of the page [default: nscagate]"))?
-        .arg(option(
-            alloc,
-            "refresh",
-            "The seconds after which a browser asks again: 0 (never), or 2 to 3600 [default: 30]",
-        ))?
-        .arg(option(
-            alloc,
-            "every",
-            "The seconds between two fetches of a page: 1 to 30 [default: 5]",
-        ))
+    let help = "Where the proxy connects, on loopback [default: 127.0.0.1:8081]";
+    let line = add(Ok(unnamed(alloc)), option(alloc, "listen", help));
+    let help = "The pages port of a gateway, as [NAME=]ADDRESS:PORT; once for each";
+    let line = add(line, list(alloc, "gateway", help));
+    let help = "The operators' port of a gateway, as NAME=ADDRESS:PORT; once for each";
+    let line = add(line, list(alloc, "operators", help));
+    let help = "A name under which browsers reach it; once for each";
+    let line = add(line, list(alloc, "host", help));
+    let help = "The header field by which the proxy names the user [default: X-Remote-User]";
+    let line = add(line, option(alloc, "user-header", help));
+    let line = add(
+        line,
+        option(alloc, "users", "Who may send commands, as NAME,NAME"),
+    );
+    let title = option(alloc, "title", "The title of the page [default: nscagate]");
+    let line = add(line, title);
+    let help =
+        "The seconds after which a browser asks again: 0 (never), or 2 to 3600 [default: 30]";
+    let line = add(line, option(alloc, "refresh", help));
+    let help = "The seconds between two fetches of a page: 1 to 30 [default: 5]";
+    add(line, option(alloc, "every", help))
 }
 
 // The value of an option, or its default.

@@ -42,10 +42,15 @@ fn applied(applier: Applier, record: Record) -> Result<Applier, ForesightFault>
             let (after, _) = ready.apply(record.item, record.moment);
             Ok(after)
         }
-        Err(fault) => match fault.cause {
-            PrepareCause::LogFull => Err(ForesightFault::TooMany),
-            PrepareCause::OutOfMemory => Err(ForesightFault::OutOfMemory),
-        },
+        Err(fault) => {
+            drop(record);
+            let cause = fault.cause;
+            drop(fault);
+            match cause {
+                PrepareCause::LogFull => Err(ForesightFault::TooMany),
+                PrepareCause::OutOfMemory => Err(ForesightFault::OutOfMemory),
+            }
+        }
     }
 }
 

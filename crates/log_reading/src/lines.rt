@@ -244,8 +244,17 @@ fn checked(alloc: Global, text: &[u8], one: Logged) -> Result<Option<Logged>, Al
         text.now ++ codes "\n" ≡ logged_line read)) }
     ensures read { text.now ++ codes "\n" ≡ logged_line one → Gives result one }
 {
-    let same = is_line_of(alloc, text, &one)?;
-    if same { Ok(Some(one)) } else { Ok(None) }
+    match is_line_of(alloc, text, &one) {
+        Ok(true) => Ok(Some(one)),
+        Ok(false) => {
+            drop(one);
+            Ok(None)
+        }
+        Err(fault) => {
+            drop(one);
+            Err(fault)
+        }
+    }
 }
 
 /// The record of a line, where it is that of one.

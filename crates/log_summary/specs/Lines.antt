@@ -1,6 +1,6 @@
 -- The summary of a log page: its lines, `summary_text`, and objects of JSON on a line each, `summary_json`. Own rules.
 use Rattle.std.specs.Prelude.{ℕ, ◌==◌, ◌-◌, min, if◌then◌else◌, List, [], ◌∷◌, ◌++◌, length, map, codes, Option, Some, None, slice_get}
-use Rattle.std.specs.List.{flat_map}
+use Rattle.std.specs.List.{count_by, flat_map}
 use Rattle.std.specs.Fmt.{decimal}
 use Rattle.std.specs.Str.Lossy.{utf8_lossy}
 use Rattle.json.specs.Json.{Json, null, string, object}
@@ -12,11 +12,11 @@ use Rattle.log_reading.specs.declared.logged.Logged.{Logged}
 use Rattle.log_reading.specs.declared.logged.Logged.TheVariants as logged
 use Rattle.log_reading.specs.declared.logged.Refusal.{Refusal}
 use Rattle.log_reading.specs.Log.{logged_line}
-use Rattle.log_summary.specs.Summary.{with_outcome, reasons, host_of, refusals}
+use Rattle.log_summary.specs.Summary.{has_outcome, reasons, host_of, refusals}
 
 -- how many records have this outcome
 abbrev pub count_of : List Logged → Outcome → ℕ
-count_of log outcome = length (with_outcome log outcome)
+count_of log outcome = count_by (has_outcome outcome) log
 
 -- the last of these records
 abbrev pub last_of : List Logged → Option Logged

@@ -27,9 +27,13 @@ abbrev pub outcome_of : Logged → Outcome
 outcome_of (Accepted applied) = outcome.Accepted
 outcome_of (Refused one) = one.outcome
 
+-- a record has this outcome
+abbrev pub has_outcome : Outcome → Logged → Bool
+has_outcome given one = bytes_eq (outcome_name (outcome_of one)) (outcome_name given)
+
 -- the records with this outcome
 abbrev pub with_outcome : List Logged → Outcome → List Logged
-with_outcome log given = filter (λ one. bytes_eq (outcome_name (outcome_of one)) (outcome_name given)) log
+with_outcome log given = filter (has_outcome given) log
 
 -- why a record is refused
 abbrev pub reasons : List Outcome

@@ -1,6 +1,7 @@
 //! Records since a moment, and those with an outcome.
 
 ghost use Rattle.std.specs.Prelude.{◌≡◌, IfOk};
+ghost use Rattle.log_summary.specs.Lines.{count_of};
 ghost use Rattle.log_summary.specs.Summary.{moment_of, since, outcome_of, with_outcome};
 ghost use Rattle.log_summary.specs.inner.Groups.{values_in};
 
@@ -35,6 +36,16 @@ fn outcome_of(one: &Logged) -> Outcome
         Logged::Accepted(_) => Outcome::Accepted,
         Logged::Refused(refusal) => refusal.outcome,
     }
+}
+
+/// How many records have an outcome.
+pub fn count(log: &[Logged], outcome: Outcome) -> usize
+    ensures { result ≡ count_of log.now outcome }
+{
+    let name = outcome_name(outcome);
+    log.iter()
+        .filter(|one| outcome_name(outcome_of(one)) == name)
+        .count()
 }
 
 /// The records with an outcome, in their order.

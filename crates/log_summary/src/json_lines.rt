@@ -7,7 +7,7 @@ ghost use Rattle.status_export.specs.Lines.{value_json};
 ghost use Rattle.log_summary.specs.Lines.{count_of, shown, counts_json, word_json, refusal_json, group_json, summary_json};
 ghost use Rattle.log_summary.specs.inner.Groups.{values_in, groups_in};
 
-use crate::counting::with_outcome;
+use crate::counting::count;
 use crate::hosts::{host_of, refusals};
 use gate_model::Outcome;
 use gate_pages::outcome_name;
@@ -21,11 +21,10 @@ fn shown<'a>(number: u64) -> Value<'a>
     Value::Number(u32::try_from(number).unwrap_or(u32::MAX))
 }
 
-fn count<'a>(alloc: Global, log: &[Logged], outcome: Outcome) -> Result<Value<'a>, AllocError>
-    ensures { IfOk result (λ value. value_json value ≡ shown (count_of log.now outcome)) }
+fn counted<'a>(log: &[Logged], outcome: Outcome) -> Value<'a>
+    ensures { value_json result ≡ shown (count_of log.now outcome) }
 {
-    let found = with_outcome(alloc, log, outcome)?;
-    Ok(shown(found.len() as u64))
+    shown(count(log, outcome) as u64)
 }
 
 fn counts_json(alloc: Global, log: &[Logged]) -> Result<Vec<u8>, AllocError>
@@ -35,28 +34,19 @@ fn counts_json(alloc: Global, log: &[Logged]) -> Result<Vec<u8>, AllocError>
         alloc,
         &[
             ("records", shown(log.len() as u64)),
-            ("Accepted", count(alloc, log, Outcome::Accepted)?),
-            ("NoSuchHost", count(alloc, log, Outcome::NoSuchHost)?),
-            ("NoSuchService", count(alloc, log, Outcome::NoSuchService)?),
-            (
-                "PassiveDisabled",
-                count(alloc, log, Outcome::PassiveDisabled)?,
-            ),
-            ("NoServices", count(alloc, log, Outcome::NoServices)?),
-            ("NoSuchComment", count(alloc, log, Outcome::NoSuchComment)?),
-            (
-                "NoSuchDowntime",
-                count(alloc, log, Outcome::NoSuchDowntime)?,
-            ),
-            ("WrongKind", count(alloc, log, Outcome::WrongKind)?),
-            ("NoProblem", count(alloc, log, Outcome::NoProblem)?),
-            (
-                "NotAcknowledged",
-                count(alloc, log, Outcome::NotAcknowledged)?,
-            ),
-            ("BadWindow", count(alloc, log, Outcome::BadWindow)?),
-            ("WindowPast", count(alloc, log, Outcome::WindowPast)?),
-            ("NoSuchTrigger", count(alloc, log, Outcome::NoSuchTrigger)?),
+            ("Accepted", counted(log, Outcome::Accepted)),
+            ("NoSuchHost", counted(log, Outcome::NoSuchHost)),
+            ("NoSuchService", counted(log, Outcome::NoSuchService)),
+            ("PassiveDisabled", counted(log, Outcome::PassiveDisabled)),
+            ("NoServices", counted(log, Outcome::NoServices)),
+            ("NoSuchComment", counted(log, Outcome::NoSuchComment)),
+            ("NoSuchDowntime", counted(log, Outcome::NoSuchDowntime)),
+            ("WrongKind", counted(log, Outcome::WrongKind)),
+            ("NoProblem", counted(log, Outcome::NoProblem)),
+            ("NotAcknowledged", counted(log, Outcome::NotAcknowledged)),
+            ("BadWindow", counted(log, Outcome::BadWindow)),
+            ("WindowPast", counted(log, Outcome::WindowPast)),
+            ("NoSuchTrigger", counted(log, Outcome::NoSuchTrigger)),
         ],
     )
 }

@@ -5,7 +5,7 @@ ghost use Rattle.std.specs.List.{flat_map};
 ghost use Rattle.log_summary.specs.Lines.{count_line, outcome_line, group_line, summary_text};
 ghost use Rattle.log_summary.specs.inner.Groups.{values_in, groups_in};
 
-use crate::counting::with_outcome;
+use crate::counting::count;
 use crate::hosts::{REASONS, refusals};
 use gate_model::{Outcome, push_number};
 use gate_pages::outcome_name;
@@ -22,15 +22,10 @@ fn push_count(out: &mut Vec<u8>, name: &[u8], count: usize) -> Result<(), AllocE
 }
 
 // Appends the line of an outcome, where a record has it.
-fn push_outcome(
-    alloc: Global,
-    out: &mut Vec<u8>,
-    log: &[Logged],
-    outcome: Outcome,
-) -> Result<(), AllocError>
+fn push_outcome(out: &mut Vec<u8>, log: &[Logged], outcome: Outcome) -> Result<(), AllocError>
     ensures { OnOk result (out.new.items ≡ out.old.items ++ outcome_line log.now outcome) }
 {
-    let count = with_outcome(alloc, log, outcome)?.len();
+    let count = count(log, outcome);
     if count == 0 {
         Ok(())
     } else {
@@ -38,17 +33,12 @@ fn push_outcome(
     }
 }
 
-fn push_outcomes(
-    alloc: Global,
-    out: &mut Vec<u8>,
-    log: &[Logged],
-    outcomes: &[Outcome],
-) -> Result<(), AllocError>
+fn push_outcomes(out: &mut Vec<u8>, log: &[Logged], outcomes: &[Outcome]) -> Result<(), AllocError>
     ensures { OnOk result
         (out.new.items ≡ out.old.items ++ flat_map (outcome_line log.now) outcomes.now) }
 {
     for outcome in outcomes {
-        push_outcome(alloc, out, log, *outcome)?;
+        push_outcome(out, log, *outcome)?;
     }
     Ok(())
 }
@@ -84,8 +74,8 @@ pub fn summary_text(alloc: Global, log: &[Logged]) -> Result<Vec<u8>, AllocError
 {
     let mut out = Vec::new(alloc);
     push_count(&mut out, b"records", log.len())?;
-    push_outcome(alloc, &mut out, log, Outcome::Accepted)?;
-    push_outcomes(alloc, &mut out, log, &REASONS)?;
+    push_outcome(&mut out, log, Outcome::Accepted)?;
+    push_outcomes(&mut out, log, &REASONS)?;
     let groups = refusals(alloc, log)?;
     push_groups(alloc, &mut out, &groups)?;
     Ok(out)

@@ -15,6 +15,12 @@ fn plain_text(alloc: Global, text: &Text) -> Result<Text, AllocError>
     Ok(Text::new(plain_bytes(alloc, text.bytes())?))
 }
 
+fn plain_own(alloc: Global, text: Text) -> Result<Text, AllocError>
+    ensures { IfOk result (λ plain. plain ≡ plain_bytes text) }
+{
+    plain_text(alloc, &text)
+}
+
 fn plain_option(alloc: Global, text: &Option<Text>) -> Result<Option<Text>, AllocError>
     ensures { IfOk result (λ plain. plain ≡ option_map plain_bytes text.now) }
 {
@@ -34,22 +40,38 @@ fn plain_texts(alloc: Global, texts: &[Text]) -> Result<Texts, AllocError>
     Ok(Texts::new(list))
 }
 
-fn plain_object(alloc: Global, object: &Object) -> Result<Object, AllocError>
-    ensures { IfOk result (λ plain. plain ≡ plain_object object.now) }
+fn plain_object(alloc: Global, object: Object) -> Result<Object, AllocError>
+    ensures { IfOk result (λ plain. plain ≡ plain_object object) }
 {
+    let host = plain_text(alloc, &object.host);
+    let service = plain_option(alloc, &object.service);
+    drop(object);
     Ok(Object {
-        host: plain_text(alloc, &object.host)?,
-        service: plain_option(alloc, &object.service)?,
+        host: host?,
+        service: service?,
     })
 }
 
-fn plain_remark(alloc: Global, remark: &Remark) -> Result<Remark, AllocError>
-    ensures { IfOk result (λ plain. plain ≡ plain_remark remark.now) }
+fn plain_remark(alloc: Global, remark: Remark) -> Result<Remark, AllocError>
+    ensures { IfOk result (λ plain. plain ≡ plain_remark remark) }
 {
+    let text = plain_text(alloc, &remark.text);
+    let author = plain_option(alloc, &remark.author);
+    drop(remark);
     Ok(Remark {
-        text: plain_text(alloc, &remark.text)?,
-        author: plain_option(alloc, &remark.author)?,
+        text: text?,
+        author: author?,
     })
+}
+
+// An object, and what is said of it.
+fn plain_both(alloc: Global, object: Object, remark: Remark) -> Result<(Object, Remark), AllocError>
+    ensures { IfOk result (λ plain.
+        (plain.0 ≡ plain_object object) × (plain.1 ≡ plain_remark remark)) }
+{
+    let object = plain_object(alloc, object);
+    let remark = plain_remark(alloc, remark);
+    Ok((object?, remark?))
 }
 
 /// The request that one with a page's escapes stands for: they are undone in names, texts, authors
@@ -63,52 +85,65 @@ pub fn plain_request(alloc: Global, request: Request) -> Result<Request, AllocEr
             remark,
             sticky,
             persistent,
-        } => Request::Ack {
-            object: plain_object(alloc, &object)?,
-            remark: plain_remark(alloc, &remark)?,
-            sticky,
-            persistent,
-        },
+        } => {
+            let (object, remark) = plain_both(alloc, object, remark)?;
+            Request::Ack {
+                object,
+                remark,
+                sticky,
+                persistent,
+            }
+        }
         Request::Unack { object } => Request::Unack {
-            object: plain_object(alloc, &object)?,
+            object: plain_object(alloc, object)?,
         },
         Request::Comment {
             object,
             remark,
             persistent,
-        } => Request::Comment {
-            object: plain_object(alloc, &object)?,
-            remark: plain_remark(alloc, &remark)?,
-            persistent,
-        },
-        Request::Uncomment { words, all } => Request::Uncomment {
-            words: plain_texts(alloc, words.as_slice())?,
-            all,
-        },
+        } => {
+            let (object, remark) = plain_both(alloc, object, remark)?;
+            Request::Comment {
+                object,
+                remark,
+                persistent,
+            }
+        }
+        Request::Uncomment { words, all } => {
+            let plain = plain_texts(alloc, words.as_slice());
+            drop(words);
+            Request::Uncomment { words: plain?, all }
+        }
         Request::Downtime {
             object,
             remark,
             window,
             services,
-        } => Request::Downtime {
-            object: plain_object(alloc, &object)?,
-            remark: plain_remark(alloc, &remark)?,
-            window,
-            services,
-        },
+        } => {
+            let (object, remark) = plain_both(alloc, object, remark)?;
+            Request::Downtime {
+                object,
+                remark,
+                window,
+                services,
+            }
+        }
         Request::Passive { setting, object } => Request::Passive {
+            object: plain_object(alloc, object)?,
             setting,
-            object: plain_object(alloc, &object)?,
         },
         Request::Result {
             object,
             state,
             output,
-        } => Request::Result {
-            object: plain_object(alloc, &object)?,
-            state,
-            output: plain_text(alloc, &output)?,
-        },
+        } => {
+            let output = plain_own(alloc, output)?;
+            Request::Result {
+                object: plain_object(alloc, object)?,
+                state,
+                output,
+            }
+        }
         Request::Cancel { ids } => Request::Cancel { ids },
         Request::Shutdown => Request::Shutdown,
     })

@@ -195,8 +195,10 @@ fn configured_addresses<F: Files>(
     ensures fault { IfErr result (IsOfAddresses options.now) }
 {
     let config = configuration(files, alloc, options)?;
-    let operators = address_or(&options.operators, config.operators.socket)?;
-    let pages = address_or(&options.pages, config.pages.socket)?;
+    let (operators, pages) = (config.operators.socket, config.pages.socket);
+    drop(config);
+    let operators = address_or(&options.operators, operators)?;
+    let pages = address_or(&options.pages, pages)?;
     Ok((operators, pages))
 }
 

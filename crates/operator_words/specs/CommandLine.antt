@@ -145,30 +145,6 @@ restore =
 abbrev pub with_command : App → App → App
 with_command added app = with_subcommand app added.top
 
--- the subcommands that say something of an object
-abbrev pub with_remarks : App → App
-with_remarks app = with_command downtime (with_command comment_command (with_command ack app))
-
--- the other subcommands on an object
-abbrev pub with_objects : App → App
-with_objects app = with_command result_command (with_command passive (with_command (on_object (codes "unack")) app))
-
--- the subcommands on ids
-abbrev pub with_ids : App → App
-with_ids app = with_command cancel (with_command uncomment app)
-
--- the subcommands that look at a gateway
-abbrev pub with_looks : App → App
-with_looks app = with_command check (with_command watch (with_command status app))
-
--- the subcommands that keep what a gateway shows
-abbrev pub with_keeping : App → App
-with_keeping app = with_command restore (with_command stop app)
-
--- the subcommands on a whole gateway, its configuration and its log
-abbrev pub with_gateway : App → App
-with_gateway app = with_command log (with_command test_config (with_command shutdown app))
-
 -- the words are all that follows the program's name, and one of them is a subcommand; there is a version
 abbrev pub top : App
 top =
@@ -177,4 +153,18 @@ top =
 
 -- all of them
 abbrev pub program : App
-program = with_keeping (with_gateway (with_looks (with_ids (with_objects (with_remarks top)))))
+program =
+    with_command restore
+    (with_command stop
+    (with_command log
+    (with_command test_config
+    (with_command shutdown
+    (with_command check
+    (with_command watch
+    (with_command status
+    (with_command cancel
+    (with_command uncomment
+    (with_command result_command
+    (with_command passive
+    (with_command (on_object (codes "unack"))
+    (with_command downtime (with_command comment_command (with_command ack top)))))))))))))))

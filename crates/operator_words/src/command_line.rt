@@ -1,9 +1,8 @@
 //! The command line as clap reads it: a subcommand for each task.
 
-ghost use Rattle.std.specs.Prelude.{◌≡◌, IfOk, false};
-ghost use Rattle.clap.specs.Words.{app_of, new_app, with_subcommand};
-ghost use Rattle.clap.specs.declared.builder.command.Command.TheViews.{out-Command as fields_of};
-ghost use Rattle.operator_words.specs.CommandLine.{IsArgument, IsCommand, word_of, words_of, option_of, comment, flag_of, with_remark, asking, plain, worded, with_object, on_object, ack, comment_command, uncomment, windowed, downtime, cancel, passive, result_command, shutdown, status, watch, check, test_config, log, on_page, stop, restore, with_remarks, with_objects, with_ids, with_looks, with_gateway, with_keeping, top, program};
+ghost use Rattle.std.specs.Prelude.{◌≡◌, IfOk};
+ghost use Rattle.clap.specs.Words.{App, Rule, app_of, new_app, with_rule};
+ghost use Rattle.operator_words.specs.CommandLine.{IsArgument, IsCommand, word_of, words_of, option_of, comment, flag_of, with_remark, asking, plain, worded, with_object, on_object, ack, comment_command, uncomment, windowed, downtime, cancel, passive, result_command, shutdown, status, watch, check, test_config, log, on_page, stop, restore, with_command, top, program};
 
 use clap::{Arg, ArgAction, Command};
 use std::alloc::{AllocError, Global};
@@ -66,170 +65,168 @@ fn begun<'a>(alloc: Global, name: &'a str, about: &'a str) -> Command<'a>
     Command::new(alloc, name).about(about)
 }
 
+// Adds an argument to a command, if there is one.
+fn add<'a>(
+    command: Result<Command<'a>, AllocError>,
+    argument: Arg<'a>,
+) -> Result<Command<'a>, AllocError>
+    ensures { (app : App) (rule : Rule) → IfOk command.entry (IsCommand app)
+        → IsArgument rule argument.entry → IfOk result (IsCommand (with_rule app rule)) }
+{
+    match command {
+        Ok(command) => command.arg(argument),
+        Err(fault) => Err(fault),
+    }
+}
+
 // A subcommand that asks a gateway.
 fn asking<'a>(alloc: Global, name: &'a str, about: &'a str) -> Result<Command<'a>, AllocError>
     ensures { IfOk result (IsCommand (asking name.entry.now)) }
 {
-    begun(alloc, name, about)
-        .arg(option(alloc, "config", false, "The daemon's configuration"))?
-        .arg(option(
-            alloc,
-            "operators",
-            false,
-            "The address of the operators port",
-        ))?
-        .arg(option(alloc, "pages", false, "The address of the pages port"))?
-        .arg(option(
-            alloc,
-            "wait",
-            false,
-            "How many seconds an answer or a page may take",
-        ))
+    let command = Ok(begun(alloc, name, about));
+    let config = option(alloc, "config", false, "The daemon's configuration");
+    let command = add(command, config);
+    let operators = option(
+        alloc,
+        "operators",
+        false,
+        "The address of the operators port",
+    );
+    let command = add(command, operators);
+    let pages = option(alloc, "pages", false, "The address of the pages port");
+    let command = add(command, pages);
+    let help = "How many seconds an answer or a page may take";
+    add(command, option(alloc, "wait", false, help))
 }
 
 // One whose outcome may be JSON.
 fn plain<'a>(alloc: Global, name: &'a str, about: &'a str) -> Result<Command<'a>, AllocError>
     ensures { IfOk result (IsCommand (plain name.entry.now)) }
 {
-    asking(alloc, name, about)?.arg(flag(alloc, "json", "Print JSON, an object a line"))
+    let json = flag(alloc, "json", "Print JSON, an object a line");
+    add(asking(alloc, name, about), json)
 }
 
 // One whose words may be escaped as a page's are.
 fn worded<'a>(alloc: Global, name: &'a str, about: &'a str) -> Result<Command<'a>, AllocError>
     ensures { IfOk result (IsCommand (worded name.entry.now)) }
 {
-    plain(alloc, name, about)?.arg(flag(
-        alloc,
-        "escaped",
-        "Names and texts have a page's escapes, as \\xe9",
-    ))
+    let help = "Names and texts have a page's escapes, as \\xe9";
+    add(plain(alloc, name, about), flag(alloc, "escaped", help))
 }
 
 // Adds `HOST [SERVICE]`.
-fn with_object<'a>(alloc: Global, command: Command<'a>) -> Result<Command<'a>, AllocError>
-    requires { (fields_of command).has_globals ≡ false }
-    ensures { IfOk result (IsCommand (with_object (app_of command.entry))) }
+fn with_object<'a>(
+    alloc: Global,
+    command: Result<Command<'a>, AllocError>,
+) -> Result<Command<'a>, AllocError>
+    ensures { (app : App) → IfOk command.entry (IsCommand app)
+        → IfOk result (IsCommand (with_object app)) }
 {
-    command
-        .arg(word(alloc, "host", true, "The host"))?
-        .arg(word(alloc, "service", false, "The service of the host"))
+    let command = add(command, word(alloc, "host", true, "The host"));
+    let service = word(alloc, "service", false, "The service of the host");
+    add(command, service)
 }
 
 // A subcommand on `HOST [SERVICE]`.
 fn on_object<'a>(alloc: Global, name: &'a str, about: &'a str) -> Result<Command<'a>, AllocError>
     ensures { IfOk result (IsCommand (on_object name.entry.now)) }
 {
-    with_object(alloc, worded(alloc, name, about)?)
+    with_object(alloc, worded(alloc, name, about))
 }
 
 // A subcommand that says something of an object.
 fn remark<'a>(alloc: Global, name: &'a str, about: &'a str) -> Result<Command<'a>, AllocError>
     ensures { IfOk result (IsCommand (with_remark name.entry.now)) }
 {
-    on_object(alloc, name, about)?
-        .arg(comment(alloc))?
-        .arg(option(alloc, "author", false, "Who says it"))
+    let command = add(on_object(alloc, name, about), comment(alloc));
+    add(command, option(alloc, "author", false, "Who says it"))
 }
 
 fn ack<'a>(alloc: Global) -> Result<Command<'a>, AllocError>
     ensures { IfOk result (IsCommand ack) }
 {
-    remark(alloc, "ack", "Acknowledge a problem")?
-        .arg(flag(alloc, "sticky", "Keep it until the object recovers"))?
-        .arg(flag(alloc, "persistent", "Keep the comment when it ends"))
+    let sticky = flag(alloc, "sticky", "Keep it until the object recovers");
+    let command = add(remark(alloc, "ack", "Acknowledge a problem"), sticky);
+    add(
+        command,
+        flag(alloc, "persistent", "Keep the comment when it ends"),
+    )
 }
 
 fn comment_command<'a>(alloc: Global) -> Result<Command<'a>, AllocError>
     ensures { IfOk result (IsCommand comment_command) }
 {
-    remark(alloc, "comment", "Add a comment")?.arg(flag(alloc, "persistent", "Mark it persistent"))
+    let persistent = flag(alloc, "persistent", "Mark it persistent");
+    add(remark(alloc, "comment", "Add a comment"), persistent)
 }
 
 fn uncomment<'a>(alloc: Global) -> Result<Command<'a>, AllocError>
     ensures { IfOk result (IsCommand uncomment) }
 {
-    worded(alloc, "uncomment", "Delete comments")?
-        .arg(words(
-            alloc,
-            "words",
-            true,
-            "Ids; with --all a host, or a host and a service",
-        ))?
-        .arg(flag(alloc, "all", "Delete all comments of the object"))
+    let help = "Ids; with --all a host, or a host and a service";
+    let command = worded(alloc, "uncomment", "Delete comments");
+    let command = add(command, words(alloc, "words", true, help));
+    add(
+        command,
+        flag(alloc, "all", "Delete all comments of the object"),
+    )
 }
 
 // A subcommand that has the window of downtime.
 fn windowed<'a>(alloc: Global) -> Result<Command<'a>, AllocError>
     ensures { IfOk result (IsCommand windowed) }
 {
-    remark(alloc, "downtime", "Schedule downtime")?
-        .arg(option(
-            alloc,
-            "for",
-            false,
-            "How long the window is, as 30s, 90m, 2h or 1d",
-        ))?
-        .arg(option(
-            alloc,
-            "until",
-            false,
-            "When the window ends, in seconds since 1970",
-        ))?
-        .arg(option(
-            alloc,
-            "from",
-            false,
-            "When it begins, if not now, in seconds since 1970",
-        ))
+    let command = remark(alloc, "downtime", "Schedule downtime");
+    let help = "How long the window is, as 30s, 90m, 2h or 1d";
+    let command = add(command, option(alloc, "for", false, help));
+    let help = "When the window ends, in seconds since 1970";
+    let command = add(command, option(alloc, "until", false, help));
+    let help = "When it begins, if not now, in seconds since 1970";
+    add(command, option(alloc, "from", false, help))
 }
 
 fn downtime<'a>(alloc: Global) -> Result<Command<'a>, AllocError>
     ensures { IfOk result (IsCommand downtime) }
 {
-    windowed(alloc)?
-        .arg(option(
-            alloc,
-            "flexible",
-            false,
-            "How long it lasts from the first problem, as 15m",
-        ))?
-        .arg(option(
-            alloc,
-            "trigger",
-            false,
-            "The id of the entry that triggers it",
-        ))?
-        .arg(flag(
-            alloc,
-            "services",
-            "Schedule it for each service of the host",
-        ))
+    let help = "How long it lasts from the first problem, as 15m";
+    let command = add(windowed(alloc), option(alloc, "flexible", false, help));
+    let trigger = option(
+        alloc,
+        "trigger",
+        false,
+        "The id of the entry that triggers it",
+    );
+    let command = add(command, trigger);
+    let help = "Schedule it for each service of the host";
+    add(command, flag(alloc, "services", help))
 }
 
 fn cancel<'a>(alloc: Global) -> Result<Command<'a>, AllocError>
     ensures { IfOk result (IsCommand cancel) }
 {
-    plain(alloc, "cancel", "Delete downtime entries")?.arg(words(alloc, "ids", true, "Their ids"))
+    let command = plain(alloc, "cancel", "Delete downtime entries");
+    add(command, words(alloc, "ids", true, "Their ids"))
 }
 
 fn passive<'a>(alloc: Global) -> Result<Command<'a>, AllocError>
     ensures { IfOk result (IsCommand passive) }
 {
-    let passive = worded(alloc, "passive", "Enable or disable passive checks")?.arg(word(
-        alloc,
-        "setting",
-        true,
-        "on or off",
-    ))?;
-    with_object(alloc, passive)
+    let command = worded(alloc, "passive", "Enable or disable passive checks");
+    let command = add(command, word(alloc, "setting", true, "on or off"));
+    with_object(alloc, command)
 }
 
 fn result_command<'a>(alloc: Global) -> Result<Command<'a>, AllocError>
     ensures { IfOk result (IsCommand result_command) }
 {
-    on_object(alloc, "result", "Submit a passive check result")?
-        .arg(option(alloc, "state", true, "The state, as OK, WARNING or DOWN"))?
-        .arg(option(alloc, "output", true, "The plugin's output"))
+    let command = on_object(alloc, "result", "Submit a passive check result");
+    let state = option(alloc, "state", true, "The state, as OK, WARNING or DOWN");
+    let command = add(command, state);
+    add(
+        command,
+        option(alloc, "output", true, "The plugin's output"),
+    )
 }
 
 fn shutdown<'a>(alloc: Global) -> Result<Command<'a>, AllocError>
@@ -241,84 +238,65 @@ fn shutdown<'a>(alloc: Global) -> Result<Command<'a>, AllocError>
 fn status<'a>(alloc: Global) -> Result<Command<'a>, AllocError>
     ensures { IfOk result (IsCommand status) }
 {
-    plain(alloc, "status", "Print the status page")?
-        .arg(option(
-            alloc,
-            "state",
-            false,
-            "Only objects in this state, problems, unhandled or stale",
-        ))?
-        .arg(option(
-            alloc,
-            "host",
-            false,
-            "Only of hosts whose name contains this text",
-        ))
+    let command = plain(alloc, "status", "Print the status page");
+    let help = "Only objects in this state, problems, unhandled or stale";
+    let command = add(command, option(alloc, "state", false, help));
+    let help = "Only of hosts whose name contains this text";
+    add(command, option(alloc, "host", false, help))
 }
 
 fn watch<'a>(alloc: Global) -> Result<Command<'a>, AllocError>
     ensures { IfOk result (IsCommand watch) }
 {
-    plain(alloc, "watch", "Print each change of the status page")?.arg(option(
-        alloc,
-        "interval",
-        false,
-        "How many seconds lie between two pages",
-    ))
+    let command = plain(alloc, "watch", "Print each change of the status page");
+    let help = "How many seconds lie between two pages";
+    add(command, option(alloc, "interval", false, help))
 }
 
 fn check<'a>(alloc: Global) -> Result<Command<'a>, AllocError>
     ensures { IfOk result (IsCommand check) }
 {
-    asking(
-        alloc,
-        "check",
-        "Test whether gateways serve, as a plugin of Nagios",
-    )?
-    .arg(option(alloc, "agents", false, "The address of the agents' port"))?
-    .arg(option(alloc, "age", false, "How old a page may be, in seconds"))?
-    .arg(option(alloc, "keep", false, "The file that the page is kept in"))?
-    .arg(words(
-        alloc,
-        "gateways",
-        false,
-        "The pages ports, as ADDRESS or NAME=ADDRESS",
-    ))
+    let about = "Test whether gateways serve, as a plugin of Nagios";
+    let agents = option(alloc, "agents", false, "The address of the agents' port");
+    let command = add(asking(alloc, "check", about), agents);
+    let age = option(alloc, "age", false, "How old a page may be, in seconds");
+    let command = add(command, age);
+    let keep = option(alloc, "keep", false, "The file that the page is kept in");
+    let command = add(command, keep);
+    let help = "The pages ports, as ADDRESS or NAME=ADDRESS";
+    add(command, words(alloc, "gateways", false, help))
 }
 
 fn test_config<'a>(alloc: Global) -> Result<Command<'a>, AllocError>
     ensures { IfOk result (IsCommand test_config) }
 {
-    begun(
-        alloc,
-        "test-config",
-        "Read a configuration as the daemon does",
-    )
-    .arg(word(alloc, "file", true, "The configuration"))
+    let about = "Read a configuration as the daemon does";
+    let command = begun(alloc, "test-config", about);
+    add(Ok(command), word(alloc, "file", true, "The configuration"))
 }
 
 fn log<'a>(alloc: Global) -> Result<Command<'a>, AllocError>
     ensures { IfOk result (IsCommand log) }
 {
-    begun(alloc, "log", "Sum up a log page")
-        .arg(word(alloc, "file", true, "The file that the daemon prints to"))?
-        .arg(option(
-            alloc,
-            "since",
-            false,
-            "Only records since then, in seconds since 1970",
-        ))?
-        .arg(flag(alloc, "json", "Print JSON, an object a line"))
+    let command = begun(alloc, "log", "Sum up a log page");
+    let file = word(alloc, "file", true, "The file that the daemon prints to");
+    let command = add(Ok(command), file);
+    let help = "Only records since then, in seconds since 1970";
+    let command = add(command, option(alloc, "since", false, help));
+    add(command, flag(alloc, "json", "Print JSON, an object a line"))
 }
 
 // A subcommand on a page that is kept.
 fn on_page<'a>(alloc: Global, name: &'a str, about: &'a str) -> Result<Command<'a>, AllocError>
     ensures { IfOk result (IsCommand (on_page name.entry.now)) }
 {
-    asking(alloc, name, about)?
-        .arg(word(alloc, "page", true, "The file of the status page"))?
-        .arg(option(alloc, "log", false, "The file of the log page"))?
-        .arg(option(alloc, "pid", false, "The daemon's process"))
+    let page = word(alloc, "page", true, "The file of the status page");
+    let command = add(asking(alloc, name, about), page);
+    let command = add(
+        command,
+        option(alloc, "log", false, "The file of the log page"),
+    );
+    add(command, option(alloc, "pid", false, "The daemon's process"))
 }
 
 fn stop<'a>(alloc: Global) -> Result<Command<'a>, AllocError>
@@ -334,78 +312,18 @@ fn stop<'a>(alloc: Global) -> Result<Command<'a>, AllocError>
 fn restore<'a>(alloc: Global) -> Result<Command<'a>, AllocError>
     ensures { IfOk result (IsCommand restore) }
 {
-    on_page(alloc, "restore", "Restore what was kept")?
-        .arg(option(alloc, "agents", false, "The address of the agents' port"))?
-        .arg(flag(
-            alloc,
-            "old",
-            "Restore a page that is older than ten minutes",
-        ))?
-        .arg(flag(alloc, "dry-run", "Print the lines, and send none"))
-}
-
-// Adds a subcommand.
-fn with<'a>(command: Command<'a>, added: Command<'a>) -> Result<Command<'a>, AllocError>
-    requires { (fields_of added).has_globals ≡ false }
-    ensures { IfOk result (λ both.
-        app_of both ≡ with_subcommand (app_of command.entry) (app_of added.entry).top) }
-{
-    command.subcommand(added)
-}
-
-// The subcommands that say something of an object.
-fn with_remarks<'a>(alloc: Global, command: Command<'a>) -> Result<Command<'a>, AllocError>
-    ensures { IfOk result (λ more. app_of more ≡ with_remarks (app_of command.entry)) }
-{
-    let one = with(command, ack(alloc)?)?;
-    let two = with(one, comment_command(alloc)?)?;
-    with(two, downtime(alloc)?)
-}
-
-// The other subcommands on an object.
-fn with_objects<'a>(alloc: Global, command: Command<'a>) -> Result<Command<'a>, AllocError>
-    ensures { IfOk result (λ more. app_of more ≡ with_objects (app_of command.entry)) }
-{
-    let one = with(
+    let agents = option(alloc, "agents", false, "The address of the agents' port");
+    let command = add(on_page(alloc, "restore", "Restore what was kept"), agents);
+    let old = flag(
+        alloc,
+        "old",
+        "Restore a page that is older than ten minutes",
+    );
+    let command = add(command, old);
+    add(
         command,
-        on_object(alloc, "unack", "Remove an acknowledgement")?,
-    )?;
-    let two = with(one, passive(alloc)?)?;
-    with(two, result_command(alloc)?)
-}
-
-// The subcommands on ids.
-fn with_ids<'a>(alloc: Global, command: Command<'a>) -> Result<Command<'a>, AllocError>
-    ensures { IfOk result (λ more. app_of more ≡ with_ids (app_of command.entry)) }
-{
-    let one = with(command, uncomment(alloc)?)?;
-    with(one, cancel(alloc)?)
-}
-
-// The subcommands that look at a gateway.
-fn with_looks<'a>(alloc: Global, command: Command<'a>) -> Result<Command<'a>, AllocError>
-    ensures { IfOk result (λ more. app_of more ≡ with_looks (app_of command.entry)) }
-{
-    let one = with(command, status(alloc)?)?;
-    let two = with(one, watch(alloc)?)?;
-    with(two, check(alloc)?)
-}
-
-// The subcommands on a whole gateway, its configuration and its log.
-fn with_gateway<'a>(alloc: Global, command: Command<'a>) -> Result<Command<'a>, AllocError>
-    ensures { IfOk result (λ more. app_of more ≡ with_gateway (app_of command.entry)) }
-{
-    let one = with(command, shutdown(alloc)?)?;
-    let two = with(one, test_config(alloc)?)?;
-    with(two, log(alloc)?)
-}
-
-// The subcommands that keep what a gateway shows.
-fn with_keeping<'a>(alloc: Global, command: Command<'a>) -> Result<Command<'a>, AllocError>
-    ensures { IfOk result (λ more. app_of more ≡ with_keeping (app_of command.entry)) }
-{
-    let one = with(command, stop(alloc)?)?;
-    with(one, restore(alloc)?)
+        flag(alloc, "dry-run", "Print the lines, and send none"),
+    )
 }
 
 // The program without its subcommands.
@@ -419,14 +337,40 @@ fn top<'a>(alloc: Global) -> Command<'a>
         .subcommand_required(true)
 }
 
+// Adds a subcommand to a command, if there are both.
+fn with<'a>(
+    command: Result<Command<'a>, AllocError>,
+    added: Result<Command<'a>, AllocError>,
+) -> Result<Command<'a>, AllocError>
+    ensures { (app one : App) → IfOk command.entry (λ command. app_of command ≡ app)
+        → IfOk added.entry (IsCommand one)
+        → IfOk result (λ both. app_of both ≡ with_command one app) }
+{
+    match (command, added) {
+        (Ok(command), Ok(added)) => command.subcommand(added),
+        _ => Err(AllocError),
+    }
+}
+
 /// The command line of `nscagatectl`, without the program's name. The only error is out of memory.
 pub fn command_line<'a>(alloc: Global) -> Result<Command<'a>, AllocError>
     ensures { IfOk result (λ command. app_of command ≡ program) }
 {
-    let remarks = with_remarks(alloc, top(alloc))?;
-    let objects = with_objects(alloc, remarks)?;
-    let ids = with_ids(alloc, objects)?;
-    let looks = with_looks(alloc, ids)?;
-    let gateway = with_gateway(alloc, looks)?;
-    with_keeping(alloc, gateway)
+    let command = with(Ok(top(alloc)), ack(alloc));
+    let command = with(command, comment_command(alloc));
+    let command = with(command, downtime(alloc));
+    let unack = on_object(alloc, "unack", "Remove an acknowledgement");
+    let command = with(command, unack);
+    let command = with(command, passive(alloc));
+    let command = with(command, result_command(alloc));
+    let command = with(command, uncomment(alloc));
+    let command = with(command, cancel(alloc));
+    let command = with(command, status(alloc));
+    let command = with(command, watch(alloc));
+    let command = with(command, check(alloc));
+    let command = with(command, shutdown(alloc));
+    let command = with(command, test_config(alloc));
+    let command = with(command, log(alloc));
+    let command = with(command, stop(alloc));
+    with(command, restore(alloc))
 }

@@ -249,6 +249,15 @@ fn add_text(
     Ok(())
 }
 
+// Takes another value of a query into account, if it is of this name.
+fn set<T: Copy>(known: &mut T, wanted: &str, name: &str, value: T)
+    ensures { known.new ≡ (if bytes_eq name.now wanted.now then value else known.old) }
+{
+    if name == wanted {
+        *known = value;
+    }
+}
+
 // Takes one pair of a query into account.
 fn add_pair(
     alloc: Global,
@@ -279,28 +288,26 @@ fn add_pair(
         ≡ (if bytes_eq name.now (codes "refresh") then refresh_of refresh value.now
         else query.old.refresh)) }
 {
-    if name == "state" {
-        query.choice = choice_of(value);
-    }
+    set(&mut query.choice, "state", name, choice_of(value));
     add_text(alloc, &mut query.host, "host", name, value)?;
     add_text(alloc, &mut query.service, "service", name, value)?;
     add_text(alloc, &mut query.output, "output", name, value)?;
     add_text(alloc, &mut query.gateway, "gateway", name, value)?;
-    if name == "acknowledged" {
-        query.acknowledged = mark_of(value);
-    }
-    if name == "downtime" {
-        query.downtime = mark_of(value);
-    }
-    if name == "sort" {
-        query.sort = sort_of(value);
-    }
-    if name == "page" {
-        query.page = page_of(value);
-    }
-    if name == "refresh" {
-        query.refresh = refresh_of(value, refresh);
-    }
+    set(
+        &mut query.acknowledged,
+        "acknowledged",
+        name,
+        mark_of(value),
+    );
+    set(&mut query.downtime, "downtime", name, mark_of(value));
+    set(&mut query.sort, "sort", name, sort_of(value));
+    set(&mut query.page, "page", name, page_of(value));
+    set(
+        &mut query.refresh,
+        "refresh",
+        name,
+        refresh_of(value, refresh),
+    );
     Ok(())
 }
 

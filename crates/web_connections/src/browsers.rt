@@ -43,6 +43,15 @@ pub struct Browsers {
     began: Instant,
 }
 
+// The places, each without a browser.
+fn no_browsers(alloc: Global) -> io::Result<Vec<Option<Browser>>> {
+    let mut browsers = Vec::with_capacity(alloc, MOST_BROWSERS)?;
+    for _ in 0..MOST_BROWSERS {
+        browsers.push(None)?;
+    }
+    Ok(browsers)
+}
+
 impl Browsers {
     /// No browsers yet, of this listener, which several threads may share. Each connection has the limits of this
     /// configuration.
@@ -57,10 +66,7 @@ impl Browsers {
         listener.set_nonblocking(true)?;
         let mut listener = TcpListener::from_std(listener);
         let poll = Poll::new(rt)?;
-        let mut browsers = Vec::with_capacity(alloc, MOST_BROWSERS)?;
-        for _ in 0..MOST_BROWSERS {
-            browsers.push(None)?;
-        }
+        let browsers = no_browsers(alloc)?;
         poll.registry()
             .register(&mut listener, LISTENER, Interest::READABLE)?;
         Ok(Browsers {
@@ -97,17 +103,10 @@ impl Browsers {
         longest
     }
 
-    // Puts a browser into this place.
-    fn put(&mut self, place: usize, browser: Browser) {
-        if let Some(slot) = self.browsers.get_mut(place) {
-            *slot = Some(browser);
-        }
-    }
-
-    // Closes the connection at this place.
-    fn close(&mut self, place: usize) {
+    // Puts a browser, or none, into this place, and closes the connection of the one before.
+    fn set(&mut self, place: usize, browser: Option<Browser>) {
         if place < self.browsers.len() {
-            self.browsers[place] = None;
+            self.browsers[place] = browser;
         }
     }
 
@@ -115,7 +114,7 @@ impl Browsers {
     // place.
     fn let_go(&mut self, has_kept: bool) -> Option<usize> {
         let place = self.longest(has_kept)?;
-        self.close(place);
+        self.set(place, None);
         Some(place)
     }
 
@@ -140,7 +139,7 @@ impl Browsers {
     fn accept_one<R: RandomSource>(&mut self, rt: &R, place: usize, now: u64) -> io::Result<()> {
         let stream = self.accept_stream(Token(place))?;
         let connection = Connection::new(self.alloc, RandomState::new(rt)?, self.config);
-        self.put(place, Browser::new(stream, connection, now));
+        self.set(place, Some(Browser::new(stream, connection, now)));
         Ok(())
     }
 
@@ -214,7 +213,7 @@ impl Browsers {
         let goes_on = !browser.can_go_on()
             || browser.go_on(rt, self.alloc, service, now).unwrap_or(false);
         if !goes_on || browser.is_late(now) {
-            self.close(place);
+            self.set(place, None);
         }
     }
 
