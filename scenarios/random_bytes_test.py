@@ -145,6 +145,29 @@ def play_sessions_of_packets(rng):
         check(f"as many sessions as streams of {size}", len(found), count)
 
 
+def play_flipped_bits():
+    """A packet of each length with each of its bits flipped by itself is refused."""
+    for room, size, stop in ((4096, 4304, b"BadPacket(BadCheckWord)"), (512, 720, b"Truncated(720)")):
+        good = int.from_bytes(packet(1000, b"web1", b"HTTP", 2, b"timeout; 10s", room), "big")
+        bits = range(8 * size)
+        found = run("show_session", ["packets", f"each={size}"], b"".join((good ^ 1 << bit).to_bytes(size, "big") for bit in bits))
+        # Its first two bytes are its version, which is tested in 4304 bytes.
+        stops = [b"BadPacket(BadVersion)" if size == 4304 and bit >= 8 * (size - 2) else stop for bit in bits]
+        check(f"as many sessions as bits of a packet of {size} bytes", len(found), len(bits))
+        check(f"a packet of {size} bytes with a bit flipped is refused",
+              next(((bit, line) for bit, line, stop in zip(bits, found, stops) if not line.startswith(stop + b" | |")), None), None)
+
+
+def play_cut_packets(rng):
+    """Of two packets that are cut off anywhere the whole ones are queued, and the bytes after them are counted."""
+    one = packet(1000, b"web1", b"HTTP", 2, b"timeout; 10s")
+    for length in sorted(rng.sample(range(2 * len(one)), 200)) + [2 * len(one)]:
+        whole, rest = divmod(length, len(one))
+        expected = [f"Truncated({rest})" if rest else "End", "|", *(f"Queued({number + 1})" for number in range(whole)), "|"]
+        found = run("show_session", ["packets"], (one + one)[:length])
+        check(f"{length} bytes of two packets", [line.startswith(" ".join(expected).encode()) for line in found], [True])
+
+
 def play_configurations(rng):
     """Each configuration is read, or refused by a fault."""
     with open("examples/gateway.toml", "rb") as file:
@@ -178,6 +201,8 @@ def main():
     given, found = play_lines(rng)
     play_sessions_of_lines(rng, given, found)
     play_sessions_of_packets(rng)
+    play_flipped_bits()
+    play_cut_packets(rng)
     play_configurations(rng)
     print(f"random bytes took {time.monotonic() - began:.0f} s")
     end_tests()

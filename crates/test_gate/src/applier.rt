@@ -1,160 +1,104 @@
-use gate_applier::{Applier, OpenCause, PrepareCause};
-use gate_model::{
-    Body, Kind, Moment, Numbered, ObjectId, ObjectLine, ObjectTable, Outcome, State, Text,
-};
+//! What an applier shows of its records.
+use crate::parts::{HTTP, WEB1, applier, applier_after};
+use gate_applier::Applier;
+use gate_model::{Moment, Outcome, State};
 use std::alloc::Global;
-use std::fmt::Display;
 
-const WEB1: ObjectId = ObjectId {
-    place: 0,
-    kind: Kind::Host,
-};
-
-fn line(alloc: Global, host: &str) -> Option<ObjectLine> {
-    let host = Text::copied(alloc, host.as_bytes()).ok()?;
-    Some(ObjectLine {
-        host,
-        service: None,
-        threshold: 300,
-    })
-}
-
-/// The host `web1` at place 0.
-fn table(alloc: Global) -> Option<ObjectTable> {
-    let mut lines = Vec::new(alloc);
-    lines.push(line(alloc, "web1")?).ok()?;
-    ObjectTable::build(alloc, lines).ok()
-}
-
-/// An applier that was opened at 1000.
-fn opened(alloc: Global, limit: u32) -> Option<Applier> {
-    Applier::open(alloc, table(alloc)?, Moment(1000), limit).ok()
-}
-
-/// A result of a host, with this output.
-fn result(alloc: Global, host: &str, code: i16, output: &[u8]) -> Option<Numbered> {
-    let host = Text::copied(alloc, host.as_bytes()).ok()?;
-    let output = Text::copied(alloc, output).ok()?;
-    let body = Body::Result {
-        host,
-        service: None,
-        code,
-        output,
-    };
-    Some(Numbered {
-        client: 1,
-        number: 7,
-        body,
-    })
-}
-
-fn applied(applier: Option<Applier>, item: Option<Numbered>, now: u32) -> Option<Applier> {
-    let Some(item) = item else {
-        drop(applier);
-        return None;
-    };
-    let Some(applier) = applier else {
-        drop(item);
-        return None;
-    };
-    match applier.prepare() {
-        Ok(ready) => Some(ready.apply(item, Moment(now)).0),
-        Err(fault) => {
-            drop(fault);
-            drop(item);
-            None
-        }
-    }
-}
-
-/// A result of `web1` at 1100, and one of an unknown host once the clock went back to 1090.
-fn applied_twice(alloc: Global, limit: u32) -> Option<Applier> {
-    let first = result(alloc, "web1", 1, b"");
-    let applier = applied(opened(alloc, limit), first, 1100);
-    applied(applier, result(alloc, "db1", 0, b""), 1090)
-}
-
-fn is_without_records(applier: Option<Applier>, limit: u32) -> bool {
-    let Some(applier) = applier else {
-        return false;
-    };
-    let shown = applier.opening() == Moment(1000)
+fn is_without_records(applier: &Applier, limit: u32) -> bool {
+    applier.opening() == Moment(1000)
         && applier.moment() == Moment(1000)
         && applier.limit() == limit
-        && applier.table().len() == 1
+        && applier.table().len() == 2
         && applier.records().is_empty()
-        && applier.state(WEB1) == State::Pending;
+        && applier.state(WEB1) == State::Pending
+}
+
+fn opens(alloc: Global, limit: u32) -> bool {
+    let applier = applier(alloc, limit);
+    let opens = match &applier {
+        Some(applier) => is_without_records(applier, limit),
+        None => false,
+    };
     drop(applier);
-    shown
+    opens
 }
 
 #[test]
 fn a_log_may_be_limited_to_1_to_1000000_records(rt: HostRuntime) {
-    for limit in [1, 1_000_000] {
-        assert!(rt;
-            is_without_records(opened(rt.alloc(), limit), limit),
-            "{limit}"
-        );
-    }
+    assert!(rt; opens(rt.alloc(), 1) && opens(rt.alloc(), 1_000_000));
 }
 
-fn open_cause(alloc: Global, limit: u32) -> Option<OpenCause> {
-    let fault = Applier::open(alloc, table(alloc)?, Moment(1000), limit).err()?;
-    let cause = fault.cause;
-    drop(fault);
-    Some(cause)
+// The clock goes back before the last two records.
+static DAY: [&str; 5] = [
+    "[1100] SCHEDULE_SVC_DOWNTIME;web1;HTTP;1200;1300;0;0;50;bob;reboot",
+    "[1250] PROCESS_SERVICE_CHECK_RESULT;web1;HTTP;2;timeout",
+    "[1255] ACKNOWLEDGE_SVC_PROBLEM;web1;HTTP;2;0;0;ann;on it",
+    "[1240] DISABLE_PASSIVE_SVC_CHECKS;web1;HTTP",
+    "[1240] DEL_HOST_COMMENT;9",
+];
+
+static OUTCOMES: [Outcome; 5] = [
+    Outcome::Accepted,
+    Outcome::Accepted,
+    Outcome::Accepted,
+    Outcome::Accepted,
+    Outcome::NoSuchComment,
+];
+
+fn shows_its_records(applier: &Applier) -> bool {
+    let is_in_order = match applier.records() {
+        [first, .., last] => first.moment == Moment(1100) && last.moment == Moment(1255),
+        _ => false,
+    };
+    is_in_order && applier.moment() == Moment(1255) && applier.outcomes() == OUTCOMES.as_slice()
 }
 
-#[test]
-fn other_limits_are_refused(rt: HostRuntime) {
-    for limit in [0, 1_000_001, u32::MAX] {
-        assert_eq!(rt;
-            open_cause(rt.alloc(), limit),
-            Some(OpenCause::BadLimit),
-            "{limit}"
-        );
-    }
+fn shows_its_objects(applier: &Applier) -> bool {
+    let is_last = match applier.last(HTTP) {
+        Some(last) => last.state == State::Critical && last.moment == Moment(1250),
+        None => false,
+    };
+    let is_sticky = match applier.ack(HTTP) {
+        Some(acknowledgement) => acknowledgement.sticky,
+        None => false,
+    };
+    is_last
+        && is_sticky
+        && applier.state(HTTP) == State::Critical
+        && !applier.passive(HTTP)
+        && !applier.stale(HTTP)
+        && applier.depth(HTTP) == 1
 }
 
-fn shows_both(applier: Option<Applier>) -> bool {
-    let Some(applier) = applier else {
+fn shows_its_downtime(applier: &Applier) -> bool {
+    let are_comments = match applier.comments() {
+        [first, second] => first.id == 1 && second.id == 2,
+        _ => false,
+    };
+    let mut downtimes = applier.downtimes();
+    let is_begun = match downtimes.next() {
+        Some(one) => one.scheduled().object == HTTP && one.begin() == Some(Moment(1250)),
+        None => false,
+    };
+    are_comments && is_begun && downtimes.next().is_none()
+}
+
+fn shows_the_day(alloc: Global) -> bool {
+    let Some(applier) = applier_after(alloc, 9, &DAY) else {
         return false;
     };
-    let shown = applier.moment() == Moment(1100)
-        && applier.outcomes() == [Outcome::Accepted, Outcome::NoSuchHost].as_slice()
-        && applier
-            .records()
-            .iter()
-            .all(|applied| applied.moment == Moment(1100))
-        && applier.state(WEB1) == State::Down;
+    let applier = match applier.prepare() {
+        Ok(ready) => ready.give_back(),
+        Err(fault) => fault.applier,
+    };
+    let shows_all = shows_its_records(&applier)
+        && shows_its_objects(&applier)
+        && shows_its_downtime(&applier);
     drop(applier);
-    shown
+    shows_all
 }
 
 #[test]
-fn a_clock_that_goes_back_records_at_the_latest_moment(rt: HostRuntime) {
-    assert!(rt; shows_both(applied_twice(rt.alloc(), 10)));
-}
-
-fn prepare_cause(applier: Option<Applier>) -> Option<PrepareCause> {
-    let fault = applier?.prepare().err()?;
-    let cause = fault.cause;
-    drop(fault);
-    Some(cause)
-}
-
-#[test]
-fn an_applier_at_its_limit_is_full(rt: HostRuntime) {
-    let cause = prepare_cause(applied_twice(rt.alloc(), 2));
-    assert_eq!(rt; cause, Some(PrepareCause::LogFull));
-}
-
-fn given_back(applier: Option<Applier>) -> Option<Applier> {
-    let ready = applier?.prepare().ok()?;
-    Some(ready.give_back())
-}
-
-#[test]
-fn an_applier_that_is_given_back_shows_what_it_showed(rt: HostRuntime) {
-    assert!(rt; shows_both(given_back(applied_twice(rt.alloc(), 10))));
+fn an_applier_shows_what_its_records_mean(rt: HostRuntime) {
+    assert!(rt; shows_the_day(rt.alloc()));
 }

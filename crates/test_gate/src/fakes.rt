@@ -1,11 +1,11 @@
-ghost use Rattle.std.specs.Prelude.{◌≡◌, [], IfSome};
+ghost use Rattle.std.specs.Prelude.{◌≡◌, IfSome};
 
+use crate::parts::packet_of;
 use gate_daemon::GatewaySettings;
 use gate_model::{Moment, ObjectTable};
-use gate_packet::{PACKET_SIZE, Packet, encode};
-use gate_queue::{Client, Gate, Taker, open};
+use gate_packet::{PACKET_SIZE, encode};
 use gate_reader::SessionLimits;
-use gate_worker::{Connections, Hold, Point, Wake, Watch, WorkerLimits};
+use gate_worker::{Connections, Wake, Watch, WorkerLimits};
 use std::alloc::Global;
 use std::sync::atomic::{AtomicU64, Ordering};
 use std::thread;
@@ -32,29 +32,6 @@ impl<'a> Connections for Sending<'a> {
         }
         self.connections -= 1;
         Some((self.bytes, Vec::new(self.alloc)))
-    }
-}
-
-// Counts how often a thread comes to one point, and keeps it at another until a count is reached.
-#[derive(Clone, Copy)]
-pub struct Keeping<'a> {
-    pub counted: Point,
-    pub count: &'a AtomicU64,
-    pub kept: Point,
-    pub other: &'a AtomicU64,
-    pub least: u64,
-    // How often the count was not reached in time.
-    pub late: &'a AtomicU64,
-}
-
-impl<'a> Hold for Keeping<'a> {
-    fn pass(&mut self, point: Point) {
-        if point == self.counted {
-            self.count.fetch_add(1, Ordering::SeqCst);
-        }
-        if point == self.kept && !is_reached(self.other, self.least) {
-            self.late.fetch_add(1, Ordering::SeqCst);
-        }
     }
 }
 
@@ -109,23 +86,10 @@ pub fn settings(alloc: Global, workers: u32) -> Option<GatewaySettings>
     })
 }
 
-// A gate of one client, its taker and its client.
-pub fn one_client(alloc: Global) -> Option<(Gate, Taker, Client)>
-    ensures taker { IfSome result (λ opened.
-        (opened.1.gate ≡ opened.0) × (opened.1.taken ≡ [])) }
-    ensures client { IfSome result (λ opened.
-        (opened.2.gate ≡ opened.0) × (opened.2.queued ≡ [])) }
-{
-    let (gate, taker, _, mut clients) = open(alloc, 1, 16).ok()?;
-    let client = clients.pop()?;
-    Some((gate, taker, client))
-}
-
 // A packet that an agent may send.
 pub fn packet(alloc: Global) -> Option<[u8; PACKET_SIZE]> {
-    let host = b"web1".to_vec(alloc).ok()?;
-    let service = b"HTTP".to_vec(alloc).ok()?;
-    let output = b"timeout".to_vec(alloc).ok()?;
-    let packet = Packet::new(Moment(1000), 2, host, service, output).ok()?;
-    Some(encode(&packet))
+    let packet = packet_of(alloc, 2, [b"web1", b"HTTP", b"timeout"])?;
+    let bytes = encode(&packet);
+    drop(packet);
+    Some(bytes)
 }

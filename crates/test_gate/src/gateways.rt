@@ -1,359 +1,247 @@
-ghost use Rattle.std.specs.Prelude.{◌≡◌};
+//! Whole gateways on threads.
+ghost use Rattle.std.specs.Prelude.{◌≡◌, ◌≤◌, IfSome, vec_len};
 
-use crate::fakes::{AlwaysAt, Keeping, NoWake, Sending, packet, settings};
-use gate_daemon::{Endpoint, Endpoints, Finished, GatewayFault, GatewaySettings, run_gateway};
-use gate_reader::{Answer, Report};
-use gate_worker::Point;
+use crate::fakes::{AlwaysAt, NoWake, Sending, is_reached, packet, settings};
+use gate_daemon::{Endpoint, Endpoints, Finished, GatewayFault, run_gateway};
+use gate_worker::{Hold, Point};
 use std::alloc::Global;
 use std::sync::Wait;
 use std::sync::atomic::{AtomicU64, Ordering};
 use std::thread::Threads;
 use std::time::Clock;
 
-// The counts that the holds of a run share.
+// How often the threads that are counted have passed each point, and how often a thread was kept for
+// all of its turns.
 #[derive(Drop)]
-struct Counts {
-    first: AtomicU64,
-    second: AtomicU64,
-    unused: AtomicU64,
+struct Met {
+    sessions: AtomicU64,
+    answered: AtomicU64,
+    applied: AtomicU64,
     late: AtomicU64,
 }
 
-fn no_counts() -> Counts {
-    Counts {
-        first: AtomicU64::new(0),
-        second: AtomicU64::new(0),
-        unused: AtomicU64::new(0),
+fn nobody_met() -> Met {
+    Met {
+        sessions: AtomicU64::new(0),
+        answered: AtomicU64::new(0),
+        applied: AtomicU64::new(0),
         late: AtomicU64::new(0),
     }
 }
 
-// What a gateway left: how many records, how many clients were joined, and whose the first record
-// is; 0 where there is none. And how many packets were answered that they are queued.
-#[derive(Clone, Copy, Debug, PartialEq, Eq)]
-pub struct Left {
-    pub records: usize,
-    clients: usize,
-    first: u32,
-    queued: usize,
+// Counts the points that a thread passes, if it is one that is counted, and keeps it at one of them
+// until each count is reached.
+#[derive(Clone, Copy)]
+struct Meeting<'a> {
+    met: &'a Met,
+    is_counted: bool,
+    kept: Point,
+    sessions: u64,
+    answered: u64,
+    applied: u64,
 }
 
-// How many packets of a worker's first connection are queued.
-fn queued_by(worker: Option<&(u32, Vec<Report>)>) -> usize {
-    let Some((_, reports)) = worker else {
-        return 0;
-    };
-    let Some(report) = reports.first() else {
-        return 0;
-    };
-    let answers = report.answers.as_slice().iter();
-    answers
-        .filter(|answer| matches!(answer, Answer::Queued(_)))
-        .count()
-}
-
-pub fn left_by(finished: Result<Finished, GatewayFault>) -> Option<Left> {
-    let finished = finished.ok()?;
-    let records = finished.closed.applier.records();
-    let left = Left {
-        records: records.len(),
-        clients: finished.reports.len(),
-        first: match records.first() {
-            Some(record) => record.item.client,
-            None => 0,
-        },
-        queued: queued_by(finished.reports.get(1)),
-    };
-    drop(finished);
-    Some(left)
-}
-
-// Two records, the first of them of the agents' worker.
-const BOTH_IN_TURN: Left = Left {
-    records: 2,
-    clients: 2,
-    first: 1,
-    queued: 1,
-};
-
-// Runs one agents' worker and an operator, each with its connections and its hold.
-fn run_both<'a, R: Threads + Wait + Clock + Sync>(
-    rt: &R,
-    alloc: Global,
-    settings: GatewaySettings,
-    packets: Sending<'a>,
-    lines: Sending<'a>,
-    holds: (Keeping<'a>, Keeping<'a>, Keeping<'a>),
-) -> Option<Left>
-    requires { settings.workers ≡ 1 }
-{
-    let (worker, operator, applier) = holds;
-    let mut agents = Vec::with_capacity(alloc, 1).ok()?;
-    agents.push_reserved(Endpoint {
-        connections: packets,
-        hold: worker,
-    });
-    let endpoints = Endpoints {
-        agents,
-        operator: Endpoint {
-            connections: lines,
-            hold: operator,
-        },
-        pages: none(alloc),
-        applier,
-    };
-    left_by(run_gateway(rt, alloc, settings, endpoints, &AlwaysAt(1000), &NoWake))
-}
-
-// No connections.
-fn none<'a>(alloc: Global) -> Sending<'a> {
-    Sending {
-        alloc,
-        connections: 0,
-        bytes: &[],
+impl<'a> Hold for Meeting<'a> {
+    fn pass(&mut self, point: Point) {
+        let met = self.met;
+        if self.is_counted {
+            let count = match point {
+                Point::Session => &met.sessions,
+                Point::Answered => &met.answered,
+                Point::BeforeApply => &met.applied,
+            };
+            count.fetch_add(1, Ordering::SeqCst);
+        }
+        if point == self.kept
+            && !(is_reached(&met.sessions, self.sessions)
+                && is_reached(&met.answered, self.answered)
+                && is_reached(&met.applied, self.applied))
+        {
+            met.late.fetch_add(1, Ordering::SeqCst);
+        }
     }
 }
 
-// An agent that connects once.
-fn once<'a>(alloc: Global, bytes: &'a [u8]) -> Sending<'a> {
+// A thread that waits for nothing and isn't counted.
+fn free<'a>(met: &'a Met) -> Meeting<'a> {
+    Meeting {
+        met,
+        is_counted: false,
+        kept: Point::Session,
+        sessions: 0,
+        answered: 0,
+        applied: 0,
+    }
+}
+
+// One connection that sends these bytes, or none where there are none.
+fn sending<'a>(alloc: Global, bytes: &'a [u8]) -> Sending<'a> {
     Sending {
         alloc,
-        connections: 1,
+        connections: u32::from(!bytes.is_empty()),
         bytes,
     }
 }
 
-const COMMENT: &[u8] = b"[1] ADD_HOST_COMMENT;web1;0;ann;hi\n";
-
-const SHUTDOWN: &[u8] = b"[1] ADD_HOST_COMMENT;web1;0;ann;hi\n[1] SHUTDOWN_PROGRAM\n";
-
-// A hold that counts one point and keeps a thread at another until a count is reached.
-fn keeping<'a>(
-    counted: (Point, &'a AtomicU64),
-    kept: (Point, &'a AtomicU64),
-    late: &'a AtomicU64,
-) -> Keeping<'a> {
-    Keeping {
-        counted: counted.0,
-        count: counted.1,
-        kept: kept.0,
-        other: kept.1,
-        least: 1,
-        late,
+// So many agents' workers, each with a connection that sends these packets.
+fn agents<'a>(
+    alloc: Global,
+    workers: u32,
+    packets: &'a [u8],
+    hold: Meeting<'a>,
+) -> Option<Vec<Endpoint<Sending<'a>, Meeting<'a>>>>
+    ensures { IfSome result (λ agents. vec_len agents ≡ workers) }
+{
+    let mut agents = Vec::new(alloc);
+    for _ in 0..workers {
+        agents
+            .push(Endpoint {
+                connections: sending(alloc, packets),
+                hold,
+            })
+            .ok()?;
+    }
+    if agents.len() == workers as usize {
+        Some(agents)
+    } else {
+        None
     }
 }
 
-// A hold that keeps nothing.
-fn free<'a>(counts: &'a Counts) -> Keeping<'a> {
-    Keeping {
-        counted: Point::BeforeApply,
-        count: &counts.unused,
-        kept: Point::BeforeApply,
-        other: &counts.unused,
-        least: 0,
-        late: &counts.late,
+// How many records a gateway left, which client's the first one is, and of each of the first four
+// clients the numbers of its records, as digits.
+pub fn left_by(finished: Result<Finished, GatewayFault>) -> Option<(usize, u32, [u64; 4])> {
+    let finished = finished.ok()?;
+    let mut numbers = [0_u64; 4];
+    let records = finished.closed.applier.records();
+    for record in records {
+        if let Some(digits) = numbers.get_mut((record.item.client as usize).wrapping_sub(1)) {
+            *digits = digits.wrapping_mul(10).wrapping_add(record.item.number);
+        }
     }
+    let first = match records.first() {
+        Some(record) => record.item.client,
+        None => 0,
+    };
+    let left = (records.len(), first, numbers);
+    drop(finished);
+    Some(left)
 }
 
-// The operator shuts down once the packet is answered.
-fn is_applied<R: Threads + Wait + Clock + Sync>(rt: &R, alloc: Global) -> Option<bool> {
-    let counts = no_counts();
-    let bytes = packet(alloc)?;
-    let worker = keeping(
-        (Point::Answered, &counts.first),
-        (Point::Answered, &counts.first),
-        &counts.late,
-    );
-    let operator = keeping(
-        (Point::Session, &counts.unused),
-        (Point::Session, &counts.first),
-        &counts.late,
-    );
-    let left = run_both(
-        rt,
-        alloc,
-        settings(alloc, 1)?,
-        once(alloc, &bytes),
-        once(alloc, SHUTDOWN),
-        (worker, operator, free(&counts)),
-    )?;
-    Some(left == BOTH_IN_TURN && counts.late.load(Ordering::SeqCst) == 0)
+// Runs agents' workers beside an operator who sends these lines, if there are any: what is left. The
+// holds are those of each agents' worker, of the operator's and of the applier.
+fn run<'a, R: Threads + Wait + Clock + Sync>(
+    rt: &R,
+    alloc: Global,
+    workers: u32,
+    packets: &'a [u8],
+    lines: &'a [u8],
+    holds: (Meeting<'a>, Meeting<'a>, Meeting<'a>),
+) -> Option<(usize, u32, [u64; 4])>
+    requires { workers ≤ 63 }
+{
+    let agents = agents(alloc, workers, packets, holds.0)?;
+    let endpoints = Endpoints {
+        agents,
+        operator: Endpoint {
+            connections: sending(alloc, lines),
+            hold: holds.1,
+        },
+        pages: sending(alloc, &[]),
+        applier: holds.2,
+    };
+    let settings = settings(alloc, workers)?;
+    left_by(run_gateway(rt, alloc, settings, endpoints, &AlwaysAt(1000), &NoWake))
+}
+
+fn two_packets(alloc: Global) -> Option<Vec<u8>> {
+    let one = packet(alloc)?;
+    let mut both = one.to_vec(alloc).ok()?;
+    both.extend_from_slice(&one).ok()?;
+    Some(both)
+}
+
+// Three workers, each kept at its session of two packets until all have come to theirs; the operator
+// shuts down once all have answered.
+fn meet<R: Threads + Wait + Clock + Sync>(
+    rt: &R,
+    alloc: Global,
+    met: &Met,
+) -> Option<(usize, [u64; 4])> {
+    let both = two_packets(alloc)?;
+    let worker = Meeting {
+        is_counted: true,
+        sessions: 3,
+        ..free(met)
+    };
+    let operator = Meeting {
+        answered: 3,
+        ..free(met)
+    };
+    let holds = (worker, operator, free(met));
+    let left = run(rt, alloc, 3, &both, b"[1] SHUTDOWN_PROGRAM\n", holds);
+    drop(both);
+    let (records, _, numbers) = left?;
+    Some((records, numbers))
 }
 
 #[test]
-fn what_was_queued_is_applied(rt: HostRuntime) {
-    assert!(rt; is_applied(&rt, rt.alloc()).unwrap_or(false));
-}
-
-// Each worker is kept at its session until the other has come to its own.
-fn run_at_once<R: Threads + Wait + Clock + Sync>(rt: &R, alloc: Global) -> Option<bool> {
-    let counts = no_counts();
-    let bytes = packet(alloc)?;
-    let worker = keeping(
-        (Point::Session, &counts.first),
-        (Point::Session, &counts.second),
-        &counts.late,
-    );
-    let operator = keeping(
-        (Point::Session, &counts.second),
-        (Point::Session, &counts.first),
-        &counts.late,
-    );
-    run_both(
-        rt,
-        alloc,
-        settings(alloc, 1)?,
-        once(alloc, &bytes),
-        once(alloc, SHUTDOWN),
-        (worker, operator, free(&counts)),
-    )?;
-    Some(counts.late.load(Ordering::SeqCst) == 0)
-}
-
-#[test]
-fn workers_run_at_once(rt: HostRuntime) {
-    assert!(rt; run_at_once(&rt, rt.alloc()).unwrap_or(false));
+fn three_workers_serve_at_once(rt: HostRuntime) {
+    let met = nobody_met();
+    // Of each agents' worker item 1 and then item 2, of the operator none.
+    assert!(rt; meet(&rt, rt.alloc(), &met) == Some((6, [12, 12, 12, 0])));
+    assert!(rt; met.late.load(Ordering::SeqCst) == 0);
 }
 
 // The operator waits until the packet's item is about to be applied, and that waits until the
 // operator's lines are answered.
-fn applies_beside_workers<R: Threads + Wait + Clock + Sync>(rt: &R, alloc: Global) -> Option<bool> {
-    let counts = no_counts();
+fn apply_beside_workers<R: Threads + Wait + Clock + Sync>(
+    rt: &R,
+    alloc: Global,
+    met: &Met,
+) -> Option<(usize, u32, [u64; 4])> {
+    let operator = Meeting {
+        is_counted: true,
+        applied: 1,
+        ..free(met)
+    };
+    let applier = Meeting {
+        is_counted: true,
+        kept: Point::BeforeApply,
+        answered: 1,
+        ..free(met)
+    };
     let bytes = packet(alloc)?;
-    let operator = keeping(
-        (Point::Answered, &counts.second),
-        (Point::Session, &counts.first),
-        &counts.late,
-    );
-    let applier = keeping(
-        (Point::BeforeApply, &counts.first),
-        (Point::BeforeApply, &counts.second),
-        &counts.late,
-    );
-    let left = run_both(
-        rt,
-        alloc,
-        settings(alloc, 1)?,
-        once(alloc, &bytes),
-        once(alloc, SHUTDOWN),
-        (free(&counts), operator, applier),
-    )?;
-    Some(left == BOTH_IN_TURN && counts.late.load(Ordering::SeqCst) == 0)
+    let lines = b"[1] ADD_HOST_COMMENT;web1;0;ann;hi\n[1] SHUTDOWN_PROGRAM\n";
+    run(rt, alloc, 1, &bytes, lines, (free(met), operator, applier))
 }
 
 #[test]
 fn a_line_is_answered_while_an_item_is_applied(rt: HostRuntime) {
-    assert!(rt; applies_beside_workers(&rt, rt.alloc()).unwrap_or(false));
-}
-
-// One connection is served for each agents' worker, and the operator connects twice.
-fn serves_each_operator<R: Threads + Wait + Clock + Sync>(rt: &R, alloc: Global) -> Option<Left> {
-    let counts = no_counts();
-    let mut settings = settings(alloc, 1)?;
-    settings.worker.sessions = 1;
-    let lines = Sending {
-        alloc,
-        connections: 2,
-        bytes: COMMENT,
-    };
-    let nothing = once(alloc, b"");
-    run_both(
-        rt,
-        alloc,
-        settings,
-        nothing,
-        lines,
-        (free(&counts), free(&counts), free(&counts)),
-    )
-}
-
-#[test]
-fn an_operator_is_served_beyond_the_sessions_of_a_worker(rt: HostRuntime) {
-    let left = Left {
-        records: 2,
-        clients: 2,
-        first: 2,
-        queued: 0,
-    };
-    assert!(rt; serves_each_operator(&rt, rt.alloc()) == Some(left));
+    let met = nobody_met();
+    let left = apply_beside_workers(&rt, rt.alloc(), &met);
+    assert!(rt; left == Some((2, 1, [1, 1, 0, 0])));
+    assert!(rt; met.late.load(Ordering::SeqCst) == 0);
 }
 
 // The operator never connects, so its worker ends at once. The agents' worker is kept at its
 // session for all of its turns.
-fn serves_on<R: Threads + Wait + Clock + Sync>(rt: &R, alloc: Global) -> Option<Left> {
-    let counts = no_counts();
-    let bytes = packet(alloc)?;
-    let worker = keeping(
-        (Point::Answered, &counts.first),
-        (Point::Session, &counts.unused),
-        &counts.late,
-    );
-    let lines = Sending {
-        alloc,
-        connections: 0,
-        bytes: &[],
+fn serve_on<R: Threads + Wait + Clock + Sync>(
+    rt: &R,
+    alloc: Global,
+    met: &Met,
+) -> Option<(usize, u32, [u64; 4])> {
+    let worker = Meeting {
+        answered: 1,
+        ..free(met)
     };
-    run_both(
-        rt,
-        alloc,
-        settings(alloc, 1)?,
-        once(alloc, &bytes),
-        lines,
-        (worker, free(&counts), free(&counts)),
-    )
+    let bytes = packet(alloc)?;
+    run(rt, alloc, 1, &bytes, b"", (worker, free(met), free(met)))
 }
 
 #[test]
 fn packets_are_queued_after_the_operators_worker_has_ended(rt: HostRuntime) {
-    let left = Left {
-        records: 1,
-        clients: 2,
-        first: 1,
-        queued: 1,
-    };
-    assert!(rt; serves_on(&rt, rt.alloc()) == Some(left));
-}
-
-const BURST: usize = 50;
-
-// Packets for a queue with room for one. The operator shuts down once they are answered.
-fn queues_a_burst<R: Threads + Wait + Clock + Sync>(rt: &R, alloc: Global) -> Option<Left> {
-    let counts = no_counts();
-    let one = packet(alloc)?;
-    let mut bytes = Vec::new(alloc);
-    for _ in 0..BURST {
-        bytes.extend_from_slice(&one).ok()?;
-    }
-    let mut settings = settings(alloc, 1)?;
-    settings.capacity = 1;
-    settings.worker.session.items = 100;
-    let worker = keeping(
-        (Point::Answered, &counts.first),
-        (Point::Answered, &counts.first),
-        &counts.late,
-    );
-    let operator = keeping(
-        (Point::Session, &counts.unused),
-        (Point::Session, &counts.first),
-        &counts.late,
-    );
-    run_both(
-        rt,
-        alloc,
-        settings,
-        once(alloc, &bytes),
-        once(alloc, b"[1] SHUTDOWN_PROGRAM\n"),
-        (worker, operator, free(&counts)),
-    )
-}
-
-#[test]
-fn a_burst_waits_for_a_queue_of_one_item(rt: HostRuntime) {
-    let left = Left {
-        records: BURST,
-        clients: 2,
-        first: 1,
-        queued: BURST,
-    };
-    assert!(rt; queues_a_burst(&rt, rt.alloc()) == Some(left));
+    let met = nobody_met();
+    assert!(rt; serve_on(&rt, rt.alloc(), &met) == Some((1, 1, [1, 0, 0, 0])));
+    assert!(rt; met.late.load(Ordering::SeqCst) == 1);
 }

@@ -25,8 +25,6 @@ mod grammar;
 #[cfg(test)]
 mod machine;
 #[cfg(test)]
-mod many_workers;
-#[cfg(test)]
 mod model;
 #[cfg(test)]
 mod objects;
@@ -43,17 +41,13 @@ mod racing;
 #[cfg(test)]
 mod replay;
 #[cfg(test)]
-mod services;
-#[cfg(test)]
-mod sessions;
-#[cfg(test)]
-mod short_packet;
-#[cfg(test)]
 mod sockets;
 #[cfg(test)]
 mod solo;
 #[cfg(test)]
 mod submitting;
+#[cfg(test)]
+mod texts;
 #[cfg(test)]
 mod waking;
 #[cfg(test)]

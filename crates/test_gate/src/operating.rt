@@ -6,45 +6,44 @@ use gate_queue::{CloseFault, GateClient, GateOperator};
 use std::alloc::Global;
 use std::sync::Wait;
 
-// Submits a body and looks: the answer, what was found, the client's count and its number.
-fn calls_of_a_client(client: &mut impl Submit) -> (Answer, Option<Moment>, u64, u32) {
-    let answer = answer_of(client.submit(body(5)));
-    let found = client.look();
-    (answer, found, client.count(), client.number())
-}
-
-// Closes twice.
-fn closes_of_an_operator(
-    operator: &mut impl Operator,
-) -> (Result<Moment, CloseFault>, Result<Moment, CloseFault>) {
-    (operator.close(Moment(1500)), operator.close(Moment(1600)))
+// Whether a client is answered so to a body, and then finds this close, with its number and as many
+// queued items.
+fn is_answered(
+    client: &mut impl Submit,
+    answer: Answer,
+    found: Option<Moment>,
+    number_and_count: (u32, u64),
+) -> bool {
+    answer_of(client.submit(body(5))) == answer
+        && client.look() == found
+        && (client.number(), client.count()) == number_and_count
 }
 
 // Whether a client is answered as it has to be before and after an operator of its gate closes it,
 // and the operator after it.
 fn follow_the_close(client: &mut impl Submit, operator: &mut impl Operator) -> bool {
-    let open = calls_of_a_client(client);
-    let closes = closes_of_an_operator(operator);
-    let closing = (calls_of_a_client(client), calls_of_a_client(operator));
-    open == (Answer::Queued(1), None, 1, 1)
-        && closes
-            == (
-                Ok(Moment(1500)),
-                Err(CloseFault::AlreadyClosing(Moment(1500))),
-            )
-        && closing
-            == (
-                (Answer::Closing(1500, 5), Some(Moment(1500)), 1, 1),
-                (Answer::Closing(1500, 5), Some(Moment(1500)), 0, 2),
-            )
+    let first = Moment(1500);
+    is_answered(client, Answer::Queued(1), None, (1, 1))
+        && operator.close(first) == Ok(first)
+        && operator.close(Moment(1600)) == Err(CloseFault::AlreadyClosing(first))
+        && is_answered(client, Answer::Closing(1500, 5), Some(first), (1, 1))
+        && is_answered(operator, Answer::Closing(1500, 5), Some(first), (2, 0))
 }
 
-fn is_used_through_the_traits<R: Wait>(rt: &R, alloc: Global) -> bool {
+fn are_used_through_the_traits<R: Wait>(rt: &R, alloc: Global) -> bool {
     match two_clients(alloc, 9, 9) {
-        Some((gate, _, closer, one, two)) => {
+        Some((gate, taker, closer, one, two)) => {
+            drop(taker);
             let mut client = GateClient::new(rt, &gate, one);
             let mut operator = GateOperator::new(rt, alloc, &gate, two, closer);
-            follow_the_close(&mut client, &mut operator)
+            let follow = follow_the_close(&mut client, &mut operator);
+            let one = client.into_parts();
+            let (two, closer) = operator.into_parts();
+            let numbers = (one.number(), two.number());
+            drop(one);
+            drop(two);
+            drop(closer);
+            follow && numbers == (1, 2)
         }
         None => false,
     }
@@ -52,22 +51,5 @@ fn is_used_through_the_traits<R: Wait>(rt: &R, alloc: Global) -> bool {
 
 #[test]
 fn a_client_and_an_operator_use_their_gate_through_the_traits(rt: HostRuntime) {
-    assert!(rt; is_used_through_the_traits(&rt, rt.alloc()));
-}
-
-// The numbers of a client and of an operator's client that were joined to their gate and returned.
-fn numbers_of_returned<R: Wait>(rt: &R, alloc: Global) -> Option<(u32, u32)> {
-    match two_clients(alloc, 9, 9) {
-        Some((gate, _, closer, one, two)) => {
-            let one = GateClient::new(rt, &gate, one).into_parts();
-            let (two, _) = GateOperator::new(rt, alloc, &gate, two, closer).into_parts();
-            Some((one.number(), two.number()))
-        }
-        None => None,
-    }
-}
-
-#[test]
-fn a_client_is_returned_from_its_gate(rt: HostRuntime) {
-    assert!(rt; numbers_of_returned(&rt, rt.alloc()) == Some((1, 2)));
+    assert!(rt; are_used_through_the_traits(&rt, rt.alloc()));
 }

@@ -1,13 +1,96 @@
-//! What the tests share: bodies, answers as plain numbers, and gates with their parts.
-ghost use Rattle.std.specs.Prelude.{◌≡◌, [], IfSome};
+//! What the tests share: objects, packets, appliers, bodies, answers as plain numbers, and gates with
+//! their parts.
+ghost use Rattle.std.specs.Prelude.{◌≡◌, [], length, IfSome, None};
+ghost use Rattle.gate_queue.specs.Client.{client_state};
+ghost use Rattle.gate_queue.specs.Knowledge.{close_knowledge};
+ghost use Rattle.gate_queue.specs.Taker.{taker_state};
 ghost use Rattle.gate_close.specs.DrainedClose.{items_of_records};
 
 use gate_applier::{Applier, Ready};
-use gate_model::{Body, Kind, Moment, Numbered, ObjectTable};
-use gate_queue::{Client, CloseFault, Closer, Gate, Refused, Taker, open_with};
+use gate_grammar::read_line;
+use gate_model::{Body, Kind, Moment, Numbered, ObjectId, ObjectLine, ObjectTable, Text};
+use gate_packet::Packet;
+use gate_queue::{Client, CloseFault, Closer, Gate, Refused, Taker, open, open_with};
 use std::alloc::Global;
 use std::sync::Wait;
 use std::thread;
+
+/// The host of `table`.
+pub(crate) const WEB1: ObjectId = ObjectId {
+    place: 0,
+    kind: Kind::Host,
+};
+
+/// Its service.
+pub(crate) const HTTP: ObjectId = ObjectId {
+    place: 1,
+    kind: Kind::Service,
+};
+
+fn line(alloc: Global, service: Option<Text>) -> Option<ObjectLine> {
+    let host = Text::copied(alloc, b"web1").ok()?;
+    Some(ObjectLine {
+        host,
+        service,
+        threshold: 300,
+    })
+}
+
+/// The host `web1` and its service `HTTP`, each fresh for 300 seconds.
+pub(crate) fn table(alloc: Global) -> Option<ObjectTable>
+    ensures { IfSome result (λ table. length table ≡ 2) }
+{
+    let service = Text::copied(alloc, b"HTTP").ok()?;
+    let service_line = line(alloc, Some(service))?;
+    let host_line = line(alloc, None)?;
+    let lines = vec![in alloc; host_line, service_line].ok()?;
+    ObjectTable::build(alloc, lines).ok()
+}
+
+/// An applier of `table`, opened at 1000.
+pub(crate) fn applier(alloc: Global, limit: u32) -> Option<Applier>
+    ensures { IfSome result (λ applier. applier.records ≡ []) }
+{
+    Applier::open(alloc, table(alloc)?, Moment(1000), limit).ok()
+}
+
+// Applies a command at the time that its line names.
+fn applied(alloc: Global, applier: Applier, line: &str) -> Option<Applier> {
+    let Ok(command) = read_line(alloc, line.as_bytes()) else {
+        drop(applier);
+        return None;
+    };
+    let item = Numbered {
+        client: 1,
+        number: 1,
+        body: command.body,
+    };
+    match applier.prepare() {
+        Ok(ready) => Some(ready.apply(item, command.entered).0),
+        Err(fault) => {
+            drop(fault);
+            drop(item);
+            None
+        }
+    }
+}
+
+/// The same applier after these commands, each applied at the time that its line names.
+pub(crate) fn applier_after(alloc: Global, limit: u32, lines: &[&str]) -> Option<Applier> {
+    let mut applier = applier(alloc, limit)?;
+    for line in lines {
+        applier = applied(alloc, applier, line)?;
+    }
+    Some(applier)
+}
+
+/// A packet of 1000 with this host, service and output.
+pub(crate) fn packet_of(alloc: Global, code: i16, texts: [&[u8]; 3]) -> Option<Packet> {
+    let host = texts[0].to_vec(alloc).ok()?;
+    let service = texts[1].to_vec(alloc).ok()?;
+    let output = texts[2].to_vec(alloc).ok()?;
+    Packet::new(Moment(1000), code, host, service, output).ok()
+}
 
 /// A body with this id.
 pub(crate) fn body(id: u32) -> Body {
@@ -58,12 +141,8 @@ pub(crate) fn submitted<R: Wait>(rt: &R, gate: &Gate, client: &mut Client, id: u
     answer_of(client.submit(rt, gate, body(id)))
 }
 
-fn numbers_in(item: &Numbered) -> (u32, u64, u32) {
-    (item.client, item.number, id_in(&item.body))
-}
-
 fn numbers_of(item: Numbered) -> (u32, u64, u32) {
-    let numbers = numbers_in(&item);
+    let numbers = (item.client, item.number, id_in(&item.body));
     drop(item);
     numbers
 }
@@ -96,30 +175,35 @@ pub(crate) fn closed(
     }
 }
 
+/// A gate of one client.
+pub(crate) fn one_client(alloc: Global, capacity: usize) -> Option<(Gate, Taker, Client)>
+    ensures taker { IfSome result (λ opened.
+        (opened.1.gate ≡ opened.0) × (opened.1.taken ≡ [])) }
+    ensures client { IfSome result (λ opened.
+        (opened.2.gate ≡ opened.0) × (opened.2.queued ≡ [])) }
+{
+    let (gate, taker, _, mut clients) = open(alloc, 1, capacity).ok()?;
+    let client = clients.pop().unwrap();
+    Some((gate, taker, client))
+}
+
 /// A gate of two clients.
 pub(crate) fn two_clients(
     alloc: Global,
     capacity: usize,
     quota: u32,
 ) -> Option<(Gate, Taker, Closer, Client, Client)>
-    ensures taker { IfSome result (λ opened.
-        (opened.1.gate ≡ opened.0) × (opened.1.taken ≡ [])) }
-    ensures closer { IfSome result (λ opened. opened.2.cell ≡ opened.0.cell) }
-    ensures one { IfSome result (λ opened. opened.3.gate ≡ opened.0) }
-    ensures two { IfSome result (λ opened. opened.4.gate ≡ opened.0) }
+    ensures clients { IfSome result (λ opened. opened.0.limits.clients ≡ 2) }
+    ensures taker { IfSome result (λ opened. opened.1 ≡ taker_state opened.0 [] [] None) }
+    ensures closer { IfSome result (λ opened.
+        opened.2 ≡ close_knowledge opened.0.cell None) }
+    ensures one { IfSome result (λ opened. opened.3 ≡ client_state opened.0 1 [] None) }
+    ensures two { IfSome result (λ opened. opened.4 ≡ client_state opened.0 2 [] None) }
 {
     let (gate, taker, closer, mut clients) = open_with(alloc, 2, capacity, quota).ok()?;
-    let two = clients.pop()?;
-    let one = clients.pop()?;
+    let two = clients.pop().unwrap();
+    let one = clients.pop().unwrap();
     Some((gate, taker, closer, one, two))
-}
-
-/// An applier of no objects, opened at 1000.
-pub(crate) fn applier(alloc: Global, limit: u32) -> Option<Applier>
-    ensures { IfSome result (λ applier. applier.records ≡ []) }
-{
-    let table = ObjectTable::build(alloc, Vec::new(alloc)).ok()?;
-    Applier::open(alloc, table, Moment(1000), limit).ok()
 }
 
 // Applies the next item, if there is one.

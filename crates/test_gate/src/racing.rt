@@ -331,17 +331,10 @@ fn is_drained<R: Threads + Wait + Sync>(
     }
 }
 
+// Closed once all attempts were made, and amid them.
 #[test]
-fn what_four_clients_queued_is_applied_by_a_close_after_all_attempts(rt: HostRuntime) {
-    assert!(rt; is_drained(&rt, rt.alloc(), 4, (1000, 4000)));
-}
-
-#[test]
-fn what_sixty_four_clients_queued_is_applied_by_a_close_after_all_attempts(rt: HostRuntime) {
-    assert!(rt; is_drained(&rt, rt.alloc(), 64, (50, 3200)));
-}
-
-#[test]
-fn what_four_clients_queued_is_applied_by_a_close_amid_attempts(rt: HostRuntime) {
-    assert!(rt; is_drained(&rt, rt.alloc(), 4, (1000, 1500)));
+fn what_was_queued_is_applied_whenever_the_gate_is_closed(rt: HostRuntime) {
+    for (clients, attempts) in [(4, (1000, 4000)), (64, (50, 3200)), (4, (1000, 1500))] {
+        assert!(rt; is_drained(&rt, rt.alloc(), clients, attempts), "{clients}");
+    }
 }

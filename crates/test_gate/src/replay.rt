@@ -92,15 +92,6 @@ impl Sink for FailsToFlush {
     }
 }
 
-fn fails_after(alloc: Global, left: usize, kind: ErrorKind) -> FailsOnce {
-    FailsOnce {
-        left,
-        failed: false,
-        kind,
-        taken: Vec::new(alloc),
-    }
-}
-
 /// Whether the replay of this input ends so.
 fn ends<R: Wait, I: Read>(
     rt: &R,
@@ -139,24 +130,15 @@ fn stops_at<R: Wait>(
     kind: ErrorKind,
     reported: &[u8],
 ) -> bool {
-    let mut output = fails_after(alloc, offset, kind);
+    let mut output = FailsOnce {
+        left: offset,
+        failed: false,
+        kind,
+        taken: Vec::new(alloc),
+    };
     ends_to(rt, alloc, &mut output, 3, reported)
         && output.taken.len() == offset
         && PRINTED.starts_with(&output.taken)
-}
-
-/// Whether the status is this one where the errors can't be written.
-fn ends_unreported<R: Wait>(rt: &R, alloc: Global, script: &[u8], status: u8) -> bool {
-    let mut input = script;
-    let mut output = Vec::new(alloc);
-    let mut errors = fails_after(alloc, 0, ErrorKind::BrokenPipe);
-    run_replay(rt, alloc, &mut input, &mut output, &mut errors) == status
-}
-
-#[test]
-fn a_script_is_replayed(rt: HostRuntime) {
-    let mut input = SCRIPT;
-    assert!(rt; ends(&rt, rt.alloc(), &mut input, 0, PRINTED, b""));
 }
 
 /// A script with a stale packet, a faulty line, a page and two closes.
@@ -190,7 +172,7 @@ fn an_interrupted_read_is_made_again(rt: HostRuntime) {
 }
 
 #[rattlefmt::skip]
-const LENGTHS: [(u64, Option<ErrorKind>, u8, &[u8]); 6] = [
+static LENGTHS: [(u64, Option<ErrorKind>, u8, &[u8]); 6] = [
     // left    fails                          status  reported
     (1_048_576, None,                         2, b"nscagate: script line 1\n"),
     (1_048_577, None,                         2, b"nscagate: script too long\n"),
@@ -202,10 +184,13 @@ const LENGTHS: [(u64, Option<ErrorKind>, u8, &[u8]); 6] = [
 
 #[test]
 fn a_long_or_unreadable_input_is_reported_by_its_cause(rt: HostRuntime) {
-    for (left, fails, status, reported) in LENGTHS {
-        let mut input = LineEnds { left, fails };
+    for (left, fails, status, reported) in LENGTHS.iter() {
+        let mut input = LineEnds {
+            left: *left,
+            fails: *fails,
+        };
         assert!(&rt;
-            ends(&rt, rt.alloc(), &mut input, status, b"", reported),
+            ends(&rt, rt.alloc(), &mut input, *status, b"", reported),
             "{left}"
         );
     }
@@ -226,42 +211,15 @@ fn a_failed_flush_is_a_failed_output(rt: HostRuntime) {
 
 #[test]
 fn nothing_is_written_after_a_failed_write(rt: HostRuntime) {
+    let (broken, starved) = (ErrorKind::BrokenPipe, ErrorKind::OutOfMemory);
     for offset in 0..PRINTED.len() {
         assert!(&rt;
-            stops_at(
-                &rt,
-                rt.alloc(),
-                offset,
-                ErrorKind::BrokenPipe,
-                b"nscagate: WriteFault\n"
-            ),
+            stops_at(&rt, rt.alloc(), offset, broken, b"nscagate: WriteFault\n"),
             "{offset}"
         );
-    }
-}
-
-#[test]
-fn a_writer_that_is_out_of_memory_is_no_failed_output(rt: HostRuntime) {
-    for offset in 0..PRINTED.len() {
         assert!(&rt;
-            stops_at(
-                &rt,
-                rt.alloc(),
-                offset,
-                ErrorKind::OutOfMemory,
-                b"nscagate: OutOfMemory\n"
-            ),
+            stops_at(&rt, rt.alloc(), offset, starved, b"nscagate: OutOfMemory\n"),
             "{offset}"
-        );
-    }
-}
-
-#[test]
-fn errors_that_cannot_be_written_change_no_status(rt: HostRuntime) {
-    for (script, status) in [(b"page\n".as_slice(), 2), (FULL_LOG, 3), (SCRIPT, 0)] {
-        assert!(&rt;
-            ends_unreported(&rt, rt.alloc(), script, status),
-            "{status}"
         );
     }
 }

@@ -51,7 +51,6 @@ fn talk<R: Net<Listener = TcpListener, Stream = TcpStream>>(
 
 // Runs a gateway on these ports: how many records it left.
 fn serve<R: Threads + Wait + Clock + Sync>(rt: &R, alloc: Global, ports: &Ports) -> Option<usize> {
-    let settings = settings(alloc, 1)?;
     let mut of_agents = Vec::with_capacity(alloc, 1).ok()?;
     of_agents.push_reserved(Endpoint {
         connections: ports.agents.connections(rt, alloc),
@@ -66,51 +65,60 @@ fn serve<R: Threads + Wait + Clock + Sync>(rt: &R, alloc: Global, ports: &Ports)
         pages: ports.pages.connections(rt),
         applier: NoHold,
     };
+    let settings = settings(alloc, 1)?;
     let watch = SystemWatch { rt };
-    let left = left_by(run_gateway(rt, alloc, settings, endpoints, &watch, ports))?;
-    Some(left.records)
+    let (records, _, _) = left_by(run_gateway(rt, alloc, settings, endpoints, &watch, ports))?;
+    Some(records)
 }
 
-// The ports of these listeners.
-fn ports_of<R: Net + Clock>(
+// A listener at a free port, with its address.
+fn bound<R: Net<Listener = TcpListener, Stream = TcpStream>>(
+    rt: &R,
+) -> io::Result<(TcpListener, SocketAddr)> {
+    let listener = TcpListener::bind(rt, "127.0.0.1:0")?;
+    let address = listener.local_addr()?;
+    Ok((listener, address))
+}
+
+// The ports of a gateway at free ports, with their addresses: the agents', the operators' and the pages'.
+fn ports_of<R: Net<Listener = TcpListener, Stream = TcpStream> + Clock>(
     rt: &R,
     alloc: Global,
-    agents: TcpListener,
-    operators: TcpListener,
-    pages: TcpListener,
-) -> io::Result<Ports> {
-    Ok(Ports {
-        agents: AgentsPort::new(agents)?,
-        operators: OperatorsPort::new(rt, alloc, operators)?,
-        pages: PagesPort::new(rt, alloc, pages)?,
-    })
+) -> io::Result<(Ports, (SocketAddr, SocketAddr, SocketAddr))> {
+    let (agents, first) = bound(rt)?;
+    let agents = AgentsPort::new(agents)?;
+    let (operators, second) = bound(rt)?;
+    let operators = OperatorsPort::new(rt, alloc, operators)?;
+    let (pages, third) = bound(rt)?;
+    let pages = PagesPort::new(rt, alloc, pages)?;
+    let ports = Ports {
+        agents,
+        operators,
+        pages,
+    };
+    Ok((ports, (first, second, third)))
 }
 
 fn is_served<R: Net<Listener = TcpListener, Stream = TcpStream> + Threads + Wait + Clock + Sync>(
     rt: &R,
     alloc: Global,
-) -> io::Result<Option<bool>> {
-    let Some(bytes) = packet(alloc) else {
-        return Ok(None);
-    };
-    let agents = TcpListener::bind(rt, "127.0.0.1:0")?;
-    let operators = TcpListener::bind(rt, "127.0.0.1:0")?;
-    let pages = TcpListener::bind(rt, "127.0.0.1:0")?;
-    let addresses = (
-        agents.local_addr()?,
-        operators.local_addr()?,
-        pages.local_addr()?,
-    );
-    let ports = ports_of(rt, alloc, agents, operators, pages)?;
+    bytes: &[u8],
+) -> io::Result<bool> {
+    let (ports, addresses) = ports_of(rt, alloc)?;
     let (answered, records) = thread::join(
         rt,
-        || talk(rt, addresses, &bytes),
+        || talk(rt, addresses, bytes),
         || serve(rt, alloc, &ports),
     );
-    Ok(Some(answered? && records == Some(2)))
+    drop(ports);
+    Ok(answered? && records == Some(2))
 }
 
 #[test]
 fn a_daemon_serves_real_sockets(rt: HostRuntime) {
-    assert!(rt; matches!(is_served(&rt, rt.alloc()), Ok(Some(true))));
+    let is_served = match packet(rt.alloc()) {
+        Some(bytes) => matches!(is_served(&rt, rt.alloc(), &bytes), Ok(true)),
+        None => false,
+    };
+    assert!(rt; is_served);
 }

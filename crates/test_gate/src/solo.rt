@@ -2,21 +2,13 @@
 ghost use Rattle.gate_core.specs.Merge.{IsClient};
 ghost use Rattle.gate_core.specs.Legal.{Run};
 
-use gate_core::{LocalClient, Operator, Submit, World};
-use gate_model::{Body, Kind, Moment};
-use gate_queue::open_with;
+use crate::parts::{body, two_clients};
+use gate_core::{LocalClient, World};
 use gate_solo::{EndedQueue, SoloGate, SoloQueue};
 use std::alloc::Global;
 use std::sync::Wait;
 
 fn let_go<T: Drop>(_value: T) {}
-
-fn body(id: u32) -> Body {
-    Body::DelComment {
-        kind: Kind::Host,
-        id,
-    }
-}
 
 // The number of a client's item, if it is queued.
 fn queued<D: SoloQueue>(queue: D, client: u32, id: u32) -> (D, Option<u64>)
@@ -40,18 +32,6 @@ fn taken<D: SoloQueue>(queue: D) -> (D, Option<(u32, u64)>)
     (queue, key)
 }
 
-// Two submissions, a take, a close, and a submission after it.
-fn answers_five_calls<D: SoloQueue + Drop>(queue: D) -> bool
-    requires { (run : Run) × D.after queue run }
-{
-    let (queue, one) = queued(queue, 1, 5);
-    let (queue, two) = queued(queue, 2, 6);
-    let (mut queue, item) = taken(queue);
-    let closed = queue.close(Moment(1500)).is_ok();
-    let late = queue.submit(body(7)).ok();
-    one == Some(1) && two == Some(1) && item == Some((1, 1)) && closed && late.is_none()
-}
-
 // The client and the number of an item that is left at the end.
 fn taken_left<E: EndedQueue>(queue: E) -> (E, Option<(u32, u64)>)
     requires { (run : Run) × E.after queue run }
@@ -63,28 +43,22 @@ fn taken_left<E: EndedQueue>(queue: E) -> (E, Option<(u32, u64)>)
     (queue, key)
 }
 
-// Two submissions, the end of both clients, and takes until nothing is left.
+// Three submissions, a take, the end of both clients, and takes until nothing is left.
 fn leaves_two_items<D: SoloQueue>(queue: D) -> bool
 where
     D::Ended: Drop,
     requires { (run : Run) × D.after queue run }
 {
-    let (queue, _) = queued(queue, 1, 5);
-    let (queue, _) = queued(queue, 2, 6);
+    let (queue, one) = queued(queue, 1, 5);
+    let (queue, two) = queued(queue, 2, 6);
+    let (queue, three) = queued(queue, 2, 7);
+    let (queue, item) = taken(queue);
     let (queue, first) = taken_left(queue.end());
     let (queue, second) = taken_left(queue);
     let (_, third) = taken_left(queue);
-    first == Some((1, 1)) && second == Some((2, 1)) && third.is_none()
-}
-
-fn world_answers(alloc: Global) -> bool {
-    let Ok(world) = World::open(alloc, 2, 4) else {
-        return false;
-    };
-    match LocalClient::new(world, 1) {
-        Ok(client) => answers_five_calls(client),
-        Err(_) => false,
-    }
+    (one, two, three) == (Some(1), Some(1), Some(2))
+        && (item, first, second) == (Some((1, 1)), Some((2, 1)), Some((2, 2)))
+        && third.is_none()
 }
 
 fn world_leaves_two(alloc: Global) -> bool {
@@ -97,34 +71,13 @@ fn world_leaves_two(alloc: Global) -> bool {
     }
 }
 
-fn gate_answers<R: Wait>(rt: &R, alloc: Global) -> bool {
-    let Ok((gate, taker, closer, mut clients)) = open_with(alloc, 2, 4, 9) else {
-        return false;
-    };
-    let (Some(two), Some(one)) = (clients.pop(), clients.pop()) else {
-        return false;
-    };
-    answers_five_calls(SoloGate::new(rt, alloc, &gate, taker, closer, one, two))
-}
-
 fn gate_leaves_two<R: Wait>(rt: &R, alloc: Global) -> bool {
-    let Ok((gate, taker, closer, mut clients)) = open_with(alloc, 2, 4, 9) else {
-        return false;
-    };
-    let (Some(two), Some(one)) = (clients.pop(), clients.pop()) else {
-        return false;
-    };
-    leaves_two_items(SoloGate::new(rt, alloc, &gate, taker, closer, one, two))
-}
-
-#[test]
-fn a_world_answers_five_calls(rt: HostRuntime) {
-    assert!(rt; world_answers(rt.alloc()));
-}
-
-#[test]
-fn a_gate_answers_five_calls_as_a_world_does(rt: HostRuntime) {
-    assert!(rt; gate_answers(&rt, rt.alloc()));
+    match two_clients(alloc, 4, 9) {
+        Some((gate, taker, closer, one, two)) => {
+            leaves_two_items(SoloGate::new(rt, alloc, &gate, taker, closer, one, two))
+        }
+        None => false,
+    }
 }
 
 #[test]

@@ -1,14 +1,13 @@
 //! Bodies that are queued, refused and taken.
 ghost use Rattle.std.specs.Prelude.{◌≡◌};
 
-use crate::parts::{Answer, body, submitted, taken, two_clients};
-use gate_core::OpenFault;
-use gate_model::Moment;
-use gate_queue::{Client, Gate, Refused, Taker, open, open_with};
+use crate::parts::{Answer, one_client, submitted, taken, two_clients};
+use gate_queue::{Client, Gate, Taker};
 use std::alloc::Global;
 use std::sync::Wait;
 
-// What two clients and a taker are answered at a queue with room for one item.
+// What two clients, who may queue two items each, and a taker are answered at a queue with room for
+// one item.
 fn answers_with_room_for_one<R: Wait>(
     rt: &R,
     gate: &Gate,
@@ -19,26 +18,45 @@ fn answers_with_room_for_one<R: Wait>(
     requires one { one.old.gate ≡ gate.now }
     requires two { two.old.gate ≡ gate.now }
     requires taker { taker.old.gate ≡ gate.now }
+    ensures one { one.new.gate ≡ gate.now }
+    ensures taker { taker.new.gate ≡ gate.now }
 {
     let empty = taken(rt, gate, taker);
     let submissions = (submitted(rt, gate, one, 5), submitted(rt, gate, two, 6));
     let first = taken(rt, gate, taker);
-    let again = submitted(rt, gate, two, 7);
-    let rest = (taken(rt, gate, taker), taken(rt, gate, taker));
+    let again = (submitted(rt, gate, two, 7), taken(rt, gate, taker));
+    let last = (submitted(rt, gate, one, 8), taken(rt, gate, taker));
+    let spent = submitted(rt, gate, one, 9);
     empty.is_none()
         && submissions == (Answer::Queued(1), Answer::Full(6))
         && first == Some((1, 1, 5))
-        && again == Answer::Queued(1)
-        && rest == (Some((2, 1, 7)), None)
+        && again == (Answer::Queued(1), Some((2, 1, 7)))
+        && last == (Answer::Queued(2), Some((1, 2, 8)))
+        && spent == Answer::Spent(9)
+}
+
+// Whether the first client is taken in alone, once it has ended, with its two items.
+fn is_taken_in_alone(gate: &Gate, taker: &mut Taker, one: Client) -> bool
+    requires taker { taker.old.gate ≡ gate.now }
+    requires one { one.gate ≡ gate.now }
+{
+    let ended = one.end();
+    let is_first = ended.number() == 1 && !ended.knows_of_close();
+    taker.take_in(gate, ended);
+    is_first && taker.taken_in(1) && !taker.taken_in(2) && taker.total_queued() == 2
 }
 
 fn is_full_until_a_take<R: Wait>(rt: &R, alloc: Global) -> bool {
-    match two_clients(alloc, 1, 9) {
-        Some((gate, mut taker, _, mut one, mut two)) => {
+    match two_clients(alloc, 1, 2) {
+        Some((gate, mut taker, closer, mut one, mut two)) => {
+            drop(closer);
             let is_full = answers_with_room_for_one(rt, &gate, &mut one, &mut two, &mut taker);
+            drop(two);
+            let is_taken_in = is_taken_in_alone(&gate, &mut taker, one);
+            let clients = gate.clients();
             drop(gate);
             drop(taker);
-            is_full
+            is_full && is_taken_in && clients == 2
         }
         None => false,
     }
@@ -63,136 +81,22 @@ fn queued_before_full<R: Wait>(rt: &R, gate: &Gate, client: &mut Client) -> usiz
     100_000
 }
 
-fn room<R: Wait>(rt: &R, alloc: Global, capacity: usize) -> Option<usize> {
-    match two_clients(alloc, capacity, 100_000) {
-        Some((gate, _, _, mut one, _)) => {
-            let count = queued_before_full(rt, &gate, &mut one);
+fn room<R: Wait>(rt: &R, alloc: Global, capacity: usize) -> usize {
+    match one_client(alloc, capacity) {
+        Some((gate, taker, mut client)) => {
+            let count = queued_before_full(rt, &gate, &mut client);
+            drop(client);
+            drop(taker);
             drop(gate);
-            Some(count)
+            count
         }
-        None => None,
+        None => 0,
     }
 }
 
 #[test]
 fn a_queue_is_full_exactly_at_its_capacity(rt: HostRuntime) {
     for capacity in [1, 7, 65_536] {
-        assert!(rt;
-            room(&rt, rt.alloc(), capacity) == Some(capacity),
-            "{capacity}"
-        );
+        assert!(rt; room(&rt, rt.alloc(), capacity) == capacity, "{capacity}");
     }
-}
-
-fn is_spent_after_one<R: Wait>(rt: &R, alloc: Global) -> bool {
-    match two_clients(alloc, 9, 1) {
-        Some((gate, _, _, mut one, _)) => {
-            let first = submitted(rt, &gate, &mut one, 5);
-            let second = submitted(rt, &gate, &mut one, 6);
-            drop(gate);
-            first == Answer::Queued(1) && second == Answer::Spent(6)
-        }
-        None => false,
-    }
-}
-
-#[test]
-fn a_body_beyond_the_quota_is_returned(rt: HostRuntime) {
-    assert!(rt; is_spent_after_one(&rt, rt.alloc()));
-}
-
-fn opening_fault(alloc: Global, clients: u32, capacity: usize, quota: u32) -> Option<OpenFault> {
-    match open_with(alloc, clients, capacity, quota) {
-        Ok(_) => None,
-        Err(fault) => Some(fault),
-    }
-}
-
-const BAD_OPENINGS: [(u32, usize, u32, OpenFault); 5] = [
-    (0, 1, 9, OpenFault::BadCount),
-    (65, 1, 9, OpenFault::BadCount),
-    (1, 0, 9, OpenFault::BadCapacity),
-    (1, 65_537, 9, OpenFault::BadCapacity),
-    (1, 4, 0, OpenFault::BadQuota),
-];
-
-#[test]
-fn a_gate_out_of_its_limits_is_not_opened(rt: HostRuntime) {
-    for (clients, capacity, quota, fault) in BAD_OPENINGS {
-        assert!(rt;
-            opening_fault(rt.alloc(), clients, capacity, quota) == Some(fault),
-            "{fault}"
-        );
-    }
-}
-
-// The numbers of the clients, the last one first.
-fn numbers(mut clients: Vec<Client>) -> (Option<u32>, Option<u32>) {
-    (
-        clients.pop().map(|client| client.number()),
-        clients.pop().map(|client| client.number()),
-    )
-}
-
-fn has_two_clients(alloc: Global) -> bool {
-    match open(alloc, 2, 9) {
-        Ok((_, _, _, clients)) => numbers(clients) == (Some(2), Some(1)),
-        Err(_) => false,
-    }
-}
-
-#[test]
-fn a_gate_is_opened_with_its_clients_in_order(rt: HostRuntime) {
-    assert!(rt; has_two_clients(rt.alloc()));
-}
-
-// Which of two clients are taken in, once the first has ended.
-fn taken_in(gate: &Gate, taker: &mut Taker, one: Client) -> (bool, bool)
-    requires taker { taker.old.gate ≡ gate.now }
-    requires one { one.gate ≡ gate.now }
-{
-    taker.take_in(gate, one.end());
-    (taker.taken_in(1), taker.taken_in(2))
-}
-
-fn is_taken_in_alone(alloc: Global) -> bool {
-    match two_clients(alloc, 9, 9) {
-        Some((gate, mut taker, _, one, _)) => {
-            let ended = taken_in(&gate, &mut taker, one);
-            drop(gate);
-            drop(taker);
-            ended == (true, false)
-        }
-        None => false,
-    }
-}
-
-#[test]
-fn a_client_that_has_ended_is_taken_in_alone(rt: HostRuntime) {
-    assert!(rt; is_taken_in_alone(rt.alloc()));
-}
-
-fn is_text(alloc: Global, fault: Refused, text: &str) -> bool {
-    let shown = format!(in alloc; "{fault}");
-    drop(fault);
-    shown.is_ok_and(|shown| shown.as_str() == text)
-}
-
-#[test]
-fn each_refusal_has_its_text(rt: HostRuntime) {
-    assert!(rt;
-        is_text(
-            rt.alloc(),
-            Refused::Closing(Moment(1500), body(1)),
-            "a close has begun"
-        )
-    );
-    assert!(rt;
-        is_text(
-            rt.alloc(),
-            Refused::Spent(body(1)),
-            "the client's quota is used up"
-        )
-    );
-    assert!(rt; is_text(rt.alloc(), Refused::Full(body(1)), "the queue is full"));
 }

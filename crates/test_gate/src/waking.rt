@@ -125,14 +125,12 @@ impl<'a> Hold for Served<'a> {
 }
 
 // Runs an agents' worker, whose agent comes once it is woken, and a reader of a page who comes
-// once the pages are woken, beside an operator who shuts down. How many packets, lines and pages
-// were served, and how many of these were the last page.
-fn close_on<R: Threads + Wait + Clock + Sync>(rt: &R, alloc: Global) -> Option<[u64; 4]> {
+// once the pages are woken, beside an operator who shuts down: whether it finished.
+fn close_on<R: Threads + Wait + Clock + Sync>(rt: &R, alloc: Global, seen: &Seen) -> Option<bool> {
     let bytes = packet(alloc)?;
-    let seen = nothing_seen();
     let mut agents = Vec::with_capacity(alloc, 1).ok()?;
     agents.push_reserved(Endpoint {
-        connections: one_that_sends(alloc, &bytes, Some(&seen.agents), &seen),
+        connections: one_that_sends(alloc, &bytes, Some(&seen.agents), seen),
         hold: Served {
             count: &seen.packets,
         },
@@ -141,22 +139,34 @@ fn close_on<R: Threads + Wait + Clock + Sync>(rt: &R, alloc: Global) -> Option<[
     let endpoints = Endpoints {
         agents,
         operator: Endpoint {
-            connections: one_that_sends(alloc, b"[1] SHUTDOWN_PROGRAM\n", None, &seen),
+            connections: one_that_sends(alloc, b"[1] SHUTDOWN_PROGRAM\n", None, seen),
             hold: operators,
         },
-        pages: one_that_sends(alloc, b"", Some(&seen.pages), &seen),
+        pages: one_that_sends(alloc, b"", Some(&seen.pages), seen),
         applier: operators,
     };
     let settings = settings(alloc, 1)?;
-    let finished = run_gateway(rt, alloc, settings, endpoints, &AlwaysAt(1000), &seen).ok()?;
+    let finished = run_gateway(rt, alloc, settings, endpoints, &AlwaysAt(1000), seen);
+    let is_finished = finished.is_ok();
     drop(finished);
-    let counts = [&seen.packets, &seen.lines, &seen.shown, &seen.last_pages];
-    Some(counts.map(|count| count.load(Ordering::SeqCst)))
+    Some(is_finished)
+}
+
+// How many packets, lines and pages were served, and how many of these were the last page.
+fn counts_in(seen: &Seen) -> [u64; 4] {
+    [
+        seen.packets.load(Ordering::SeqCst),
+        seen.lines.load(Ordering::SeqCst),
+        seen.shown.load(Ordering::SeqCst),
+        seen.last_pages.load(Ordering::SeqCst),
+    ]
 }
 
 // Woken before the gate is closed, the worker would serve its agent; woken before the board is
 // marked closing, the pages would show an earlier one.
 #[test]
 fn threads_are_woken_once_there_is_nothing_more_to_wait_for(rt: HostRuntime) {
-    assert!(rt; close_on(&rt, rt.alloc()) == Some([0, 1, 1, 1]));
+    let seen = nothing_seen();
+    assert!(rt; close_on(&rt, rt.alloc(), &seen) == Some(true));
+    assert!(rt; counts_in(&seen) == [0, 1, 1, 1]);
 }

@@ -1,5 +1,5 @@
 use Rattle.std.proofs.Common.{◌≡◌}
-use Rattle.test_gate.proofs.downtime.plays_from.Given as goal
+use Rattle.test_gate.proofs.downtime.plays.Given as goal
 
 abbrev pub invariant-steps : goal.invariant-steps
 invariant-steps l = l.book.objects ≡ 2
