@@ -1,6 +1,6 @@
 //! What an applier shows of its records.
-use crate::parts::{HTTP, WEB1, applier, applier_after};
-use gate_applier::Applier;
+use crate::parts::{HTTP, WEB1, applier, applier_after, table};
+use gate_applier::{Applier, OpenCause};
 use gate_model::{Moment, Outcome, State};
 use std::alloc::Global;
 
@@ -26,6 +26,26 @@ fn opens(alloc: Global, limit: u32) -> bool {
 #[test]
 fn a_log_may_be_limited_to_1_to_1000000_records(rt: HostRuntime) {
     assert!(rt; opens(rt.alloc(), 1) && opens(rt.alloc(), 1_000_000));
+}
+
+fn open_cause(alloc: Global, limit: u32) -> Option<OpenCause> {
+    let opened = Applier::open(alloc, table(alloc)?, Moment(1000), limit);
+    let cause = match &opened {
+        Ok(_) => None,
+        Err(fault) => Some(fault.cause),
+    };
+    drop(opened);
+    cause
+}
+
+#[test]
+fn a_log_of_another_limit_is_not_opened(rt: HostRuntime) {
+    for limit in [0, 1_000_001, u32::MAX] {
+        assert!(rt;
+            open_cause(rt.alloc(), limit) == Some(OpenCause::BadLimit),
+            "{limit}"
+        );
+    }
 }
 
 // The clock goes back before the last two records.

@@ -2,7 +2,8 @@
 ghost use Rattle.std.specs.Prelude.{◌≡◌};
 
 use crate::parts::{Answer, one_client, submitted, taken, two_clients};
-use gate_queue::{Client, Gate, Taker};
+use gate_core::{OpenFault, World};
+use gate_queue::{Client, Gate, Taker, open_with};
 use std::alloc::Global;
 use std::sync::Wait;
 
@@ -98,5 +99,40 @@ fn room<R: Wait>(rt: &R, alloc: Global, capacity: usize) -> usize {
 fn a_queue_is_full_exactly_at_its_capacity(rt: HostRuntime) {
     for capacity in [1, 7, 65_536] {
         assert!(rt; room(&rt, rt.alloc(), capacity) == capacity, "{capacity}");
+    }
+}
+
+// The limits are 1 to 64 clients, 1 to 65,536 places, and 1 submission or more of each client.
+static BAD_OPENINGS: [(u32, usize, u32, OpenFault); 5] = [
+    (0, 1, 9, OpenFault::BadCount),
+    (65, 1, 9, OpenFault::BadCount),
+    (1, 0, 9, OpenFault::BadCapacity),
+    (1, 65_537, 9, OpenFault::BadCapacity),
+    (1, 4, 0, OpenFault::BadQuota),
+];
+
+// Why a gate isn't opened, and why the model of one isn't.
+fn opening_faults(
+    alloc: Global,
+    clients: u32,
+    capacity: usize,
+    quota: u32,
+) -> (Option<OpenFault>, Option<OpenFault>) {
+    let gate = match open_with(alloc, clients, capacity, quota) {
+        Ok(_) => None,
+        Err(fault) => Some(fault),
+    };
+    let world = match World::open_with(alloc, clients, capacity, quota) {
+        Ok(_) => None,
+        Err(fault) => Some(fault),
+    };
+    (gate, world)
+}
+
+#[test]
+fn a_gate_out_of_its_limits_is_not_opened(rt: HostRuntime) {
+    for (clients, capacity, quota, fault) in BAD_OPENINGS {
+        let faults = opening_faults(rt.alloc(), clients, capacity, quota);
+        assert!(rt; faults == (Some(fault), Some(fault)), "{fault}");
     }
 }
