@@ -5,7 +5,6 @@ import hashlib
 import html
 import html.parser
 import http.client
-import itertools
 import json
 import os
 import re
@@ -22,6 +21,7 @@ import time
 import urllib.parse
 import xml.etree.ElementTree
 
+from daemon_clients import free_port
 from played_gateways import Port, shows
 
 PROGRAM = sys.argv[1]
@@ -41,20 +41,6 @@ def at_once(*calls):
     """What these functions return, called side by side."""
     with concurrent.futures.ThreadPoolExecutor(len(calls)) as pool:
         return [call.result() for call in [pool.submit(call) for call in calls]]
-
-
-# Below those that the system chooses for connections and listeners, each given once.
-PORTS = itertools.count(20000 + os.getpid() % 10000)
-
-
-def free_port():
-    for port in PORTS:
-        with socket.socket() as probe:
-            try:
-                probe.bind(('127.0.0.1', port))
-            except OSError:
-                continue
-            return port
 
 
 def endless(connection):
