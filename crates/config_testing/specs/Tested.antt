@@ -1,6 +1,6 @@
 -- What `test-config` prints of a file that is a configuration: `IsTested`. Which file was read isn't known here, so some
 -- text is meant. Own rule: the line.
-use Rattle.std.specs.Prelude.{◌≡◌, ◌<◌, ◌≤◌, not, is_some, Bool, ℕ, List, ◌++◌, length, count_by, codes}
+use Rattle.std.specs.Prelude.{◌<◌, ◌≤◌, not, is_some, Bool, ℕ, List, ◌++◌, length, count_by, codes}
 use Rattle.std.specs.Fmt.{decimal}
 use Rattle.toml.specs.Data.{Members}
 use Rattle.gate_model.specs.declared.object.ObjectLine.{ObjectLine}

@@ -1,4 +1,5 @@
-ghost use Rattle.std.specs.Prelude.{◌≡◌, IfOk, count_by};
+ghost use Rattle.std.specs.Prelude.{◌≡◌, IfOk, OnOk, count_by};
+ghost use Rattle.gate_reader.specs.Sink.{Delivers};
 ghost use Rattle.config_testing.specs.Tested.{IsTested, good_line, is_host, is_service};
 
 use gate_config::{Config, ConfigFault, Key, read_config};
@@ -281,6 +282,30 @@ fn good_line(alloc: Global, file: &[u8], table: &ObjectTable) -> Result<Vec<u8>,
     Ok(line)
 }
 
+// Prints the line of a file that is a configuration, and returns the exit status.
+fn print_good<W: Sink>(
+    alloc: Global,
+    file: &[u8],
+    table: &ObjectTable,
+    output: &mut W,
+) -> Result<u8, ControlFault>
+    ensures status { IfOk result (λ status. status ≡ 0) }
+    ensures printed { OnOk result (Delivers (W.state output.old) (W.state output.new)
+        (good_line file.now table.now)) }
+{
+    let line = good_line(alloc, file, table)?;
+    print(output, line.as_slice())?;
+    Ok(0)
+}
+
+// Why a file is no configuration.
+fn refusal(alloc: Global, file: &[u8], text: &[u8], fault: &ConfigFault) -> ControlFault {
+    match cause(alloc, file, text, fault) {
+        Ok(cause) => ControlFault::BadFile(Text::new(cause)),
+        Err(fault) => fault.into(),
+    }
+}
+
 /// Reads a configuration as the daemon does, and prints how many objects it has. A fault is reported
 /// with its line, and nothing is bound.
 pub fn test_config<F: Files, W: Sink>(
@@ -298,14 +323,7 @@ pub fn test_config<F: Files, W: Sink>(
     };
     let text = read_configuration(files, alloc, path)?;
     match read_config(alloc, text.as_slice()) {
-        Ok(config) => {
-            let line = good_line(alloc, file.bytes(), &config.table)?;
-            print(output, line.as_slice())?;
-            Ok(0)
-        }
-        Err(fault) => {
-            let cause = cause(alloc, file.bytes(), text.as_slice(), &fault)?;
-            Err(ControlFault::BadFile(Text::new(cause)))
-        }
+        Ok(config) => print_good(alloc, file.bytes(), &config.table, output),
+        Err(fault) => Err(refusal(alloc, file.bytes(), text.as_slice(), &fault)),
     }
 }

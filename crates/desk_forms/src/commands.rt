@@ -27,8 +27,8 @@ fn commands_on(
         AllByRecursion (IsAllowed (page_view page.now) form.now.user) bodies.items) }
     ensures refused { IfErr result (IsFormFault (page_view page.now) now form.now) }
 {
-    let request = request_of(alloc, page, form.fields())?;
     let user = Text::copied(alloc, form.user().bytes())?;
+    let request = request_of(alloc, page, form.fields())?;
     match commands_for(alloc, page, now, user, request) {
         Ok(bodies) => Ok(bodies),
         Err(PlanFault::Request(fault)) => Err(FormFault::Request(fault)),

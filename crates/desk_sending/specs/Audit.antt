@@ -1,5 +1,5 @@
 -- The line of the audit log: `audit_text`. Own rule.
-use Rattle.std.specs.Prelude.{ℕ, List, ◌∷◌, ◌++◌, codes}
+use Rattle.std.specs.Prelude.{ℕ, List, ◌∷◌, ◌++◌}
 use Rattle.std.specs.Fmt.{decimal}
 use Rattle.gate_model.specs.Escaping.{escaped}
 

@@ -91,8 +91,13 @@ fn order_of(alloc: Global, command: Command) -> Result<Order, Objection>
     if !writable(&command) {
         return Err(Objection::Unwritable(command.body));
     }
-    let line = write_line(alloc, &command)?;
-    Ok(Order { command, line })
+    match write_line(alloc, &command) {
+        Ok(line) => Ok(Order { command, line }),
+        Err(_) => {
+            drop(command);
+            Err(Objection::OutOfMemory)
+        }
+    }
 }
 
 /// The command that the form of an admitted request asks for now on a gateway's page, where the page
@@ -113,9 +118,13 @@ pub fn order_on(
         Ok(body) => body,
         Err(fault) => return Err(Objection::Form(fault)),
     };
-    match foreseen_outcome(alloc, page, &body)? {
-        Outcome::Accepted => order_of(alloc, Command { entered: now, body }),
-        outcome => Err(Objection::Refused(body, outcome)),
+    match foreseen_outcome(alloc, page, &body) {
+        Ok(Outcome::Accepted) => order_of(alloc, Command { entered: now, body }),
+        Ok(outcome) => Err(Objection::Refused(body, outcome)),
+        Err(_) => {
+            drop(body);
+            Err(Objection::OutOfMemory)
+        }
     }
 }
 

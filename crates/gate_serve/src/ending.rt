@@ -75,6 +75,17 @@ fn left_by(alloc: Global, ran: Result<Finished, GatewayFault>) -> (Option<Applie
     }
 }
 
+// The same end, but with this fault.
+fn with_fault(served: Served, fault: ServeFault) -> Served
+    ensures { result ≡ record served { fault = Some fault } }
+{
+    let Served { reports, .. } = served;
+    Served {
+        reports,
+        fault: Some(fault),
+    }
+}
+
 /// Prints the log page of a gateway that has ended, if it has one.
 pub(crate) fn end<W: Sink>(
     alloc: Global,
@@ -89,14 +100,10 @@ pub(crate) fn end<W: Sink>(
     let Some(applier) = applier else {
         return served;
     };
-    match print(
-        output,
-        log_page(alloc, applier.records(), applier.outcomes()),
-    ) {
+    let page = log_page(alloc, applier.records(), applier.outcomes());
+    drop(applier);
+    match print(output, page) {
         Ok(()) => served,
-        Err(fault) => Served {
-            fault: Some(fault),
-            ..served
-        },
+        Err(fault) => with_fault(served, fault),
     }
 }

@@ -235,7 +235,7 @@ fn target_of<'a, F: Files>(
     })
 }
 
-// The same, to the gateway of this target.
+// Restores to the gateway of this target, and returns the exit status.
 fn restore_at<R: Net<Listener = TcpListener, Stream = TcpStream> + Clock + Files, W: Sink, E: Sink>(
     rt: &R,
     alloc: Global,

@@ -3,9 +3,11 @@
 ghost use Rattle.std.specs.Prelude.{◌≡◌, IfErr, IfOk, List, MatchOption, None, Some, map};
 ghost use Rattle.gate_model.specs.declared.submission.Body.{Body};
 ghost use Rattle.status_reading.specs.Rows.{page_view};
+ghost use Rattle.operator_commands.specs.declared.request.Request.{Request as Asked};
 ghost use Rattle.operator_effects.specs.Commands.{commands_of};
 ghost use Rattle.operator_effects.specs.Refusals.{first_refusal};
 ghost use Rattle.operator_ports.specs.Commands.{entered_at};
+ghost use Rattle.operator_setup.specs.Pages.{IsPageIn};
 ghost use Rattle.operator_sending.specs.Faults.{fault_of, IsFaultOn, IsPrintFault, IsRequestFault};
 ghost use Rattle.operator_sending.specs.Reports.{AreAnswered, IsCarriedOut, meant, sinks};
 
@@ -170,6 +172,23 @@ fn commands_of(
     }
 }
 
+// The time, the user, and the page of this text.
+fn found_on<'t, R: Clock + Env + AllocGlobal>(
+    rt: &R,
+    alloc: Global,
+    text: &'t [u8],
+) -> Result<(Moment, Text, StatusPage<'t>), ControlFault>
+    ensures page { IfOk result (λ found. IsPageIn text.now found.2) }
+    ensures fault { (request : Asked) → IfErr result (IsFaultOn request) }
+{
+    let entered = now(rt)?;
+    let user = user(rt, alloc)?;
+    match page_of(alloc, text) {
+        Ok(page) => Ok((entered, user, page)),
+        Err(fault) => Err(fault),
+    }
+}
+
 // Carries out a request where this is the text of the page.
 fn on_page<
     R: Net<Listener = TcpListener, Stream = TcpStream> + Clock + Env + AllocGlobal,
@@ -190,9 +209,13 @@ fn on_page<
         (sinks (W.state output.new) (E.state errors.new))) }
     ensures fault { IfErr result (IsFaultOn request) }
 {
-    let entered = now(rt)?;
-    let user = user(rt, alloc)?;
-    let before = page_of(alloc, text)?;
+    let (entered, user, before) = match found_on(rt, alloc, text) {
+        Ok(found) => found,
+        Err(fault) => {
+            drop(request);
+            return Err(fault);
+        }
+    };
     let commands = commands_of(alloc, &before, entered, user, request)?;
     let status = send_all(
         rt,
@@ -241,7 +264,13 @@ pub fn carry_out_request<
     ensures fault { IfErr result
         (IsRequestFault options.now (meant options.now.escaped request)) }
 {
-    let (places, text) = fetched(rt, alloc, options)?;
+    let (places, text) = match fetched(rt, alloc, options) {
+        Ok(found) => found,
+        Err(fault) => {
+            drop(request);
+            return Err(fault);
+        }
+    };
     let request = unescaped(alloc, options, request)?;
     let status = on_page(
         rt,

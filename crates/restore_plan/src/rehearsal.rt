@@ -121,6 +121,7 @@ pub fn rehearse(
 {
     let gateway = applied(alloc, fresh, now, commands)?;
     if let Some(index) = first_among(gateway.outcomes()) {
+        drop(gateway);
         return Err(RehearsalFault::Refused(index));
     }
     let text = page_of(alloc, &gateway);

@@ -18,7 +18,9 @@ fn show_if_other(
 ) -> io::Result<()> {
     match read_line(alloc, line) {
         Ok(again) => {
-            if again == *command {
+            let is_same = again == *command;
+            drop(again);
+            if is_same {
                 Ok(())
             } else {
                 output.write_all(b"read again: another command\n")
@@ -43,7 +45,11 @@ fn show_command(alloc: Global, command: &Command, output: &mut impl Write) -> io
 
 fn show_line(alloc: Global, line: &[u8], output: &mut impl Write) -> io::Result<()> {
     match read_line(alloc, line) {
-        Ok(command) => show_command(alloc, &command, output),
+        Ok(command) => {
+            let shown = show_command(alloc, &command, output);
+            drop(command);
+            shown
+        }
         Err(fault) => writeln!(output, "{fault:?}"),
     }
 }

@@ -3,9 +3,7 @@ use Rattle.std.proofs.Common.{◌≡◌, ◌<◌, ◌==◌, true, false, ℕ, Li
 use Rattle.std.proofs.lemmas.Bool.{eqb-true, true≢false}
 use Rattle.std.proofs.lemmas.List.{nil_from_length}
 use Rattle.clap.specs.Walk.{texts}
-use Rattle.clap.specs.Words.{AddsArg, App, IsAmong, Kinds, Row, Rule, Text, app_of, kind_of, rule_of, with_rule}
-use Rattle.clap.specs.declared.builder.arg.Arg.{Arg}
-use Rattle.clap.specs.declared.builder.command.Command.{Command}
+use Rattle.clap.specs.Words.{IsAmong, Kinds, Row, Text, kind_of}
 use Rattle.clap.specs.declared.error.Error.{Error}
 use Rattle.clap.specs.declared.error.kind.ErrorKind.{ErrorKind}
 use Rattle.statusweb.specs.declared.words.BadValue.{BadValue}
@@ -49,11 +47,3 @@ is_among kinds error other fault memory refused same has =
     let known = refused other (ap (λ result. elim result [ Ok value ↦ fault | Err found ↦ found ]) same) in
     subst (λ (error : Error). IsAmong (kind_of error) kinds) known.0
     (elim has [ inl is ↦ absurd (known.1 is) | inr among ↦ among ])
-
--- a command line with one more argument
-pub app_more : (old new : Command) (arg : Arg) (rule : Rule) (app : App) → AddsArg old arg new → arg.global ≡ false
-    → rule_of arg ≡ rule → app_of old ≡ app → app_of new ≡ with_rule app rule
-app_more old new arg rule app adds local ruled known =
-    adds.shape local
-    ∙ ap (λ (rule : Rule). with_rule (app_of old) rule) ruled
-    ∙ ap (λ (app : App). with_rule app rule) known

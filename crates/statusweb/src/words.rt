@@ -1,6 +1,6 @@
 ghost use Rattle.std.specs.Prelude.{◌≡◌, ◌≢◌, IfOk, false, IsTrue, IsFalse, Err, map, string_bytes, codes};
 ghost use Rattle.clap.specs.Walk.{texts};
-ghost use Rattle.clap.specs.Words.{IsAmong, new_app, app_of, rule_of, fault_of, found_of, kind_of, rows_of, first_of, all_of};
+ghost use Rattle.clap.specs.Words.{IsAmong, App, Rule, new_app, app_of, rule_of, with_rule, fault_of, found_of, kind_of, rows_of, first_of, all_of};
 ghost use Rattle.clap.specs.Simple.{matches_of};
 ghost use Rattle.clap.specs.declared.error.Error.{Error as Refusal};
 ghost use Rattle.statusweb.specs.declared.words.WordsFault.TheVariants.{Refused, Bad};
@@ -111,28 +111,40 @@ fn unnamed<'a>(alloc: Global) -> Command<'a>
         .about("Shows the status pages of gateways to browsers, scripts and Prometheus")
 }
 
+// Adds an option to a command, if there is one.
+fn add<'a>(
+    command: Result<Command<'a>, AllocError>,
+    option: Arg<'a>,
+) -> Result<Command<'a>, AllocError>
+    requires { option.global ≡ false }
+    ensures { (app : App) (rule : Rule) → rule_of option.entry ≡ rule
+        → IfOk command.entry (λ command. app_of command ≡ app)
+        → IfOk result (λ command. app_of command ≡ with_rule app rule) }
+{
+    match command {
+        Ok(command) => command.arg(option),
+        Err(fault) => Err(fault),
+    }
+}
+
 fn command_line<'a>(alloc: Global) -> Result<Command<'a>, AllocError>
     ensures { IfOk result (λ command. app_of command ≡ program) }
 {
-    unnamed(alloc)
-        .arg(option(
-            alloc,
-            "listen",
-            "Where browsers connect [default: 127.0.0.1:8080]",
-        ))?
-        .arg(gateway(alloc))?
-        .arg(option(alloc, "title", "The title of the page [default: nscagate]"))?
-        .arg(option(
-            alloc,
-            "refresh",
-            "The seconds after which a browser asks again: 0 (never), or 2 to 3600 [default: 30]",
-        ))?
-        .arg(option(
-            alloc,
-            "every",
-            "The seconds between two fetches of a page: 1 to 30 [default: 5]",
-        ))?
-        .arg(host(alloc))
+    let listen = option(
+        alloc,
+        "listen",
+        "Where browsers connect [default: 127.0.0.1:8080]",
+    );
+    let line = add(Ok(unnamed(alloc)), listen);
+    let line = add(line, gateway(alloc));
+    let title = option(alloc, "title", "The title of the page [default: nscagate]");
+    let line = add(line, title);
+    let help =
+        "The seconds after which a browser asks again: 0 (never), or 2 to 3600 [default: 30]";
+    let line = add(line, option(alloc, "refresh", help));
+    let help = "The seconds between two fetches of a page: 1 to 30 [default: 5]";
+    let line = add(line, option(alloc, "every", help));
+    add(line, host(alloc))
 }
 
 // The value of an option, or its default.

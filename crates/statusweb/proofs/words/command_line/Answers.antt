@@ -1,13 +1,10 @@
-use Rattle.status_serving.proofs.BodySteps.{if_ok}
-use Rattle.statusweb.proofs.WordSteps.{app_more}
 use Rattle.statusweb.proofs.words.command_line.Goals as goal
 
 pub returns : goal.returns
 returns c =
-    let listen = app_more _ _ _ _ _ c.in_ok-arg.ensures c.option.ensures.local c.option.ensures.rule c.unnamed.ensures in
-    let gateway = app_more _ _ _ _ _ c.in_ok-arg-2.ensures c.gateway.ensures.local c.gateway.ensures.rule listen in
-    let title = app_more _ _ _ _ _ c.in_ok-arg-3.ensures c.option-2.ensures.local c.option-2.ensures.rule gateway in
-    let refresh = app_more _ _ _ _ _ c.in_ok-arg-4.ensures c.option-3.ensures.local c.option-3.ensures.rule title in
-    let every = app_more _ _ _ _ _ c.in_ok-arg-5.ensures c.option-4.ensures.local c.option-4.ensures.rule refresh in
-    if_ok c.arg-6.result (λ command adds. app_more _ _ _ _ _ adds c.host.ensures.local c.host.ensures.rule every)
-    c.arg-6.ensures
+    let listen = c.add-line.ensures _ _ c.option-listen.ensures.rule c.unnamed.ensures in
+    let gateway = c.add-line-2.ensures _ _ c.gateway.ensures.rule listen in
+    let title = c.add-line-3.ensures _ _ c.option-title.ensures.rule gateway in
+    let refresh = c.add-line-4.ensures _ _ c.option.ensures.rule title in
+    let every = c.add-line-5.ensures _ _ c.option-2.ensures.rule refresh in
+    c.add.ensures _ _ c.host.ensures.rule every
