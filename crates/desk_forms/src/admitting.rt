@@ -15,7 +15,7 @@ use std::marker::Model;
 use thiserror::Error;
 
 /// The form of a request that is admitted, with its user. No other code makes one.
-#[derive(Debug, Drop)]
+#[derive(Drop)]
 pub struct AdmittedForm {
     admitted: Admitted,
     fields: Vec<Field>,
@@ -59,7 +59,7 @@ impl AdmittedForm {
 }
 
 /// Why nothing is sent for a request.
-#[derive(Clone, Copy, Debug, PartialEq, Eq, Error)]
+#[derive(Clone, Copy, Debug, Error)]
 pub enum AdmitFault {
     /// Its body is no form.
     #[error("{0}")]

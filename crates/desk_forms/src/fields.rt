@@ -24,7 +24,7 @@ pub struct Field {
 }
 
 /// Why a body is no form.
-#[derive(Clone, Copy, Debug, PartialEq, Eq, Error)]
+#[derive(Clone, Copy, Debug, Error)]
 pub enum FieldsFault {
     /// It has more than 16,384 bytes.
     #[error("the form is too long")]

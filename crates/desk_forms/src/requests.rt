@@ -19,7 +19,7 @@ use status_reading::{ShownComment, ShownDowntime, ShownObject, StatusPage, plain
 use std::alloc::{AllocError, AllocFailed, Global};
 
 /// Why a form asks for no command.
-#[derive(Clone, Copy, Debug, PartialEq, Eq)]
+#[derive(Clone, Copy)]
 pub enum FormFault {
     /// It names no action.
     NoAction,
@@ -109,7 +109,7 @@ impl FormFault {
 }
 
 /// What the button of a form asks for.
-#[derive(Clone, Copy, Debug)]
+#[derive(Clone, Copy)]
 pub enum Action {
     Acknowledge,
     Unacknowledge,

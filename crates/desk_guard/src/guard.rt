@@ -34,7 +34,7 @@ pub struct Guard<'a> {
 
 /// A request that may send its commands, which contracts see as its user. `admit` alone makes one, and
 /// `again` the same once more.
-#[derive(Debug, Drop)]
+#[derive(Drop)]
 pub struct Admitted {
     user: Text,
 }

@@ -16,14 +16,14 @@ const MOST_FORMS: usize = 131072;
 const KEPT: u64 = 600;
 
 /// A form that was sent: the digest of its bytes, and the moment in seconds since 1970.
-#[derive(Clone, Copy, Debug)]
+#[derive(Clone, Copy)]
 pub struct SentForm {
     pub digest: [u8; 32],
     pub moment: u32,
 }
 
 /// The forms that were sent in the last ten minutes.
-#[derive(Debug, Drop)]
+#[derive(Drop)]
 pub struct SentForms {
     forms: Vec<SentForm>,
 }

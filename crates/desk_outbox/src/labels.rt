@@ -15,7 +15,7 @@ use std::marker::Model;
 const LATE: u64 = 30;
 
 /// Whose order it is, for which object, and of which moment.
-#[derive(Debug, Drop)]
+#[derive(Drop)]
 pub struct Label {
     /// The user, as the proxy names them.
     pub user: Text,
@@ -28,7 +28,7 @@ pub struct Label {
 }
 
 /// An order with its label. Both are of one admitted form, and no other code makes one.
-#[derive(Debug, Drop)]
+#[derive(Drop)]
 pub struct Labelled {
     label: Label,
     order: Order,

@@ -20,7 +20,7 @@ const MOST_WAITING: usize = 1024;
 const MOST_SETTLED: usize = 1024;
 
 /// Why an order is not taken in: it is not sent.
-#[derive(Clone, Copy, Debug, PartialEq, Eq)]
+#[derive(Clone, Copy)]
 pub enum TakeFault {
     /// 1,024 orders wait.
     Full,
@@ -41,7 +41,7 @@ impl TakeFault {
 }
 
 /// What came of an order.
-#[derive(Debug, Drop)]
+#[derive(Drop)]
 pub struct Settled {
     pub label: Label,
     /// When it was settled, in seconds since 1970.

@@ -16,7 +16,7 @@ use std::collections::VecDeque;
 const KEPT: u64 = 600;
 
 /// Whose orders are asked for, for which object, and where they are shown.
-#[derive(Clone, Copy, Debug)]
+#[derive(Clone, Copy)]
 pub struct Asked<'a> {
     pub user: &'a [u8],
     pub host: &'a [u8],
@@ -34,7 +34,7 @@ pub struct Asked<'a> {
 }
 
 /// What a user sees of an order.
-#[derive(Debug, Drop)]
+#[derive(Drop)]
 pub struct Shown {
     pub text: Text,
     /// Whether it is answered, and no longer may the page be from before it.

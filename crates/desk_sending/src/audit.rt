@@ -7,7 +7,7 @@ use gate_model::{push_escaped, push_number};
 use std::alloc::{AllocError, Global};
 
 /// A command that was sent for a form, and what came of it.
-#[derive(Clone, Copy, Debug)]
+#[derive(Clone, Copy)]
 pub(crate) struct Sent<'a> {
     /// When it was sent, in seconds since 1970.
     pub moment: u32,

@@ -15,7 +15,7 @@ use std::alloc::{AllocError, Global};
 use std::marker::Model;
 
 /// A form's command for a gateway, which contracts see as the command. No other code makes one.
-#[derive(Debug, Drop)]
+#[derive(Drop)]
 pub struct Order {
     command: Command,
     line: Vec<u8>,
@@ -50,7 +50,7 @@ impl Order {
 }
 
 /// Why nothing is sent to a gateway.
-#[derive(Debug, Drop)]
+#[derive(Drop)]
 pub enum Objection {
     /// On the gateway's page the form asks for no command.
     Form(FormFault),

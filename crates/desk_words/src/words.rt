@@ -41,7 +41,7 @@ pub struct Settings<'a> {
 }
 
 /// A value that its option can't have.
-#[derive(Clone, Copy, Debug, PartialEq, Eq)]
+#[derive(Clone, Copy)]
 pub enum BadValue {
     /// `--listen` is no IP address and port.
     Listen,
@@ -64,7 +64,7 @@ pub enum BadValue {
 }
 
 /// Why the words are no settings.
-#[derive(Debug, Drop)]
+#[derive(Drop)]
 pub enum WordsFault {
     /// clap refuses them, or they ask for help or the version: its message.
     Refused(Error),

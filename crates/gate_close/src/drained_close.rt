@@ -20,7 +20,7 @@ pub struct Closed {
 }
 
 /// Why not all was applied. The first that applies is reported. Own rules.
-#[derive(Clone, Copy, Debug, Error, PartialEq, Eq)]
+#[derive(Clone, Copy, Debug, Error, PartialEq)]
 pub enum CloseAllCause {
     /// The client with this number was neither taken in nor given; it is the least such client.
     #[error("client {0} has not ended")]

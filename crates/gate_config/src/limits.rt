@@ -1,7 +1,7 @@
 ghost use Rattle.std.specs.Prelude.{◌≤◌};
 
 /// The limits of the daemon. Own rules: the ranges and the defaults.
-#[derive(Clone, Copy, Debug, PartialEq, Eq)]
+#[derive(Clone, Copy)]
 pub struct Limits {
     /// The most items that wait in the queue: 1 to 65,536, by default 256.
     pub capacity: u32,

@@ -1,7 +1,7 @@
 use gate_model::{Body, Moment, Numbered};
 
 /// What happens. Clients are named by their numbers, from 1.
-#[derive(Debug, Drop, PartialEq)]
+#[derive(Debug, Drop)]
 pub enum Event {
     /// A client looks whether a close has begun.
     Look(u32),
@@ -18,7 +18,7 @@ pub enum Event {
 }
 
 /// What an event is answered.
-#[derive(Debug, Drop, PartialEq)]
+#[derive(Drop)]
 pub enum Reply {
     /// To a look: no close has begun.
     Open,
@@ -48,7 +48,7 @@ pub enum Reply {
 }
 
 /// Why a push of a client that may push is refused. The body is returned.
-#[derive(Debug, Drop, PartialEq)]
+#[derive(Drop)]
 pub(crate) enum PushFault {
     /// As many items as the quota allows were queued for this client.
     Spent(Body),

@@ -9,7 +9,7 @@ use std::alloc::{AllocError, Global};
 use thiserror::Error;
 
 /// Why a World was not opened. The first that applies is reported. Own rules.
-#[derive(Clone, Copy, Debug, Error, PartialEq, Eq)]
+#[derive(Clone, Copy, Debug, Error, PartialEq)]
 pub enum OpenFault {
     /// There are fewer than 1 or more than 64 clients.
     #[error("not 1 to 64 clients")]

@@ -11,7 +11,7 @@ use gate_model::{Body, Moment};
 use std::marker::Model;
 
 /// A World as one of its clients uses it. Its calls take no memory.
-#[derive(Debug, Drop)]
+#[derive(Drop)]
 pub struct LocalClient {
     world: World,
     number: u32,

@@ -12,7 +12,7 @@ use thiserror::Error;
 
 /// Why a submission is refused. The first that applies is reported, and the body is returned. Own
 /// rules.
-#[derive(Debug, Drop, Error, PartialEq)]
+#[derive(Debug, Drop, Error)]
 pub enum Refused {
     /// A close has begun, the first one at this moment.
     #[error("a close has begun")]
@@ -26,7 +26,7 @@ pub enum Refused {
 }
 
 /// Why a close is refused. Own rules.
-#[derive(Clone, Copy, Debug, Error, PartialEq, Eq)]
+#[derive(Clone, Copy, Debug, Error, PartialEq)]
 pub enum CloseFault {
     /// Another close was first, at this moment.
     #[error("another close was first")]

@@ -20,7 +20,7 @@ use std::time;
 use std::time::{Duration, Instant, SystemTime};
 
 /// Why the applier stopped. Own rules.
-#[derive(Clone, Copy, Debug, PartialEq, Eq)]
+#[derive(Clone, Copy)]
 pub enum ApplierStop {
     /// The gate is closing, and the queue was empty or there was no memory for one more record.
     Closing,
@@ -31,7 +31,7 @@ pub enum ApplierStop {
 /// It was noted in the gate that a full log takes nothing from the queue, so that nobody waits for
 /// room; and a board shows all of it, or memory for one was missing for a second. Only `end_full`
 /// makes one of these.
-#[derive(Clone, Copy, Debug, PartialEq, Eq)]
+#[derive(Clone, Copy)]
 pub struct FullLog(());
 
 // What one turn of the applier did.

@@ -1,7 +1,7 @@
 use thiserror::Error;
 
 /// Why an entry isn't scheduled, in the order of the tests. Own rule.
-#[derive(Clone, Copy, Debug, PartialEq, Eq, Error)]
+#[derive(Clone, Copy, Debug, PartialEq, Error)]
 pub enum ScheduleFault {
     /// The window's end isn't after its start.
     #[error("the downtime's window is empty")]
@@ -18,7 +18,7 @@ pub enum ScheduleFault {
 }
 
 /// Why no entry is deleted, in the order of the tests. Own rule.
-#[derive(Clone, Copy, Debug, PartialEq, Eq, Error)]
+#[derive(Clone, Copy, Debug, PartialEq, Error)]
 pub enum CancelFault {
     /// No live entry has that id.
     #[error("no such downtime")]

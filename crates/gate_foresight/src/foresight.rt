@@ -9,7 +9,7 @@ use std::alloc::{AllocError, Global};
 use thiserror::Error;
 
 /// Why nothing is foreseen.
-#[derive(Clone, Copy, Debug, PartialEq, Eq, Error)]
+#[derive(Clone, Copy, Debug, Error)]
 pub enum ForesightFault {
     /// There are more records than the 1,000,000 of the longest log.
     #[error("more than 1000000 records")]

@@ -2,7 +2,7 @@ use thiserror::Error;
 
 /// Why a line spells no command: its first fault, in the order of the variants. Of the arguments,
 /// it is that of the first faulty one from the left. Arguments are numbered from 1.
-#[derive(Clone, Copy, Debug, PartialEq, Eq, Error)]
+#[derive(Clone, Copy, Debug, PartialEq, Error)]
 pub enum LineFault {
     /// The line has more than 8192 bytes.
     #[error("command line too long: more than 8192 bytes")]

@@ -1,7 +1,7 @@
 use crate::object::ObjectId;
 
 /// Where a comment comes from.
-#[derive(Clone, Copy, Debug, PartialEq, Eq)]
+#[derive(Clone, Copy)]
 pub enum Source {
     /// An operator's comment command.
     User,
@@ -12,7 +12,7 @@ pub enum Source {
 }
 
 /// A comment that stands.
-#[derive(Clone, Copy, Debug, PartialEq, Eq)]
+#[derive(Clone, Copy)]
 pub struct Comment {
     /// Comments are numbered from the first id of their book on, in the order in which they were made.
     pub id: u32,
@@ -24,7 +24,7 @@ pub struct Comment {
 }
 
 /// What an accepted record is to the comments.
-#[derive(Clone, Copy, Debug, PartialEq, Eq)]
+#[derive(Clone, Copy)]
 pub enum CommentEvent {
     /// A comment is made.
     Add {

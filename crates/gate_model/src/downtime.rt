@@ -2,7 +2,7 @@ use crate::object::ObjectId;
 use crate::record::Moment;
 
 /// What a downtime command asks for (Nagios Core 4 manual, Scheduled Downtime).
-#[derive(Clone, Copy, Debug, PartialEq, Eq)]
+#[derive(Clone, Copy, PartialEq, Eq)]
 pub struct Plan {
     pub starts: Moment,
     pub ends: Moment,
@@ -17,7 +17,7 @@ pub struct Plan {
 }
 
 /// A downtime entry as it was scheduled.
-#[derive(Clone, Copy, Debug, PartialEq, Eq)]
+#[derive(Clone, Copy, PartialEq, Eq)]
 pub struct Scheduled {
     /// Entries are numbered from the first id of their book on, in the order in which they were scheduled.
     pub id: u32,
@@ -28,7 +28,7 @@ pub struct Scheduled {
 }
 
 /// A downtime entry with what came of it.
-#[derive(Clone, Copy, Debug, PartialEq, Eq)]
+#[derive(Clone, Copy, PartialEq, Eq)]
 pub struct Entry {
     pub scheduled: Scheduled,
     /// The first transition of its object that begins it, for an untriggered flexible entry.
@@ -38,7 +38,7 @@ pub struct Entry {
 }
 
 /// What an accepted record is to the downtime entries.
-#[derive(Clone, Copy, Debug, PartialEq, Eq)]
+#[derive(Clone, Copy)]
 pub enum DowntimeEvent {
     /// An entry is scheduled.
     Schedule {

@@ -8,7 +8,7 @@ pub enum Kind {
 }
 
 /// A monitored object of a table.
-#[derive(Clone, Copy, Debug, PartialEq, Eq)]
+#[derive(Clone, Copy, PartialEq, Eq)]
 pub struct ObjectId {
     /// The index, from 0, of the object in the table.
     pub place: u32,
@@ -16,7 +16,7 @@ pub struct ObjectId {
 }
 
 /// A line of the object table: a host, or a service of a host.
-#[derive(Debug, Drop, PartialEq)]
+#[derive(Debug, Drop)]
 pub struct ObjectLine {
     /// The host's name.
     pub host: Text,

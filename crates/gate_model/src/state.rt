@@ -4,7 +4,7 @@ ghost use Rattle.gate_model.specs.State.{is_problem, state_of_code};
 use crate::object::Kind;
 
 /// A state of a monitored object (Nagios Core 4 manual, Passive Checks).
-#[derive(Clone, Copy, Debug, PartialEq, Eq)]
+#[derive(Clone, Copy, PartialEq)]
 pub enum State {
     /// No result of the object has been accepted yet. Own rule.
     Pending,

@@ -5,7 +5,7 @@ use std::cmp::Ordering;
 use std::marker::Model;
 
 /// A counter of comparisons, by which a search shows how many it makes.
-#[derive(Debug, Drop)]
+#[derive(Drop)]
 pub struct Steps {
     count: u32,
 }

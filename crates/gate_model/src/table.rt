@@ -31,7 +31,7 @@ use std::marker::Model;
 /// from 1. The faults of one line are tested in this order. Own rule.
 ///
 /// It is shown as a short phrase, for example "line 3: a host of that name stands before it".
-#[derive(Clone, Copy, Debug, PartialEq, Eq)]
+#[derive(Clone, Copy, Debug)]
 pub enum TableFault {
     /// A name is empty or too long (a host's has at most 63 bytes, a service's 127), begins or ends
     /// with a space, or contains `;` or a control byte.

@@ -5,7 +5,7 @@ use crate::packet::{PACKET_SIZE, SHORT_PACKET_SIZE};
 
 /// A block of a stream, which is to be read as one packet by `decode_block`. It is a copy, for those
 /// who cut a stream by a `Cutter`; a session reads a block where it stands, by `split_block`.
-#[derive(Clone, Copy, Debug, PartialEq, Eq)]
+#[derive(Clone, Copy)]
 pub enum Block {
     /// A block of the older form.
     Short([u8; SHORT_PACKET_SIZE]),

@@ -17,7 +17,7 @@ use std::alloc::{AllocError, Global};
 use thiserror::Error;
 
 /// Why bytes are not read as a packet. The first that applies is reported, in this order.
-#[derive(Clone, Copy, Debug, Error, PartialEq, Eq)]
+#[derive(Clone, Copy, Debug, Error, PartialEq)]
 pub enum PacketFault {
     /// The version is not 3.
     #[error("the packet's version is not 3")]

@@ -22,7 +22,7 @@ fn first_block(bytes: &[u8]) -> Option<Block>
 
 /// Cuts a stream into blocks, each of which is to be read as a packet. Contracts see the bytes that
 /// it holds: those that were fed and not yet returned in a block.
-#[derive(Debug, Drop)]
+#[derive(Drop)]
 pub struct Cutter {
     fed: Vec<u8>,
     // How many of the first bytes were returned in blocks.

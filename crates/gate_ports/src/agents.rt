@@ -250,7 +250,7 @@ impl Sink for AgentOutput {
 }
 
 // How many bytes an agent owes, in what time, and for how long it was waited for.
-#[derive(Clone, Copy, Debug)]
+#[derive(Clone, Copy)]
 pub(crate) struct Owed {
     pub(crate) bytes: usize,
     pub(crate) limit: Duration,

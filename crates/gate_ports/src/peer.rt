@@ -14,7 +14,7 @@ use std::net::Shutdown;
 const PIECE: usize = 16_384;
 
 /// Who connects to a port.
-#[derive(Clone, Copy, Debug, PartialEq, Eq)]
+#[derive(Clone, Copy)]
 pub(crate) enum Role {
     /// An operator sends lines, and each is answered.
     Operator,
@@ -23,7 +23,7 @@ pub(crate) enum Role {
 }
 
 /// How far a peer has come.
-#[derive(Clone, Copy, Debug, PartialEq, Eq)]
+#[derive(Clone, Copy)]
 pub(crate) enum Stage {
     /// It is to be served, once it brought what it owes.
     Open,

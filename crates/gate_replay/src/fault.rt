@@ -11,7 +11,7 @@ use std::io::ErrorKind;
 use thiserror::Error;
 
 /// Why a replay stops.
-#[derive(Clone, Copy, Debug, PartialEq, Eq, Error)]
+#[derive(Clone, Copy, Debug, PartialEq, Error)]
 pub enum ReplayFault {
     /// The input has more than 1,048,576 bytes.
     #[error("the script is longer than 1048576 bytes")]

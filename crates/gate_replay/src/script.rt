@@ -16,7 +16,7 @@ use std::alloc::{AllocError, AllocFailed, Global};
 use thiserror::Error;
 
 /// What a script does after it opened.
-#[derive(Debug, Drop, PartialEq)]
+#[derive(Drop)]
 pub enum Step {
     /// The clock is set.
     Clock(Moment),
@@ -37,7 +37,7 @@ pub struct Script {
 }
 
 /// Why a text is no script.
-#[derive(Clone, Copy, Debug, PartialEq, Eq, Error)]
+#[derive(Clone, Copy, Debug, Error)]
 pub enum ScriptFault {
     /// The line of this number, from 1, is the first that is faulty. Where all lines are good and
     /// none opens, it is the one after the last.

@@ -6,7 +6,7 @@ use gate_grammar::{read_code, read_number};
 use gate_model::{GREATEST_AGE, MOST_CAPACITY, MOST_RECORDS, Moment};
 
 /// The form in which a packet is sent: `data_packet` of NSCA 2.7 or 2.9, `common.h`.
-#[derive(Clone, Copy, Debug, PartialEq, Eq)]
+#[derive(Clone, Copy)]
 pub enum PacketForm {
     /// In 720 bytes, of which an output has 512.
     Short,
@@ -15,7 +15,7 @@ pub enum PacketForm {
 }
 
 /// A parsed line of a script. Its texts are those of the line.
-#[derive(Clone, Copy, Debug, PartialEq, Eq)]
+#[derive(Clone, Copy)]
 pub enum ScriptLine<'a> {
     /// A host, or a service of a host, with the seconds for which a result keeps it fresh.
     Object {

@@ -6,7 +6,7 @@ use gate_packet::{Packet, fits_short};
 use std::marker::Model;
 
 /// A packet of a script, and the form in which it is sent, which has room for it.
-#[derive(Debug, Drop, PartialEq)]
+#[derive(Drop)]
 pub struct SentPacket {
     form: PacketForm,
     packet: Packet,

@@ -9,7 +9,7 @@ use std::alloc::{AllocError, Global};
 use thiserror::Error;
 
 /// What the words ask for.
-#[derive(Clone, Copy, Debug, PartialEq, Eq)]
+#[derive(Clone, Copy)]
 pub enum Request<'a> {
     /// `replay`: replay the script on standard input.
     Replay,
@@ -18,7 +18,7 @@ pub enum Request<'a> {
 }
 
 /// Why the words ask for nothing.
-#[derive(Clone, Copy, Debug, PartialEq, Eq, Error)]
+#[derive(Clone, Copy, Debug, Error)]
 pub enum WordsFault {
     /// The words are neither `replay` nor `serve` with `--config` and a path. A word that asks for
     /// help is among them. Own rule.

@@ -32,7 +32,7 @@ pub trait Connections {
 }
 
 /// A point of a thread's way at which a `Hold` is called.
-#[derive(Clone, Copy, Debug, PartialEq, Eq)]
+#[derive(Clone, Copy)]
 pub enum Point {
     /// A worker has a connection, and serves it next.
     Session,
@@ -48,7 +48,7 @@ pub trait Hold {
 }
 
 /// Holds no thread up.
-#[derive(Clone, Copy, Debug)]
+#[derive(Clone, Copy)]
 pub struct NoHold;
 
 impl Hold for NoHold {
@@ -69,7 +69,7 @@ pub trait Watch {
 
 /// A session's view of a shared clock. Each reading is one that the shared clock may show; which one
 /// isn't known.
-#[derive(Clone, Copy, Debug)]
+#[derive(Clone, Copy)]
 pub struct SharedClock<'a, K: Watch>(pub &'a K);
 
 impl<'a, K: Watch> Clock for SharedClock<'a, K> {

@@ -1,7 +1,7 @@
 use gate_reader::SessionLimits;
 
 /// How much a worker serves.
-#[derive(Clone, Copy, Debug, PartialEq, Eq)]
+#[derive(Clone, Copy)]
 pub struct WorkerLimits {
     /// How many connections a worker serves at most, of each of which something is answered: 1 to
     /// 1,000,000. A gateway's operator is served without such a limit.

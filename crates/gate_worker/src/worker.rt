@@ -18,7 +18,7 @@ use std::sync::Wait;
 use std::time::Clock;
 
 /// Why a worker ended. They are tested in this order. Own rules.
-#[derive(Clone, Copy, Debug, PartialEq, Eq)]
+#[derive(Clone, Copy, Debug)]
 pub enum Cause {
     /// The gate is closing.
     Closing,

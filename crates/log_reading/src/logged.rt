@@ -7,7 +7,7 @@ use gate_model::{Moment, Outcome, Record, Text};
 use std::alloc::{AllocError, Global};
 
 /// A record of a log page.
-#[derive(Debug, Drop, PartialEq)]
+#[derive(Drop)]
 pub enum Logged {
     /// It took effect.
     Accepted(Record),
@@ -16,7 +16,7 @@ pub enum Logged {
 }
 
 /// A record that was refused.
-#[derive(Debug, Drop, PartialEq)]
+#[derive(Drop)]
 pub struct Refusal {
     pub moment: Moment,
     /// The number of the client, from 1.

@@ -17,7 +17,7 @@ use std::alloc::{AllocError, AllocFailed, Global};
 use thiserror::Error;
 
 /// Why a text is no log page. Lines are numbered from 1.
-#[derive(Clone, Copy, Debug, PartialEq, Eq, Error)]
+#[derive(Clone, Copy, Debug, PartialEq, Error)]
 pub enum LogFault {
     /// It doesn't begin with `log`, a space, a number and LF.
     #[error("not a log page")]

@@ -8,7 +8,7 @@ use std::io::ErrorKind;
 use thiserror::Error;
 
 /// Why the program does nothing.
-#[derive(Clone, Copy, Debug, PartialEq, Eq, Error)]
+#[derive(Clone, Copy, Debug, Error)]
 pub enum ProgramFault {
     /// The words after the program's name ask for nothing, or can't be read as text.
     #[error("bad arguments")]

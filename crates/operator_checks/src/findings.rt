@@ -10,14 +10,14 @@ use status_merge::{MergedObject, count};
 use std::alloc::AllocError;
 
 /// A port that is asked beside that of the pages.
-#[derive(Clone, Copy, Debug, PartialEq, Eq)]
+#[derive(Clone, Copy)]
 pub enum Port {
     Agents,
     Operators,
 }
 
 /// How many objects a page shows, and how many of them are problems, unhandled ones, and stale.
-#[derive(Clone, Copy, Debug, PartialEq, Eq)]
+#[derive(Clone, Copy)]
 pub struct Figures {
     pub objects: usize,
     pub problems: usize,
@@ -26,7 +26,7 @@ pub struct Figures {
 }
 
 /// What is so of a gateway of a name, or of a port at an address.
-#[derive(Clone, Copy, Debug)]
+#[derive(Clone, Copy)]
 pub enum Finding<'a> {
     /// OK: the page shows this.
     Serves(&'a [u8], Figures),

@@ -7,7 +7,7 @@ use gate_model::{Body, Moment, Text};
 use thiserror::Error;
 
 /// Why a request is no command.
-#[derive(Clone, Copy, Debug, PartialEq, Eq, Error)]
+#[derive(Clone, Copy, Debug, Error)]
 pub enum RequestFault {
     /// `--state` names no state of a service, or none of a host.
     #[error("--state is OK, WARNING, CRITICAL or UNKNOWN, or of a host UP, DOWN or UNREACHABLE")]
@@ -36,7 +36,7 @@ pub enum RequestFault {
 }
 
 /// When downtime is.
-#[derive(Clone, Copy, Debug, PartialEq, Eq)]
+#[derive(Clone, Copy)]
 pub struct Times {
     pub starts: Moment,
     pub ends: Moment,

@@ -2,14 +2,14 @@ use crate::texts::Texts;
 use gate_model::Text;
 
 /// A host, or a service of a host.
-#[derive(Debug, Drop)]
+#[derive(Drop)]
 pub struct Object {
     pub host: Text,
     pub service: Option<Text>,
 }
 
 /// What is said of an object.
-#[derive(Debug, Drop)]
+#[derive(Drop)]
 pub struct Remark {
     pub text: Text,
     /// Who says it; None: the user.
@@ -17,7 +17,7 @@ pub struct Remark {
 }
 
 /// When downtime is, as it was written.
-#[derive(Debug, Drop)]
+#[derive(Drop)]
 pub struct Window {
     /// `--for SPAN`
     pub lasts: Option<Text>,
@@ -32,7 +32,7 @@ pub struct Window {
 }
 
 /// A command that is asked for.
-#[derive(Debug, Drop)]
+#[derive(Drop)]
 pub enum Request {
     /// `ack HOST [SERVICE] -c TEXT [--author NAME] [--sticky] [--persistent]`
     Ack {
@@ -83,7 +83,7 @@ pub enum Request {
 }
 
 /// What is asked for. A gateway is asked for all but `test-config` and `log`.
-#[derive(Debug, Drop)]
+#[derive(Drop)]
 pub enum Task {
     Command(Request),
     /// `status [--state WORD] [--host TEXT]`
@@ -129,7 +129,7 @@ pub enum Task {
 }
 
 /// The options that several tasks have, as they were written.
-#[derive(Debug, Drop)]
+#[derive(Drop)]
 pub struct Options {
     /// `--config FILE`
     pub config: Option<Text>,
@@ -146,7 +146,7 @@ pub struct Options {
 }
 
 /// A task, with the options that many have.
-#[derive(Debug, Drop)]
+#[derive(Drop)]
 pub struct Asked {
     pub options: Options,
     pub task: Task,

@@ -4,7 +4,7 @@ use gate_model::Text;
 use std::marker::Model;
 
 /// Several texts, in order.
-#[derive(Debug, Drop)]
+#[derive(Drop)]
 pub struct Texts {
     list: Vec<Text>,
 }

@@ -7,7 +7,7 @@ use gate_model::{Body, Outcome, State};
 use operator_lines::{AskFault, Reply, SendFault};
 
 /// What a page shows of a command.
-#[derive(Clone, Copy, Debug)]
+#[derive(Clone, Copy)]
 pub struct Effect {
     /// The state of the object that it names, before it.
     pub state: Option<State>,
@@ -16,7 +16,7 @@ pub struct Effect {
 }
 
 /// How a command ended.
-#[derive(Clone, Copy, Debug)]
+#[derive(Clone, Copy)]
 pub enum Ending {
     /// A page shows its effect.
     Shown(Effect),

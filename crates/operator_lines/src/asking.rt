@@ -19,7 +19,7 @@ use thiserror::Error;
 const LINE_SIZE: usize = 96;
 
 /// Why a command has no reply.
-#[derive(Clone, Copy, Debug, PartialEq, Eq, Error)]
+#[derive(Clone, Copy, Debug, PartialEq, Error)]
 pub enum AskFault {
     /// Nothing of the command was written.
     #[error("{0}")]

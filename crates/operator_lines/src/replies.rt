@@ -15,7 +15,7 @@ use std::str::from_utf8;
 
 /// What a gateway answered to a line. The moment of a close doesn't stand in the answer's line, and
 /// so isn't here.
-#[derive(Clone, Copy, Debug, PartialEq, Eq)]
+#[derive(Clone, Copy, PartialEq)]
 pub enum Reply {
     /// The command is queued, as the operator's item of this number, from 1.
     Queued(u64),

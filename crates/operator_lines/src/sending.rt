@@ -11,7 +11,7 @@ use std::alloc::{AllocError, Global};
 use thiserror::Error;
 
 /// Why nothing is sent.
-#[derive(Clone, Copy, Debug, PartialEq, Eq, Error)]
+#[derive(Clone, Copy, Debug, PartialEq, Error)]
 pub enum SendFault {
     /// A command has no line: a text holds an LF, a NUL or, before the last, a semicolon, the last
     /// text ends in a blank, a name is empty, or the line has more than 8192 bytes.

@@ -16,7 +16,7 @@ use std::alloc::{AllocError, Global};
 use thiserror::Error;
 
 /// Why a kept page and a kept log say nothing of a gateway.
-#[derive(Clone, Copy, Debug, PartialEq, Eq, Error)]
+#[derive(Clone, Copy, Debug, Error)]
 pub enum KeptFault {
     /// The objects of the page are no table.
     #[error("the objects of the page are those of no gateway")]

@@ -12,7 +12,7 @@ use std::marker::Model;
 const TRIES: u32 = 10;
 
 /// What is done after an answer.
-#[derive(Clone, Copy, Debug, PartialEq, Eq)]
+#[derive(Clone, Copy)]
 pub enum Turn {
     /// The next command is sent, if there is one.
     GoOn,

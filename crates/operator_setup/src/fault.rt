@@ -11,7 +11,7 @@ use std::io;
 use std::io::ErrorKind;
 
 /// Why the program ends before it has done what the words ask for.
-#[derive(Debug, Drop)]
+#[derive(Drop)]
 pub enum ControlFault {
     /// The words after the program's name ask for nothing.
     BadWords,

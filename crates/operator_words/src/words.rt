@@ -14,7 +14,7 @@ use operator_commands::{Asked, Request, Task};
 use std::alloc::{AllocError, Global};
 
 /// Why the words are no request.
-#[derive(Debug, Drop)]
+#[derive(Drop)]
 pub enum WordsFault {
     /// clap refuses them, or they ask for help or the version: its message and exit status.
     Refused(Error),

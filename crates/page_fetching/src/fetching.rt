@@ -8,7 +8,7 @@ use std::time::{Clock, Duration, Instant};
 use thiserror::Error;
 
 /// Why no text of a gateway's page was fetched.
-#[derive(Clone, Copy, Debug, PartialEq, Eq, Error)]
+#[derive(Clone, Copy, Debug, Error)]
 pub enum FetchFault {
     /// No connection in time, or it was refused.
     #[error("the gateway doesn't accept a connection")]

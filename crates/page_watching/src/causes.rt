@@ -9,7 +9,7 @@ use status_reading::{ReadFault, row_fault_words};
 use std::alloc::{AllocError, Global};
 
 /// Why a fetch gave no page.
-#[derive(Clone, Copy, Debug)]
+#[derive(Clone, Copy)]
 pub enum NoPage {
     /// It gave no text.
     Fetch(FetchFault),

@@ -12,14 +12,14 @@ use std::net::SocketAddr;
 use thiserror::Error;
 
 /// A gateway's name, and the address of its pages port.
-#[derive(Clone, Copy, Debug)]
+#[derive(Clone, Copy)]
 pub struct Place<'a> {
     pub name: &'a str,
     pub address: SocketAddr,
 }
 
 /// Why values name no places.
-#[derive(Clone, Copy, Debug, PartialEq, Eq, Error)]
+#[derive(Clone, Copy, Debug, Error)]
 pub enum PlacesFault {
     /// One has an empty name, or an address that is no IP address and port.
     #[error("not [NAME=]ADDRESS:PORT")]

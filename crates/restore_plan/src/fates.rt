@@ -10,7 +10,7 @@ use std::alloc::{AllocError, Global};
 use thiserror::Error;
 
 /// Why a command is left out.
-#[derive(Clone, Copy, Debug, PartialEq, Eq, Error)]
+#[derive(Clone, Copy, Debug, Error)]
 pub enum Cause {
     /// The fresh gateway doesn't monitor the object.
     #[error("the gateway has no such object")]
@@ -30,7 +30,7 @@ pub enum Cause {
 }
 
 /// What becomes of the command for what stands of a record.
-#[derive(Debug, Drop, PartialEq)]
+#[derive(Drop)]
 pub enum Fate {
     /// It is sent.
     Sent(Body),

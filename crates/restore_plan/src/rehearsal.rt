@@ -12,7 +12,7 @@ use std::alloc::{AllocError, Global};
 use thiserror::Error;
 
 /// Why commands aren't rehearsed, or not with success.
-#[derive(Clone, Copy, Debug, PartialEq, Eq, Error)]
+#[derive(Clone, Copy, Debug, Error)]
 pub enum RehearsalFault {
     /// There are more commands than the 1,000,000 records of the longest log.
     #[error("more than 1000000 commands")]

@@ -11,7 +11,7 @@ use json::Writer;
 use std::alloc::{AllocError, Global};
 
 /// The value of a member.
-#[derive(Clone, Copy, Debug)]
+#[derive(Clone, Copy)]
 pub enum Value<'a> {
     Null,
     Number(u32),

@@ -10,7 +10,7 @@ use status_reading::State;
 use std::alloc::{AllocError, Global};
 
 /// Which objects are shown, by their state.
-#[derive(Clone, Copy, Debug, PartialEq, Eq)]
+#[derive(Clone, Copy, PartialEq)]
 pub enum Choice {
     All,
     /// Problems, and stale objects.
@@ -21,7 +21,7 @@ pub enum Choice {
 }
 
 /// In which order objects are shown. Those of which neither is first are by rank.
-#[derive(Clone, Copy, Debug, PartialEq, Eq)]
+#[derive(Clone, Copy)]
 pub enum Sort {
     /// By rank, the most urgent first.
     Worst,
@@ -34,7 +34,7 @@ pub enum Sort {
 }
 
 /// What a request asks to see: the objects of which all of this holds.
-#[derive(Debug, Drop)]
+#[derive(Drop)]
 pub struct Query {
     pub choice: Choice,
     /// The name of the object's host contains this text, that of its service this one, and its output

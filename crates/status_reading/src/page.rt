@@ -30,7 +30,7 @@ pub struct StatusPage<'a> {
 }
 
 /// Why a text is no status page.
-#[derive(Clone, Copy, Debug, PartialEq, Eq, Error)]
+#[derive(Clone, Copy, Debug, Error)]
 pub enum ReadFault {
     /// It doesn't begin with `status`, a space, a moment and LF.
     #[error("not a status page")]

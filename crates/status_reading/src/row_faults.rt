@@ -18,7 +18,7 @@ use std::error::Error;
 use std::fmt;
 
 /// Why no gateway writes a row. The faults of one row are tested in this order.
-#[derive(Clone, Copy, Debug, PartialEq, Eq)]
+#[derive(Clone, Copy, Debug)]
 pub enum RowFault {
     /// A name that no object can have.
     BadName,

@@ -19,7 +19,7 @@ pub struct ShownObject<'a> {
 }
 
 /// Whether an object's problem is acknowledged, and how.
-#[derive(Clone, Copy, Debug, PartialEq, Eq)]
+#[derive(Clone, Copy)]
 pub enum ShownAcknowledgement {
     Missing,
     Normal,
@@ -42,7 +42,7 @@ pub struct ShownComment<'a> {
 }
 
 /// Where a comment comes from.
-#[derive(Clone, Copy, Debug, PartialEq, Eq)]
+#[derive(Clone, Copy)]
 pub enum ShownSource {
     User,
     Acknowledgement,

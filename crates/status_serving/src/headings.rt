@@ -3,7 +3,7 @@ ghost use Rattle.std.specs.Prelude.{◌≡◌, IsTrue, IsFalse, MatchOption};
 ghost use Rattle.status_serving.specs.Headings.{WritesRefresh};
 
 /// What stands at the head of a page for a browser.
-#[derive(Clone, Copy, Debug)]
+#[derive(Clone, Copy)]
 pub struct Heading<'a> {
     pub title: &'a str,
     /// The seconds after which a browser asks again; 0: it doesn't.

@@ -17,7 +17,7 @@ use web_connections::Browsers;
 const LONGEST_BODY: usize = 16 << 10;
 
 /// Why nothing is served.
-#[derive(Clone, Copy, Debug, PartialEq, Eq, Error)]
+#[derive(Clone, Copy, Debug, Error)]
 pub enum ServeFault {
     /// No thread can be started, or has a descriptor to wait with.
     #[error("no thread can be started")]

@@ -12,7 +12,7 @@ use status_reading::{ShownAcknowledgement, ShownSource, State};
 use std::alloc::{AllocError, Global};
 
 /// What decides the markup of a gateway's lines: no text is in it.
-#[derive(Clone, Copy, Debug)]
+#[derive(Clone, Copy)]
 pub struct GatewayShape {
     /// The moment of its page, where there is one.
     pub moment: Option<u32>,
@@ -26,7 +26,7 @@ pub struct GatewayShape {
 }
 
 /// What decides the markup of an object's row: no text is in it.
-#[derive(Clone, Copy, Debug)]
+#[derive(Clone, Copy)]
 pub struct ObjectShape {
     pub is_host: bool,
     pub state: State,

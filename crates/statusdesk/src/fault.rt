@@ -10,7 +10,7 @@ use std::io;
 use std::io::ErrorKind;
 
 /// Why the program doesn't serve.
-#[derive(Debug, Drop)]
+#[derive(Drop)]
 pub enum DeskFault {
     /// The words after the program's name can't be read as text.
     BadArguments,

@@ -31,7 +31,7 @@ pub struct Settings<'a> {
 }
 
 /// A value that its option can't have.
-#[derive(Clone, Copy, Debug, PartialEq, Eq)]
+#[derive(Clone, Copy)]
 pub enum BadValue {
     /// `--listen` is no IP address and port.
     Listen,
@@ -48,7 +48,7 @@ pub enum BadValue {
 }
 
 /// Why the words are no settings.
-#[derive(Debug, Drop)]
+#[derive(Drop)]
 pub enum WordsFault {
     /// clap refuses them, or they ask for help or the version: its message.
     Refused(Error),

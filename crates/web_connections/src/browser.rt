@@ -22,7 +22,7 @@ const PIECE: usize = 16_384;
 const MOST_STEPS: u32 = 16;
 
 /// What a browser owes.
-#[derive(Clone, Copy, Debug, PartialEq, Eq)]
+#[derive(Clone, Copy)]
 pub(crate) enum Owed {
     /// A whole request.
     Request,
