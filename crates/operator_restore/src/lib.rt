@@ -18,7 +18,7 @@ pub use back::compare;
 pub use escapes::is_escaped_text;
 pub use kept::{KeptFault, kept_gateway, kept_over};
 pub use markers::{is_marker, marker_body, marker_text, markers_on};
-pub use naming::{left_count, push_command, push_left, push_rows, row_count};
+pub use naming::{left_count, push_command, push_left, push_rows, row_count, status_of};
 pub use outbox::{Outbox, Turn};
 pub use pages::{is_fresh, kept_table};
 pub use pending::{is_pending, pending_on};

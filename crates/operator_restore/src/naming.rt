@@ -1,6 +1,6 @@
 //! The lines that name what isn't restored.
 
-ghost use Rattle.std.specs.Prelude.{◌≡◌, ◌++◌, IfOk, OnOk, drop, map, min, slice_get};
+ghost use Rattle.std.specs.Prelude.{◌≡◌, ◌≤◌, ◌==◌, ◌++◌, if◌then◌else◌, IfOk, OnOk, drop, map, min, slice_get};
 ghost use Rattle.std.specs.Option.{option_map};
 ghost use Rattle.operator_restore.specs.Naming.{named_line, command_line, cause_text, left_front, left_line, left_lines, left_count, is_left, row_line, rows_named, row_lines, row_count};
 
@@ -112,6 +112,15 @@ pub fn left_count(fates: &[Fate]) -> usize
         }
     }
     count
+}
+
+/// The exit status of a restoring that names so much: 0 for nothing, and 1 otherwise. Own rule.
+pub fn status_of(named: usize) -> u8
+    ensures status { result ≡ (if named == 0 then 0 else 1) }
+    ensures all { result ≡ 0 → named ≡ 0 }
+    ensures some { result ≡ 1 → 1 ≤ named }
+{
+    if named == 0 { 0 } else { 1 }
 }
 
 /// The lines from this index on.

@@ -16,7 +16,7 @@ use gate_config::Config;
 use gate_model::{Moment, ObjectTable, Text};
 use gate_reader::Sink;
 use operator_commands::{Options, Task};
-use operator_restore::Prospect;
+use operator_restore::{Prospect, status_of};
 use operator_setup::{
     ControlFault, address_or, configuration, now, path_in, path_of, places_for, print,
 };
@@ -92,7 +92,7 @@ fn print_lines<W: Sink>(
     ensures status { IfOk result (λ status. status ≡ (if prospect.named == 0 then 0 else 1)) }
     ensures unsaid { IfErr result IsOutputFault }
 {
-    let status = if prospect.named == 0 { 0 } else { 1 };
+    let status = status_of(prospect.named);
     let lines = lines_of(alloc, prospect, entered)?;
     print(output, lines.as_slice())?;
     Ok(status)
@@ -110,12 +110,12 @@ fn finish<F: Files, W: Sink>(
     ensures some { IfOk result (λ status. status ≡ 1 → 1 ≤ count) }
     ensures unsaid { IfErr result IsOutputFault }
 {
-    if count > 0 {
-        return Ok(1);
+    let status = status_of(count);
+    if status == 0 {
+        put_aside(files, alloc, page)?;
+        print(output, b"restored: each row is shown again\n")?;
     }
-    put_aside(files, alloc, page)?;
-    print(output, b"restored: each row is shown again\n")?;
-    Ok(0)
+    Ok(status)
 }
 
 // Sends all, prints what is missing, and returns the exit status.
