@@ -221,7 +221,8 @@ def play_markup(program):
     """Names and texts of a page, of users and of answers are shown as texts."""
     now = int(time.time())
     page = (f"status {now}\nobject;<b>\"';;DOWN;{now - 300};stale;sticky;1;<script>\nobject;<b>\"';a b\\\\c;OK;{now};fresh;-;0;x\n"
-            f"comment;1;<b>\"';;user;0;{now};<i>;</li><form>\ndowntime;2;<b>\"';;fixed;0;{now};{now + 9};0;{now};<u>;&amp;\n").encode()
+            f"comment;1;<b>\"';;user;0;{now};<i>;</li><form>\ncomment;3;<b>\"';a b\\\\c;user;0;{now};me;of the service\n"
+            f"downtime;2;<b>\"';;fixed;0;{now};{now + 9};0;{now};<u>;&amp;\n").encode()
     port = takes(b"full\n")
     with Desk(program, ("<east>", shows(page).port, port.port), users="<s>ann</s>", words=("--title", "<q>")) as desk:
         named, user = {"host": "<b>\"'", "service": ""}, "<s>ann</s>"
@@ -235,6 +236,9 @@ def play_markup(program):
         check("the title and the user", [one in text for one in ("&lt;q&gt;", "&lt;s&gt;ann&lt;/s&gt;")], [True] * 2)
         check("the state, the texts and the forms", [part for part in PARTS if part not in text], [])
         service = {"host": "<b>\"'", "service": "a b\\\\c"}
+        check("a host's page has no comment of its service, and the other way around",
+              [[part in desk.page_with(one, "Acknowledge", user) for part in ('name="id" value="1"', 'name="id" value="3"')]
+               for one in (named, service)], [[True, False], [False, True]])
         desk.post(desk.form(service, user, action="comment", text="one"), user)
         check("a name without the escapes of its page", soon(lambda: commands_at(port)[1:]), ["ADD_SVC_COMMENT;<b>\"';a b\\c;0;<s>ann</s>;one"])
         desk.post(desk.marked("", ["<b>\"';a b\\\\c"], user, action="comment", text="two"), user, path="/commands")
