@@ -4,7 +4,7 @@ use clap::Error;
 use config_testing::test_config;
 use gate_reader::Sink;
 use operator_checking::{Wanted, report_unknown, run_check};
-use operator_commands::{Asked, Options, Task};
+use operator_commands::{Asked, Options, Request, Task};
 use operator_log::run_log;
 use operator_restoring::{restore, stop};
 use operator_sending::carry_out_request;
@@ -52,6 +52,14 @@ fn run_task<R: Net<Listener = TcpListener, Stream = TcpStream> + Clock + Files, 
     }
 }
 
+// The request of a task that is a command; any other task.
+fn request_of(task: Task) -> Result<Request, Task> {
+    match task {
+        Task::Command(request) => Ok(request),
+        task => Err(task),
+    }
+}
+
 // Carries out a task, and returns the exit status.
 fn run<
     R: Net<Listener = TcpListener, Stream = TcpStream> + Clock + Files + Env + AllocGlobal,
@@ -59,11 +67,9 @@ fn run<
     E: Sink,
 >(rt: &R, alloc: Global, asked: Asked, output: &mut W, errors: &mut E) -> Result<u8, ControlFault> {
     let Asked { options, task } = asked;
-    match task {
-        Task::Command(request) => {
-            carry_out_request(rt, alloc, &options, request, output, errors)
-        }
-        task => run_task(rt, alloc, &options, &task, output, errors),
+    match request_of(task) {
+        Ok(request) => carry_out_request(rt, alloc, &options, request, output, errors),
+        Err(task) => run_task(rt, alloc, &options, &task, output, errors),
     }
 }
 

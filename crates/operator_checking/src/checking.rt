@@ -1,8 +1,8 @@
 //! Whether gateways serve: their ports are asked, each with a time of its own.
 
-ghost use Rattle.std.specs.Prelude.{◌≡◌, ◌-◌, ◌≤◌, is_some, nat_lt, IfErr, IfOk, OnErr, OnOk, if◌then◌else◌, length, vec_len};
+ghost use Rattle.std.specs.Prelude.{◌≡◌, ◌++◌, ◌-◌, ◌≤◌, codes, is_some, nat_lt, IfErr, IfOk, OnErr, OnOk, if◌then◌else◌, length, vec_len};
 ghost use Rattle.gate_reader.specs.Sink.{Delivers, FailsOnce};
-ghost use Rattle.operator_checks.specs.Findings.{weight};
+ghost use Rattle.operator_checks.specs.Findings.{line, weight};
 ghost use Rattle.operator_checking.specs.Checked.{IsChecked, IsCheckFault, IsReport, unknown_line};
 
 use gate_config::Config;
@@ -183,6 +183,28 @@ fn keep_shown<'a, F: Files>(
     }
 }
 
+// What a page of this text shows; it is kept where it is to be.
+fn found_on<'a, R: Clock + Files>(
+    rt: &R,
+    alloc: Global,
+    name: &'a [u8],
+    text: &[u8],
+    shows: StatusPage<'_>,
+    ports: Ports<'a>,
+    findings: &mut Vec<Finding<'a>>,
+) -> Result<Finding<'a>, ControlFault>
+    ensures grows { OnOk result (vec_len findings.old ≤ vec_len findings.new) }
+    ensures fault { IfErr result IsCheckFault }
+{
+    if let Some(unkept) = keep_shown(rt, alloc, ports.keep, text) {
+        findings.push(unkept)?;
+    }
+    match now(rt) {
+        Ok(now) => Ok(shown(alloc, name, shows, now, ports.age)?),
+        Err(_) => Err(ControlFault::NoClock),
+    }
+}
+
 // What is found at the pages port of a word.
 fn ask_pages<'a, R: Net<Listener = TcpListener, Stream = TcpStream> + Clock + Files>(
     rt: &R,
@@ -211,15 +233,7 @@ fn ask_pages<'a, R: Net<Listener = TcpListener, Stream = TcpStream> + Clock + Fi
         return Ok(Finding::NoPage(name, text));
     }
     match read_status_page(alloc, page.as_slice()) {
-        Ok(shows) => {
-            if let Some(unkept) = keep_shown(rt, alloc, ports.keep, page.as_slice()) {
-                findings.push(unkept)?;
-            }
-            let Ok(now) = now(rt) else {
-                return Err(ControlFault::NoClock);
-            };
-            Ok(shown(alloc, name, shows, now, ports.age)?)
-        }
+        Ok(shows) => found_on(rt, alloc, name, page.as_slice(), shows, ports, findings),
         Err(ReadFault::OutOfMemory) => Err(ControlFault::OutOfMemory),
         Err(_) => Ok(Finding::OtherPage(name, text)),
     }
@@ -242,6 +256,37 @@ fn add_port<'a, R: Net<Listener = TcpListener, Stream = TcpStream> + Clock>(
     Ok(())
 }
 
+// What is found at the ports: at least one finding for each page.
+fn findings_at<'a, R: Net<Listener = TcpListener, Stream = TcpStream> + Clock + Files>(
+    rt: &R,
+    alloc: Global,
+    ports: Ports<'a>,
+) -> Result<Vec<Finding<'a>>, ControlFault>
+    ensures each { IfOk result (λ findings.
+        length ports.entry.pages.now ≤ length findings.items) }
+    ensures fault { IfErr result IsCheckFault }
+{
+    let mut findings = Vec::new(alloc);
+    let seconds = ports.seconds;
+    add_port(rt, &mut findings, Port::Agents, ports.agents, seconds)?;
+    add_port(rt, &mut findings, Port::Operators, ports.operators, seconds)?;
+    for word in ports.pages {
+        let found = ask_pages(rt, alloc, word, ports, &mut findings)?;
+        findings.push(found)?;
+    }
+    Ok(findings)
+}
+
+// The line of what is found.
+fn line_of(alloc: Global, findings: &[Finding<'_>]) -> Result<Vec<u8>, AllocError>
+    ensures { IfOk result (λ text. text.items ≡ line findings.now ++ codes "\n") }
+{
+    let mut text = Vec::new(alloc);
+    push_line(alloc, &mut text, findings)?;
+    text.push(b'\n')?;
+    Ok(text)
+}
+
 // Asks the ports, prints the line of what is found, and returns the exit status of a plugin.
 fn check<R: Net<Listener = TcpListener, Stream = TcpStream> + Clock + Files, W: Sink>(
     rt: &R,
@@ -253,18 +298,9 @@ fn check<R: Net<Listener = TcpListener, Stream = TcpStream> + Clock + Files, W: 
         IsReport (length ports.entry.pages.now) status (W.state output.old) (W.state output.new)) }
     ensures fault { IfErr result IsCheckFault }
 {
-    let mut findings = Vec::new(alloc);
-    let seconds = ports.seconds;
-    add_port(rt, &mut findings, Port::Agents, ports.agents, seconds)?;
-    add_port(rt, &mut findings, Port::Operators, ports.operators, seconds)?;
-    for word in ports.pages {
-        let found = ask_pages(rt, alloc, word, ports, &mut findings)?;
-        findings.push(found)?;
-    }
-    let mut line = Vec::new(alloc);
-    push_line(alloc, &mut line, findings.as_slice())?;
-    line.extend_from_slice(b"\n")?;
-    print(output, line.as_slice())?;
+    let findings = findings_at(rt, alloc, ports)?;
+    let text = line_of(alloc, findings.as_slice())?;
+    print(output, text.as_slice())?;
     Ok(status_of(findings.as_slice()))
 }
 

@@ -125,6 +125,20 @@ fn serve_desk<
     })
 }
 
+// A listener at the address of the settings, which standard output names.
+fn listen<R: Net<Listener = TcpListener, Stream = TcpStream> + Print + AllocGlobal>(
+    rt: &R,
+    settings: &Settings<'_>,
+) -> Result<TcpListener, DeskFault> {
+    let Ok((listener, address)) = bind(rt, settings.listen) else {
+        return Err(DeskFault::Bind(settings.listen.to_string(rt.alloc())?));
+    };
+    match println!(rt; "listening {address}") {
+        Ok(()) => Ok(listener),
+        Err(_) => Err(DeskFault::WriteFault),
+    }
+}
+
 fn run<
     R: Net<Listener = TcpListener, Stream = TcpStream>
         + Threads
@@ -137,10 +151,7 @@ fn run<
 >(rt: &R, settings: &Settings<'_>) -> Result<(), DeskFault> {
     let alloc = rt.alloc();
     let guard = guard_of(alloc, settings, new_key(rt)?)?;
-    let Ok((listener, address)) = bind(rt, settings.listen) else {
-        return Err(DeskFault::Bind(settings.listen.to_string(alloc)?));
-    };
-    println!(rt; "listening {address}").map_err(|_| DeskFault::WriteFault)?;
+    let listener = listen(rt, settings)?;
     let watch = Watch::new(alloc, settings.places.as_slice())?;
     let heading = Heading {
         title: settings.title,
@@ -163,8 +174,7 @@ fn run<
         sent: &sent,
         pages: &pages,
     };
-    serve_desk(&listener, settings.every, &desk)?;
-    Ok(())
+    serve_desk(&listener, settings.every, &desk).map_err(DeskFault::from)
 }
 
 fn run_words<

@@ -11,7 +11,7 @@ use std::net::Net;
 use std::random::RandomSource;
 use std::sync::Wait;
 use std::time::{Clock, Duration, Instant};
-use std::{io, net};
+use std::{io, mem, net};
 
 /// For how many browsers a thread waits at most.
 const MOST_BROWSERS: usize = 256;
@@ -63,22 +63,24 @@ impl Browsers {
         listener: net::TcpListener,
         config: Config,
     ) -> io::Result<Browsers> {
+        let began = Instant::now(rt)?;
         listener.set_nonblocking(true)?;
         let mut listener = TcpListener::from_std(listener);
         let poll = Poll::new(rt)?;
-        let browsers = no_browsers(alloc)?;
         poll.registry()
             .register(&mut listener, LISTENER, Interest::READABLE)?;
+        let events = Events::with_capacity(alloc, MOST_BROWSERS + 1)?;
+        let browsers = no_browsers(alloc)?;
         Ok(Browsers {
             alloc,
             config,
             listener,
             poll,
-            events: Events::with_capacity(alloc, MOST_BROWSERS + 1)?,
+            events,
             browsers,
             may_accept: true,
             is_short: false,
-            began: Instant::now(rt)?,
+            began,
         })
     }
 
@@ -104,10 +106,11 @@ impl Browsers {
     }
 
     // Puts a browser, or none, into this place, and closes the connection of the one before.
-    fn set(&mut self, place: usize, browser: Option<Browser>) {
+    fn set(&mut self, place: usize, mut browser: Option<Browser>) {
         if place < self.browsers.len() {
-            self.browsers[place] = browser;
+            mem::swap(&mut self.browsers[place], &mut browser);
         }
+        drop(browser);
     }
 
     // Closes the connection of the browser that has had bytes to take, or none, for the longest time: its
