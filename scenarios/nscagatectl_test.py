@@ -10,7 +10,7 @@ import tempfile
 import threading
 import time
 
-from daemon_clients import CONFIGURATION, TIME_LIMIT, Daemon, ask, check, end_tests
+from daemon_clients import CONFIGURATION, TIME_LIMIT, Daemon, ask, check, end_tests, free_port
 
 TABLE = CONFIGURATION + """
 [[host]]
@@ -605,11 +605,6 @@ class PrintingDaemon:
     def kill(self):
         self.process.kill()
         self.process.wait()
-
-
-def free_port():
-    with socket.create_server(("127.0.0.1", 0)) as server:
-        return server.getsockname()[1]
 
 
 def without_ages(ran):

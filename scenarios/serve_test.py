@@ -328,7 +328,7 @@ def play_three_addresses(program, folder):
     """Agents, operators and pages are served each at the address that is configured, with its port or, for 0, a free one."""
     hosts = {"agents": "127.0.0.1", "operators": "127.0.0.2", "pages": "127.0.0.3"}
     for without_port in hosts:
-        ports = {name: 0 if name == without_port else free_port(host) for name, host in hosts.items()}
+        ports = {name: 0 if name == without_port else free_port() for name in hosts}
         addresses = "".join(f'{name} = "{host}:{ports[name]}"\n' for name, host in hosts.items())
         daemon = Daemon(program, folder, "workers = 2\n" + addresses + CONFIGURATION.split("\n", 3)[3])
         check("the hosts that are printed", daemon.hosts, hosts)

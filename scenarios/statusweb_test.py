@@ -67,6 +67,8 @@ class Web:
             words = ['sh', '-c', f'ulimit {limits}; exec "$0" "$@"', *words]
         self.process = subprocess.Popen(words, stdout=subprocess.PIPE, stderr=subprocess.PIPE)
         self.line = self.process.stdout.readline()
+        if not self.line:
+            raise AssertionError(self.process.communicate()[1])
 
     def __enter__(self):
         return self
