@@ -1,4 +1,4 @@
-ghost use Rattle.std.specs.Prelude.{◌≡◌, ◌<◌, ◌≤◌, ◌++◌, ◌∷◌, [], List, length, map};
+ghost use Rattle.std.specs.Prelude.{◌≡◌, ◌<◌, ◌≤◌, ◌+◌, ◌++◌, ◌∷◌, [], List, length, map};
 ghost use Rattle.gate_grammar.specs.Arguments.{ArgumentValue};
 ghost use Rattle.gate_grammar.specs.Arguments.{value_in, text_in, number_in, code_in};
 ghost use Rattle.gate_grammar.specs.inner.Values.{value_of};
@@ -66,12 +66,12 @@ impl<'a> Arguments<'a> {
         self.items.push(argument);
     }
 
-    /// These arguments and one more.
-    pub fn with(mut self, argument: Argument<'a>) -> Self
-        requires { length self < ARGUMENTS }
-        ensures { result ≡ self.entry ++ value_of argument.entry ∷ [] }
+    /// These arguments and more.
+    pub fn with(mut self, more: &[Argument<'a>]) -> Self
+        requires { length self + length more.now ≤ ARGUMENTS }
+        ensures { result ≡ self.entry ++ map value_of more.now }
     {
-        self.push(argument);
+        let _fits = self.items.try_extend_from_slice(more);
         self
     }
 

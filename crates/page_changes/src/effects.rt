@@ -1,11 +1,13 @@
 //! Whether a status page shows the effect of a command.
 
-ghost use Rattle.std.specs.Prelude.{◌≡◌, map, IfOk};
+ghost use Rattle.std.specs.Prelude.{◌≡◌, ◌&&◌, true, map, IfOk};
 ghost use Rattle.std.specs.Option.{option_map};
 ghost use Rattle.gate_model.specs.Table.{greatest, object_kind};
-ghost use Rattle.gate_model.specs.State.{is_same_state};
+ghost use Rattle.gate_model.specs.Escaping.{escaped};
+ghost use Rattle.gate_model.specs.State.{is_same_state, state_of_code};
 ghost use Rattle.gate_model.specs.Meaning.{is_persistent, is_sticky, plan_of};
 ghost use Rattle.status_reading.specs.Rows.{CommentView, DowntimeView, object_view, comment_view, downtime_view, page_view};
+ghost use Rattle.page_changes.specs.Names.{row_with, shown_names};
 ghost use Rattle.page_changes.specs.Shows.{is_same, is_from, is_missing, is_made, last_comment, last_entry, shown_words, has_words, is_comment, has_comment, is_planned, has_entry, has_entries, has_no_comment, has_no_entry, has_none_of, is_since, has_result, is_row, shows};
 
 use crate::names::{Names, row_of, shown};
@@ -277,60 +279,150 @@ fn plan_of(starts: Moment, ends: Moment, fixed: u32, trigger: u32, lasts: u32) -
     }
 }
 
+// Of the two pages the first was read before the command was sent, and the second after it.
+
+/// Whether the page shows a result of an object.
+fn shows_result(
+    alloc: Global,
+    pages: (&StatusPage<'_>, &StatusPage<'_>),
+    object: (&Text, &Option<Text>),
+    code: i16,
+    output: &Text,
+) -> Result<bool, AllocError>
+    ensures { IfOk result (λ shown. shown
+        ≡ is_row (has_result (page_view pages.entry.0.now).moment
+        (state_of_code (object_kind object.entry.1.now) code) (escaped output.now))
+        (row_with (shown_names object.entry.0.now object.entry.1.now) (page_view pages.entry.1.now).objects)) }
+{
+    let names = Names::of(alloc, object.0, object.1)?;
+    let row = row_of(pages.1.objects.as_slice(), &names);
+    drop(names);
+    let output = shown(alloc, output)?;
+    let state = State::of_code(kind_of(object.1), code);
+    Ok(has_result(row, pages.0.moment, state, &output))
+}
+
 /// Whether the page shows the comment of a command that was made after the page before it was read.
 fn shows_comment(
     alloc: Global,
-    before: &StatusPage<'_>,
-    after: &StatusPage<'_>,
-    names: &Names,
+    pages: (&StatusPage<'_>, &StatusPage<'_>),
+    object: (&Text, &Option<Text>),
     acknowledgement: bool,
     persistent: u32,
-    author: &Text,
-    text: &Text,
+    said: (&Text, &Text),
 ) -> Result<bool, AllocError>
     ensures { IfOk result (λ shown. shown
-        ≡ has_comment (last_comment (page_view before.now)) names.now acknowledgement
-        (is_persistent persistent) (shown_words author.now text.now)
-        (page_view after.now).comments) }
+        ≡ has_comment (last_comment (page_view pages.entry.0.now))
+        (shown_names object.entry.0.now object.entry.1.now) acknowledgement (is_persistent persistent)
+        (shown_words said.entry.0.now said.entry.1.now) (page_view pages.entry.1.now).comments) }
 {
-    let words = Words::of(alloc, author, text)?;
-    Ok(has_comment(
-        after.comments.as_slice(),
-        last_comment(before.comments.as_slice()),
-        names,
-        acknowledgement,
-        persistent != 0,
-        &words,
-    ))
+    let names = Names::of(alloc, object.0, object.1)?;
+    let words = Words::of(alloc, said.0, said.1)?;
+    let last = last_comment(pages.0.comments.as_slice());
+    let rows = pages.1.comments.as_slice();
+    Ok(has_comment(rows, last, &names, acknowledgement, persistent != 0, &words))
 }
 
 /// Whether the page has no comment of the object that the page before had.
-fn shows_none_of(before: &StatusPage<'_>, after: &StatusPage<'_>, names: &Names) -> bool
-    ensures { result ≡ has_none_of (last_comment (page_view before.now)) names.now
-        (page_view after.now).comments }
+fn shows_none_of(
+    alloc: Global,
+    pages: (&StatusPage<'_>, &StatusPage<'_>),
+    object: (&Text, &Option<Text>),
+) -> Result<bool, AllocError>
+    ensures { IfOk result (λ shown. shown
+        ≡ has_none_of (last_comment (page_view pages.entry.0.now))
+        (shown_names object.entry.0.now object.entry.1.now) (page_view pages.entry.1.now).comments) }
 {
-    let last = last_comment(before.comments.as_slice());
-    has_none_of(after.comments.as_slice(), last, names)
+    let names = Names::of(alloc, object.0, object.1)?;
+    let last = last_comment(pages.0.comments.as_slice());
+    Ok(has_none_of(pages.1.comments.as_slice(), last, &names))
+}
+
+/// Whether the page shows an acknowledgement, with its comment.
+fn shows_acknowledgement(
+    alloc: Global,
+    pages: (&StatusPage<'_>, &StatusPage<'_>),
+    object: (&Text, &Option<Text>),
+    sticky: u32,
+    persistent: u32,
+    said: (&Text, &Text),
+) -> Result<bool, AllocError>
+    ensures { IfOk result (λ shown. shown
+        ≡ (is_row (λ row. is_made (is_sticky sticky) row.acknowledgement)
+        (row_with (shown_names object.entry.0.now object.entry.1.now) (page_view pages.entry.1.now).objects)
+        && has_comment (last_comment (page_view pages.entry.0.now))
+        (shown_names object.entry.0.now object.entry.1.now) true (is_persistent persistent)
+        (shown_words said.entry.0.now said.entry.1.now) (page_view pages.entry.1.now).comments)) }
+{
+    let names = Names::of(alloc, object.0, object.1)?;
+    let row = row_of(pages.1.objects.as_slice(), &names);
+    drop(names);
+    if is_made(row, sticky == 2) {
+        shows_comment(alloc, pages, object, true, persistent, said)
+    } else {
+        Ok(false)
+    }
+}
+
+/// Whether the page shows the object without an acknowledgement.
+fn shows_no_acknowledgement(
+    alloc: Global,
+    page: &StatusPage<'_>,
+    object: (&Text, &Option<Text>),
+) -> Result<bool, AllocError>
+    ensures { IfOk result (λ shown. shown
+        ≡ is_row (λ row. is_missing row.acknowledgement)
+        (row_with (shown_names object.entry.0.now object.entry.1.now) (page_view page.now).objects)) }
+{
+    let names = Names::of(alloc, object.0, object.1)?;
+    Ok(is_missing(row_of(page.objects.as_slice(), &names)))
 }
 
 /// Whether the page shows the entry of a command that was made after the page before it was read.
 fn shows_entry(
     alloc: Global,
-    before: &StatusPage<'_>,
-    after: &StatusPage<'_>,
-    names: &Names,
+    pages: (&StatusPage<'_>, &StatusPage<'_>),
+    object: (&Text, &Option<Text>),
     plan: Plan,
-    author: &Text,
-    text: &Text,
+    said: (&Text, &Text),
 ) -> Result<bool, AllocError>
     ensures { IfOk result (λ shown. shown
-        ≡ has_entry (last_entry (page_view before.now)) names.now plan
-        (shown_words author.now text.now) (page_view after.now).downtimes) }
+        ≡ has_entry (last_entry (page_view pages.entry.0.now))
+        (shown_names object.entry.0.now object.entry.1.now) plan (shown_words said.entry.0.now said.entry.1.now)
+        (page_view pages.entry.1.now).downtimes) }
 {
-    let words = Words::of(alloc, author, text)?;
-    let last = last_entry(before.downtimes.as_slice());
-    let entries = after.downtimes.as_slice();
+    let names = Names::of(alloc, object.0, object.1)?;
+    let words = Words::of(alloc, said.0, said.1)?;
+    let last = last_entry(pages.0.downtimes.as_slice());
+    let entries = pages.1.downtimes.as_slice();
     Ok(has_entry(entries, last, names.host(), names.service(), plan, &words))
+}
+
+/// Whether the page shows such an entry of each service of a host.
+fn shows_entries(
+    alloc: Global,
+    pages: (&StatusPage<'_>, &StatusPage<'_>),
+    host: &Text,
+    plan: Plan,
+    said: (&Text, &Text),
+) -> Result<bool, AllocError>
+    ensures { IfOk result (λ shown. shown
+        ≡ has_entries (last_entry (page_view pages.entry.0.now)) (escaped host.now) plan
+        (shown_words said.entry.0.now said.entry.1.now) (page_view pages.entry.0.now).objects
+        (page_view pages.entry.1.now).downtimes) }
+{
+    let names = Names::of(alloc, host, &None)?;
+    let words = Words::of(alloc, said.0, said.1)?;
+    let last = last_entry(pages.0.downtimes.as_slice());
+    let rows = pages.0.objects.as_slice();
+    Ok(has_entries(
+        rows,
+        pages.1.downtimes.as_slice(),
+        last,
+        &names,
+        plan,
+        &words,
+    ))
 }
 
 /// Whether the page `after` shows the effect of a command, where the page `before` was read before
@@ -348,43 +440,30 @@ pub fn shows(
     ensures { IfOk result (λ shown.
         shown ≡ shows body.now (page_view before.now) (page_view after.now)) }
 {
+    let pages = (before, after);
     match body {
         Body::Result {
             host,
             service,
             code,
             output,
-        } => {
-            let names = Names::of(alloc, host, service)?;
-            let state = State::of_code(kind_of(service), *code);
-            let output = shown(alloc, output)?;
-            let row = row_of(after.objects.as_slice(), &names);
-            Ok(has_result(row, before.moment, state, &output))
-        }
+        } => shows_result(alloc, pages, (host, service), *code, output),
         Body::AddComment {
             host,
             service,
             persistent,
             author,
             text,
-        } => {
-            let names = Names::of(alloc, host, service)?;
-            shows_comment(
-                alloc,
-                before,
-                after,
-                &names,
-                false,
-                *persistent,
-                author,
-                text,
-            )
-        }
+        } => shows_comment(
+            alloc,
+            pages,
+            (host, service),
+            false,
+            *persistent,
+            (author, text),
+        ),
         Body::DelComment { id, .. } => Ok(has_no_comment(after.comments.as_slice(), *id)),
-        Body::DelAllComments { host, service } => {
-            let names = Names::of(alloc, host, service)?;
-            Ok(shows_none_of(before, after, &names))
-        }
+        Body::DelAllComments { host, service } => shows_none_of(alloc, pages, (host, service)),
         Body::Acknowledge {
             host,
             service,
@@ -394,24 +473,11 @@ pub fn shows(
             text,
             ..
         } => {
-            let names = Names::of(alloc, host, service)?;
-            if !is_made(row_of(after.objects.as_slice(), &names), *sticky == 2) {
-                return Ok(false);
-            }
-            shows_comment(
-                alloc,
-                before,
-                after,
-                &names,
-                true,
-                *persistent,
-                author,
-                text,
-            )
+            let said = (author, text);
+            shows_acknowledgement(alloc, pages, (host, service), *sticky, *persistent, said)
         }
         Body::RemoveAck { host, service } => {
-            let names = Names::of(alloc, host, service)?;
-            Ok(is_missing(row_of(after.objects.as_slice(), &names)))
+            shows_no_acknowledgement(alloc, after, (host, service))
         }
         Body::Schedule {
             host,
@@ -424,9 +490,8 @@ pub fn shows(
             author,
             text,
         } => {
-            let names = Names::of(alloc, host, service)?;
             let plan = plan_of(*starts, *ends, *fixed, *trigger, *lasts);
-            shows_entry(alloc, before, after, &names, plan, author, text)
+            shows_entry(alloc, pages, (host, service), plan, (author, text))
         }
         Body::DelDowntime { id, .. } => Ok(has_no_entry(after.downtimes.as_slice(), *id)),
         Body::Passive { .. } => Ok(false),
@@ -440,12 +505,8 @@ pub fn shows(
             author,
             text,
         } => {
-            let names = Names::of(alloc, host, &None)?;
-            let words = Words::of(alloc, author, text)?;
             let plan = plan_of(*starts, *ends, *fixed, *trigger, *lasts);
-            let last = last_entry(before.downtimes.as_slice());
-            let rows = before.objects.as_slice();
-            Ok(has_entries(rows, after.downtimes.as_slice(), last, &names, plan, &words))
+            shows_entries(alloc, pages, host, plan, (author, text))
         }
         Body::Shutdown => Ok(after.closing.is_some()),
     }
