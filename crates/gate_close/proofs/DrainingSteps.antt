@@ -7,7 +7,7 @@ use Rattle.std.proofs.lemmas.List.Elements.{All-push}
 use Rattle.gate_model.specs.declared.record.Moment.{Moment}
 use Rattle.gate_model.specs.declared.record.Record.{Record}
 use Rattle.gate_model.specs.declared.submission.Numbered.{Numbered}
-use Rattle.gate_model.specs.Record.{later}
+use Rattle.gate_model.specs.Record.{later, items_of_records}
 use Rattle.gate_core.specs.Merge.{of_client, IsMerge}
 use Rattle.gate_core.proofs.Counts.{length_by_client, total, total_same}
 use Rattle.gate_applier.specs.declared.applier.PrepareCause.{PrepareCause}
@@ -17,7 +17,7 @@ use Rattle.gate_queue.specs.declared.rule.EndedList.{EndedList}
 use Rattle.gate_queue.specs.Knowledge.{Learns}
 use Rattle.gate_queue.specs.Client.{ClientState}
 use Rattle.gate_queue.specs.Taker.{TakerState, ended_list, queued_of, list_of, total_queued, AllowsAfter, HasAll, TakesIn}
-use Rattle.gate_close.specs.DrainedClose.{is_present, lists_with, items_of_records, records_at, moment_after, AppliesMore, LeavesSome, AreAllPresent, CloseParts, IsStopped, IsCloseAllFault}
+use Rattle.gate_close.specs.DrainedClose.{is_present, lists_with, records_at, moment_after, AppliesMore, LeavesSome, AreAllPresent, CloseParts, IsStopped, IsCloseAllFault}
 use Rattle.gate_close.specs.inner.Draining.{AllTakenIn, TakesInAll, is_known, close_cause}
 
 known_list : (sent : ℕ → List Numbered) (ended : List EndedList) (c : ℕ) → ((queued : List Numbered) → queued_of c ended ≡ Some queued → sent c ≡ queued) → IsSome (queued_of c ended) → sent c ≡ list_of ended c

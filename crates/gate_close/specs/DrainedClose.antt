@@ -4,7 +4,7 @@ use Rattle.std.specs.List.{list_any}
 use Rattle.gate_model.specs.declared.record.Moment.{Moment}
 use Rattle.gate_model.specs.declared.record.Record.{Record}
 use Rattle.gate_model.specs.declared.submission.Numbered.{Numbered}
-use Rattle.gate_model.specs.Record.{later}
+use Rattle.gate_model.specs.Record.{later, items_of_records}
 use Rattle.gate_core.specs.Merge.{IsClient, IsMerge}
 use Rattle.gate_applier.specs.Applier.{ApplierView}
 use Rattle.gate_queue.specs.declared.rule.EndedList.{EndedList}
@@ -40,10 +40,6 @@ abbrev pub queued_by : List ClientState → List EndedList → ℕ → List Numb
 queued_by given taken_in = list_of (lists_with given taken_in)
 
 -- ---- records
-
--- the items of records, in order
-abbrev pub items_of_records : List Record → List Numbered
-items_of_records records = map (λ (applied : Record). applied.item) records
 
 -- these items as records of this moment
 abbrev pub records_at : Moment → List Numbered → List Record

@@ -1,6 +1,7 @@
 ghost use Rattle.std.specs.Prelude.{◌≡◌, IfOk, IfErr, OnOk};
+ghost use Rattle.gate_model.specs.Record.{items_of_records};
 ghost use Rattle.gate_core.specs.Merge.{IsMerge};
-ghost use Rattle.gate_close.specs.DrainedClose.{AreAllPresent, queued_by, items_of_records};
+ghost use Rattle.gate_close.specs.DrainedClose.{AreAllPresent, queued_by};
 ghost use Rattle.gate_close.specs.DrainedClose.{AppliesMore, close_parts, CanClose};
 ghost use Rattle.gate_close.specs.DrainedClose.{IsCloseAllFault};
 ghost use Rattle.gate_close.specs.inner.Draining.{close_cause};

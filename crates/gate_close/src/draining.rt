@@ -1,11 +1,12 @@
 ghost use Rattle.std.specs.Prelude.{◌≡◌, ◌↔◌, ◌<◌, ◌≤◌, ◌==◌, All, length, IsTrue};
 ghost use Rattle.std.specs.Prelude.{IfNone, IfSome, IfOk, IfErr, Some, is_some};
 ghost use Rattle.std.specs.List.{list_any};
+ghost use Rattle.gate_model.specs.Record.{items_of_records};
 ghost use Rattle.gate_core.specs.Merge.{IsMerge};
 ghost use Rattle.gate_applier.specs.declared.applier.PrepareCause.TheVariants.{LogFull, OutOfMemory};
 ghost use Rattle.gate_queue.specs.Taker.{taker_state, list_of, total_queued};
 ghost use Rattle.gate_close.specs.DrainedClose.{is_present, AreAllPresent, IsLeastMissing};
-ghost use Rattle.gate_close.specs.DrainedClose.{items_of_records, AppliesMore, LeavesSome};
+ghost use Rattle.gate_close.specs.DrainedClose.{AppliesMore, LeavesSome};
 ghost use Rattle.gate_close.specs.inner.Draining.{AllTakenIn, TakesInAll, is_known};
 
 use gate_applier::{Applier, PrepareFault};

@@ -6,17 +6,18 @@ use Rattle.std.proofs.lemmas.Bool.{true≢false}
 use Rattle.gate_model.specs.declared.object.ObjectLine.{ObjectLine}
 use Rattle.gate_model.specs.declared.record.Moment.{Moment}
 use Rattle.gate_model.specs.declared.submission.Numbered.{Numbered}
+use Rattle.gate_model.specs.Record.{items_of_records}
 use Rattle.gate_core.specs.Merge.{IsClient, IsMerge}
 use Rattle.gate_queue.specs.declared.rule.EndedList.{EndedList}
 use Rattle.gate_close.specs.declared.drained_close.CloseAllCause.{CloseAllCause}
 use Rattle.gate_close.specs.declared.drained_close.CloseAllCause.TheVariants as cause
 use Rattle.gate_queue.specs.Client.{ClientState}
 use Rattle.gate_queue.specs.Gate.{GateId}
-use Rattle.gate_close.specs.DrainedClose.{is_present, queued_by, items_of_records, CloseParts, AppliesMore, CanClose, IsCloseAllFault, IsLeastMissing, IsStopped, LeavesSome}
+use Rattle.gate_close.specs.DrainedClose.{is_present, queued_by, CloseParts, AppliesMore, CanClose, IsCloseAllFault, IsLeastMissing, IsStopped, LeavesSome}
 use Rattle.gate_worker.specs.Numbers.{numbers_after}
-use Rattle.gate_daemon.specs.Answered.{HoldsAll}
+use Rattle.gate_pool.specs.Answered.{HoldsAll}
 use Rattle.gate_daemon.specs.Faults.{LosesNothing, IsUndrained}
-use Rattle.gate_daemon.specs.inner.Collecting.{numbers_of, queued_for_each}
+use Rattle.gate_pool.specs.Collecting.{numbers_of, queued_for_each}
 use Rattle.gate_daemon.proofs.Merged.{AreHeld, all_merged, holds_all}
 
 -- ---- no client is missing

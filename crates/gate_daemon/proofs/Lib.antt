@@ -1,6 +1,5 @@
-pub mod Clients
 pub mod Merged
 pub mod Drained
-pub mod Clocked
-pub mod Ended
+pub mod Held
+pub mod Shown
 pub mod Started

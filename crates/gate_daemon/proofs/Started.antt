@@ -10,11 +10,11 @@ use Rattle.gate_queue.specs.Client.{ClientState, client_state}
 use Rattle.gate_reader.specs.declared.report.Report.{Report}
 use Rattle.gate_worker.specs.declared.limits.WorkerLimits.{WorkerLimits}
 use Rattle.gate_worker.specs.declared.worker.Cause.{Cause}
-use Rattle.gate_daemon.specs.Applying.{AreShown}
+use Rattle.gate_boards.specs.Applying.{AreShown}
 use Rattle.gate_daemon.specs.Faults.{AreShownUntil, IsGatewayFault}
 use Rattle.gate_daemon.specs.declared.gateway.GatewayFault.{GatewayFault}
 use Rattle.gate_daemon.specs.declared.gateway.GatewayFault.TheVariants as fault
-use Rattle.gate_daemon.specs.inner.Collecting.{AllEnded}
+use Rattle.gate_pool.specs.Collecting.{AllEnded}
 use Rattle.gate_daemon.specs.inner.Opening.{IsUnopened}
 
 -- ---- it can't be opened

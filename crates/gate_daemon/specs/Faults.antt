@@ -3,6 +3,7 @@ use Rattle.std.specs.Prelude.{◌≡◌, ℕ, ◌+◌, ◌<◌, List, ◌∷◌,
 use Rattle.gate_model.specs.declared.object.ObjectLine.{ObjectLine}
 use Rattle.gate_model.specs.declared.record.Moment.{Moment}
 use Rattle.gate_model.specs.declared.submission.Numbered.{Numbered}
+use Rattle.gate_model.specs.Record.{items_of_records}
 use Rattle.gate_core.specs.Limits.{default_quota, IsOpenFault}
 use Rattle.gate_core.specs.Merge.{IsMerge}
 use Rattle.gate_applier.specs.Applier.{ApplierView, is_limit}
@@ -10,9 +11,9 @@ use Rattle.gate_applier.specs.declared.applier.OpenCause.TheVariants.{BadLimit}
 use Rattle.gate_queue.specs.Gate.{GateId}
 use Rattle.gate_close.specs.declared.drained_close.CloseAllCause.{CloseAllCause}
 use Rattle.gate_close.specs.declared.drained_close.CloseAllCause.TheVariants as cause
-use Rattle.gate_close.specs.DrainedClose.{items_of_records, queued_by, CloseParts, close_parts, CanClose, LeavesSome}
-use Rattle.gate_daemon.specs.Answered.{reports_of_each, queued_by_each, HoldsAll}
-use Rattle.gate_daemon.specs.Applying.{AreShown}
+use Rattle.gate_close.specs.DrainedClose.{queued_by, CloseParts, close_parts, CanClose, LeavesSome}
+use Rattle.gate_pool.specs.Answered.{reports_of_each, queued_by_each, HoldsAll}
+use Rattle.gate_boards.specs.Applying.{AreShown}
 use Rattle.gate_daemon.specs.declared.gateway.GatewayFault.{GatewayFault}
 use Rattle.gate_daemon.specs.declared.gateway.GatewayFault.TheVariants as fault
 

@@ -1,7 +1,2 @@
-pub mod Answered
-pub mod Applying
-pub mod Boards
 pub mod Faults
-pub mod Served
-pub mod Showing
 pub mod inner

@@ -1,4 +1,2 @@
-pub mod Collecting
 pub mod Joining
 pub mod Opening
-pub mod Publishing

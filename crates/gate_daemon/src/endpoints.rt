@@ -1,9 +1,4 @@
-/// A worker's connections, and its hold.
-#[derive(Drop)]
-pub struct Endpoint<C, H> {
-    pub connections: C,
-    pub hold: H,
-}
+use gate_pool::Endpoint;
 
 /// What the threads of a gateway serve, and their holds.
 #[derive(Drop)]

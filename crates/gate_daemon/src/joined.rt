@@ -1,5 +1,5 @@
-use crate::collected::Collected;
 use gate_applier::Applier;
+use gate_pool::Collected;
 use gate_queue::Taker;
 use gate_worker::Cause;
 

@@ -3,14 +3,13 @@ ghost use Rattle.gate_applier.specs.Applier.{is_limit, opened};
 ghost use Rattle.gate_daemon.specs.inner.Joining.{IsStart};
 ghost use Rattle.gate_daemon.specs.inner.Opening.{AreParts, IsOpening, IsUnopened};
 
-use crate::collected::Collected;
 use crate::endpoints::Endpoints;
 use crate::gateway::GatewayFault;
 use crate::threads::Start;
-use crate::workers::Workers;
 use gate_applier::Applier;
 use gate_model::{Moment, ObjectTable};
 use gate_pages::Board;
+use gate_pool::{Collected, Workers};
 use gate_queue::{Client, Closer, Gate, Taker, open};
 use std::alloc::Global;
 use std::sync::Mutex;

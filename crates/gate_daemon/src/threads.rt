@@ -1,14 +1,13 @@
 ghost use Rattle.std.specs.Prelude.{IfOk, map};
 ghost use Rattle.gate_daemon.specs.inner.Joining.{HaveRun, IsStart};
 
-use crate::boards::{run_pages, show_close, wake_pages};
-use crate::closing::close_gate;
 use crate::joined::Joined;
-use crate::shared::{Closable, Shared};
-use crate::starting::{Unstarted, start_applier};
-use crate::workers::{Workers, run_workers};
+use crate::last_board::{show_close, wake_pages};
+use crate::starting::start_applier;
 use gate_applier::Applier;
+use gate_boards::run_pages;
 use gate_pages::Board;
+use gate_pool::{Closable, Shared, Unstarted, Workers, close_gate, run_workers};
 use gate_queue::{Closer, Taker};
 use gate_worker::{Connections, Hold, Wake, Watch};
 use std::sync::{Mutex, Wait};

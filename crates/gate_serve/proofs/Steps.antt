@@ -1,10 +1,9 @@
 -- The steps of a daemon: how they end, and what they print in all.
 use Rattle.std.proofs.Common.{◌≡◌, ℕ, ◌<◌, ◌≤◌, List, [], ◌++◌, length, replicate, Option, Some, None, refl, sym, ◌∙◌, subst, inl, inr}
-use Rattle.std.specs.Prelude.{Result, Ok, Err, IfOk, IfErr, IsOkAnd, IsSome, MatchOption, Vec, ⊤}
-use Rattle.std.specs.declared.alloc.AllocError.{AllocError}
-use Rattle.std.specs.declared.net.socket_addr.SocketAddr.{SocketAddr}
+use Rattle.std.specs.Prelude.{Result, Ok, Err, IfOk, IfErr, IsSome, MatchOption, ⊤}
 use Rattle.std.proofs.lemmas.List.{append-nil}
 use Rattle.gate_model.specs.declared.object.ObjectLine.{ObjectLine}
+use Rattle.gate_model.specs.Record.{items_of_records}
 use Rattle.gate_applier.specs.Applier.{ApplierView}
 use Rattle.gate_close.specs.declared.drained_close.CloseAllCause.{CloseAllCause}
 use Rattle.gate_close.specs.declared.drained_close.CloseAllCause.TheVariants as cause
@@ -15,44 +14,22 @@ use Rattle.gate_worker.specs.declared.worker.Cause.{Cause}
 use Rattle.gate_worker.specs.declared.worker.Cause.TheVariants as worker
 use Rattle.gate_reader.specs.declared.report.Report.{Report}
 use Rattle.gate_worker.specs.declared.limits.WorkerLimits.{WorkerLimits}
-use Rattle.gate_daemon.specs.Answered.{reports_of_each, queued_by_each, HoldsAll}
-use Rattle.gate_daemon.specs.Served.{AllServed}
+use Rattle.gate_pool.specs.Answered.{reports_of_each, queued_by_each, HoldsAll}
+use Rattle.gate_pool.specs.Served.{AllServed}
 use Rattle.gate_daemon.specs.declared.settings.GatewaySettings.{GatewaySettings}
-use Rattle.gate_close.specs.DrainedClose.{items_of_records}
 use Rattle.gate_daemon.specs.Faults.{IsDrainFault, IsGatewayFault}
 use Rattle.gate_daemon.specs.declared.gateway.Finished.{Finished}
 use Rattle.gate_daemon.specs.declared.gateway.GatewayFault.{GatewayFault}
 use Rattle.gate_daemon.specs.declared.gateway.GatewayFault.TheVariants as gateway_fault
-use Rattle.gate_serve.specs.declared.fault.ServeFault.{ServeFault}
-use Rattle.gate_serve.specs.declared.fault.ServeFault.TheVariants as fault
-use Rattle.gate_serve.specs.BeforeServing.{Configures, AreBoundAs, IsAddressIn, IsBindEnd, IsConfigEnd, IsWriteEnd, address_lines}
-use Rattle.gate_serve.specs.Serve.{ServeEnds, FollowsAddresses, IsServed, IsRun, IsFull, IsStarved, page_of, worker_limits, addresses_alone, log_so_far, log_whole}
-use Rattle.gate_serve.specs.inner.Serving.{IsStarted, HasRun, IsPageGiven, EndsWith, operator_fault, close_fault, fault_after, reports_after, applier_after}
+use Rattle.gate_start.specs.declared.fault.ServeFault.{ServeFault}
+use Rattle.gate_start.specs.declared.fault.ServeFault.TheVariants as fault
+use Rattle.gate_start.specs.BeforeServing.{EndsBefore, FollowsAddresses, IsStarted, IsWriteEnd, address_lines}
+use Rattle.gate_serve.specs.Serve.{ServeEnds, IsServed, IsRun, IsFull, IsStarved, page_of, worker_limits, addresses_alone, log_so_far, log_whole}
+use Rattle.gate_serve.specs.inner.Serving.{HasRun, IsPageGiven, EndsWith, operator_fault, close_fault, fault_after, reports_after, applier_after}
 
 -- nothing was printed before what comes after the addresses
 delivers_after : (before middle after : SinkState) (x y : List ℕ) → Delivers before middle x → Delivers middle after y → Delivers before after (x ++ y)
 delivers_after before middle after x y p q = delivers_on before middle after x y (record { appended = p.appended; none_failed = p.none_failed }) q
-
--- the addresses were printed, and nothing else
-announced : (config : Config) (agents operators pages : SocketAddr) (before after : SinkState) → AreBoundAs config agents operators pages
-    → Delivers before after (address_lines agents operators pages) → FollowsAddresses config before after []
-announced config a o p before after bound printed = record {
-  agents = a;
-  operators = o;
-  pages = p;
-  bound = bound;
-  printed = subst (λ (t : List ℕ). Delivers before after t) (sym (append-nil (address_lines a o p))) printed;
-}
-
--- a daemon of this configuration has started, whose addresses were printed if there was memory for them
-pub started : {Allocator : Type 0} (lines : Result (Vec ℕ Allocator) AllocError) (text : List ℕ) (config : Config) (agents operators pages : SocketAddr) (before after : SinkState) → Configures text config → AreBoundAs config agents operators pages
-    → IfOk lines (λ made. made.items ≡ address_lines agents operators pages) → IsOkAnd lines (λ made. Delivers before after made.items) → IsStarted config before after
-started (Ok made) text config a o p before after configured bound are printed = record {
-  text = text;
-  configured = configured;
-  printed = announced config a o p before after bound (subst (λ (t : List ℕ). Delivers before after t) are printed);
-}
-started (Err why) text config a o p before after configured bound are printed = absurd printed
 
 addresses_in : (config : Config) (before after : SinkState) (p : FollowsAddresses config before after [])
     → Delivers before after (address_lines p.agents p.operators p.pages)
@@ -78,35 +55,15 @@ page_after config before middle after applier p of_table given = record {
 fails_after : (config : Config) (before middle after : SinkState) → FollowsAddresses config before middle [] → FailsOnce middle after → FailsOnce before after
 fails_after config before middle after printed k = fails_then before.tally middle.tally after.tally 1 printed.printed.none_failed k
 
--- without a configuration nothing is served
-pub unconfigured : (state : SinkState) (reports : List (ℕ × List Report)) (found : ServeFault) → IsConfigEnd found → ServeEnds state state reports (Some found)
-unconfigured state reports fault.Unreadable k = refl
-unconfigured state reports (fault.Config reported) k = (k, refl)
-unconfigured state reports (fault.Bind address) k = absurd k
-unconfigured state reports fault.LogFull k = absurd k
-unconfigured state reports fault.OutOfMemory k = inl refl
-unconfigured state reports fault.Spawn k = absurd k
-unconfigured state reports fault.WriteFault k = absurd k
-
--- without an address nothing is served
-pub unbound : (text : List ℕ) (config : Config) (state : SinkState) (reports : List (ℕ × List Report)) (found : ServeFault) → Configures text config → IsBindEnd (IsAddressIn config) found → ServeEnds state state reports (Some found)
-unbound text config state reports fault.Unreadable is k = absurd k
-unbound text config state reports (fault.Config reported) is k = absurd k
-unbound text config state reports (fault.Bind address) is k = ((text, config, is, k), refl)
-unbound text config state reports fault.LogFull is k = absurd k
-unbound text config state reports fault.OutOfMemory is k = inl refl
-unbound text config state reports fault.Spawn is k = absurd k
-unbound text config state reports fault.WriteFault is k = absurd k
-
--- without what is to be printed first nothing is served
-pub unprinted : (before after : SinkState) (reports : List (ℕ × List Report)) (found : ServeFault) → IsWriteEnd before after found → ServeEnds before after reports (Some found)
-unprinted before after reports fault.Unreadable k = absurd k
-unprinted before after reports (fault.Config reported) k = absurd k
-unprinted before after reports (fault.Bind address) k = absurd k
-unprinted before after reports fault.LogFull k = absurd k
-unprinted before after reports fault.OutOfMemory k = inl k
-unprinted before after reports fault.Spawn k = absurd k
-unprinted before after reports fault.WriteFault k = k
+-- it ended before it served
+pub ends_before : (before after : SinkState) (found : ServeFault) → EndsBefore before after found → ServeEnds before after [] (Some found)
+ends_before before after fault.Unreadable is = is
+ends_before before after (fault.Config reported) is = is
+ends_before before after (fault.Bind address) is = is
+ends_before before after fault.LogFull is = absurd is
+ends_before before after fault.OutOfMemory is = inl is
+ends_before before after fault.Spawn is = absurd is
+ends_before before after fault.WriteFault is = is
 
 -- ---- a gateway
 

@@ -1,4 +1,2 @@
-pub mod Fault
 pub mod Serve
-pub mod BeforeServing
 pub mod inner

@@ -1,32 +1,23 @@
 -- What the daemon prints, and how it ends: `ServeEnds`. Of its file and of its
 -- sockets nothing is known: a file holds some bytes, and a socket reports an address of its own.
-use Rattle.std.specs.Prelude.{◌≡◌, ◌⊎◌, ◌<◌, ◌≤◌, ℕ, List, [], ◌++◌, length, replicate, Option, Some, None, ⊤}
-use Rattle.std.specs.declared.net.socket_addr.SocketAddr.{SocketAddr}
+use Rattle.std.specs.Prelude.{◌≡◌, ◌⊎◌, ◌<◌, ◌≤◌, ℕ, List, [], length, replicate, Option, Some, None, ⊤}
 use Rattle.gate_model.specs.declared.object.ObjectLine.{ObjectLine}
 use Rattle.gate_model.specs.declared.record.Record.{Record}
 use Rattle.gate_model.specs.Meaning.{outcomes_of}
-use Rattle.gate_close.specs.DrainedClose.{items_of_records}
-use Rattle.gate_reader.specs.Sink.{SinkState, Delivers, FailsOnce}
+use Rattle.gate_model.specs.Record.{items_of_records}
+use Rattle.gate_reader.specs.Sink.{SinkState, FailsOnce}
 use Rattle.gate_pages.specs.LogPage.{log_text}
 use Rattle.gate_reader.specs.declared.report.Report.{Report}
 use Rattle.gate_worker.specs.declared.limits.WorkerLimits.{WorkerLimits}
 use Rattle.gate_worker.specs.declared.worker.Cause.{Cause}
-use Rattle.gate_daemon.specs.Answered.{queued_by_each, HoldsAll}
+use Rattle.gate_pool.specs.Answered.{queued_by_each, HoldsAll}
 use Rattle.gate_daemon.specs.Faults.{LosesNothing}
-use Rattle.gate_daemon.specs.Served.{AllServed}
+use Rattle.gate_pool.specs.Served.{AllServed}
 use Rattle.gate_config.specs.declared.config.Config.{Config}
 use Rattle.gate_config.specs.declared.limits.Limits.{Limits}
-use Rattle.gate_serve.specs.declared.fault.ServeFault.{ServeFault}
-use Rattle.gate_serve.specs.declared.fault.ServeFault.TheVariants as fault
-use Rattle.gate_serve.specs.BeforeServing.{Configures, IsFaulty, IsAddress, AreBoundAs, address_lines}
-
--- the output grew by the addresses of this configuration, as the daemon is bound to them, and then by this
-pub record FollowsAddresses (config : Config) (before after : SinkState) (rest : List ℕ) : Type 0 where
-  pub agents : SocketAddr
-  pub operators : SocketAddr
-  pub pages : SocketAddr
-  pub bound : AreBoundAs config agents operators pages
-  pub printed : Delivers before after (address_lines agents operators pages ++ rest)
+use Rattle.gate_start.specs.declared.fault.ServeFault.{ServeFault}
+use Rattle.gate_start.specs.declared.fault.ServeFault.TheVariants as fault
+use Rattle.gate_start.specs.BeforeServing.{Configures, FollowsAddresses, IsAddress, IsFaulty}
 
 -- the log page of these records, on these objects
 abbrev pub page_of : List ObjectLine → List Record → List ℕ

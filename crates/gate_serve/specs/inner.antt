@@ -1,3 +1,1 @@
--- Only proofs and private functions use these.
-pub mod Reading
 pub mod Serving

@@ -1,15 +1,14 @@
 ghost use Rattle.std.specs.Prelude.{◌≡◌, IsSome, Some};
-ghost use Rattle.gate_daemon.specs.Answered.{reports_of_each};
+ghost use Rattle.gate_pool.specs.Answered.{reports_of_each};
 ghost use Rattle.gate_serve.specs.inner.Serving.{EndsWith, IsNamed, applier_after, close_fault, fault_after, operator_fault, reports_after};
 
-use crate::fault::ServeFault;
-use crate::printing::print;
 use crate::served::{Served, without_reports};
 use gate_applier::Applier;
 use gate_close::{CloseAllCause, CloseAllFault};
 use gate_daemon::{Finished, GatewayFault};
 use gate_pages::log_page;
 use gate_reader::Sink;
+use gate_start::{ServeFault, print};
 use gate_worker::Cause;
 use std::alloc::Global;
 

@@ -3,14 +3,9 @@
 //! status, and with one line on standard error where that isn't 0.
 #![tactic(auto)]
 
-mod configuring;
 mod ending;
-mod fault;
-mod listening;
-mod printing;
 mod served;
 mod serving;
 
-pub use fault::ServeFault;
 pub use served::Served;
 pub use serving::serve;

@@ -1,7 +1,7 @@
 ghost use Rattle.std.specs.Prelude.{◌≡◌, [], Some};
 
-use crate::fault::ServeFault;
 use gate_reader::Report;
+use gate_start::ServeFault;
 use std::alloc::Global;
 
 /// How a daemon ended.

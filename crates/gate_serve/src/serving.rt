@@ -1,22 +1,20 @@
-ghost use Rattle.std.specs.Prelude.{◌≡◌, [], IfErr, IfOk, Some, vec_len};
-ghost use Rattle.gate_daemon.specs.Answered.{reports_of_each};
+ghost use Rattle.std.specs.Prelude.{◌≡◌, IfErr, IfOk, vec_len};
+ghost use Rattle.gate_pool.specs.Answered.{reports_of_each};
 ghost use Rattle.gate_daemon.specs.Faults.{IsGatewayFault};
 ghost use Rattle.gate_serve.specs.Serve.{ServeEnds, worker_limits};
-ghost use Rattle.gate_serve.specs.inner.Serving.{HasRun, IsStarted};
+ghost use Rattle.gate_serve.specs.inner.Serving.{HasRun};
 
-use crate::configuring::configuration;
 use crate::ending::end;
-use crate::fault::ServeFault;
-use crate::listening::{Listening, listen};
-use crate::printing::{address_lines, print};
 use crate::served::{Served, without_reports};
 use gate_config::{Config, Limits};
-use gate_daemon::{Endpoint, Endpoints, Finished, GatewayFault, GatewaySettings, run_gateway};
+use gate_daemon::{Endpoints, Finished, GatewayFault, GatewaySettings, run_gateway};
 use gate_model::ObjectTable;
+use gate_pool::Endpoint;
 use gate_ports::{
     AgentConnections, AgentsPort, OperatorConnections, Ports, ReaderConnections, SystemWatch,
 };
 use gate_reader::{SessionLimits, Sink};
+use gate_start::start;
 use gate_worker::{NoHold, WorkerLimits};
 use std::alloc::{AllocError, Global};
 use std::fs::Files;
@@ -97,29 +95,6 @@ fn run<R: Net<Listener = TcpListener, Stream = TcpStream> + Threads + Wait + Clo
     };
     let settings = gateway_settings(config.workers, config.limits, config.table);
     run_gateway(rt, alloc, settings, endpoints, &SystemWatch { rt }, &ports)
-}
-
-// Reads the configuration, binds its addresses and prints them.
-fn start<R: Files + Net<Listener = TcpListener, Stream = TcpStream> + Clock, W: Sink>(
-    rt: &R,
-    alloc: Global,
-    path: &str,
-    output: &mut W,
-) -> Result<(Config, Ports), ServeFault>
-    ensures ok { IfOk result (λ started.
-        IsStarted started.0 (W.state output.old) (W.state output.new)) }
-    ensures err { IfErr result (λ fault.
-        ServeEnds (W.state output.old) (W.state output.new) [] (Some fault)) }
-{
-    let config = configuration(rt, alloc, path)?;
-    let Listening {
-        ports,
-        agents,
-        operators,
-        pages,
-    } = listen(rt, alloc, &config)?;
-    print(output, address_lines(alloc, agents, operators, pages))?;
-    Ok((config, ports))
 }
 
 /// Runs the daemon as the file of this path configures it, until an operator shuts it down: it

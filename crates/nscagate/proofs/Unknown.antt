@@ -10,7 +10,7 @@ use Rattle.gate_words.specs.declared.words.WordsFault.{WordsFault}
 use Rattle.gate_words.specs.declared.words.WordsFault.TheVariants as words_fault
 use Rattle.gate_replay.specs.Replay.{IsReplayRun}
 use Rattle.gate_replay.specs.declared.fault.ReplayFault.TheVariants as replay_fault
-use Rattle.gate_serve.specs.declared.fault.ServeFault.TheVariants as fault
+use Rattle.gate_start.specs.declared.fault.ServeFault.TheVariants as fault
 use Rattle.nscagate.specs.declared.fault.ProgramFault.{ProgramFault}
 use Rattle.nscagate.specs.Program.{program_fault, IsRefusal, IsServeRun}
 

@@ -10,8 +10,8 @@ use Rattle.nscagate.specs.declared.fault.ProgramFault.TheVariants.{BadArguments,
 use Rattle.gate_reader.specs.Fault.{status_at_end, IsFaultReported}
 use Rattle.gate_reader.specs.Sink.{SinkState}
 use Rattle.gate_reader.specs.declared.report.Report.{Report}
-use Rattle.gate_serve.specs.declared.fault.ServeFault.{ServeFault}
-use Rattle.gate_serve.specs.Fault.{status_of, message_of}
+use Rattle.gate_start.specs.declared.fault.ServeFault.{ServeFault}
+use Rattle.gate_start.specs.Fault.{status_of, message_of}
 use Rattle.gate_serve.specs.Serve.{ServeEnds}
 
 -- an error on the words is out of memory, or they are bad arguments

@@ -1,7 +1,7 @@
 ghost use Rattle.std.specs.Prelude.{◌≡◌, []};
 
 use crate::parts::{Answer, answer_of, applier, one_client};
-use gate_daemon::{ApplierStop, run_applier};
+use gate_boards::{ApplierStop, run_applier};
 use gate_grammar::read_line;
 use gate_model::Moment;
 use gate_pages::{Board, status_page};

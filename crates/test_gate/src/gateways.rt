@@ -2,7 +2,8 @@
 ghost use Rattle.std.specs.Prelude.{◌≡◌, ◌≤◌, IfSome, vec_len};
 
 use crate::fakes::{AlwaysAt, NoWake, Sending, is_reached, packet, settings};
-use gate_daemon::{Endpoint, Endpoints, Finished, GatewayFault, run_gateway};
+use gate_daemon::{Endpoints, Finished, GatewayFault, run_gateway};
+use gate_pool::Endpoint;
 use gate_worker::{Hold, Point};
 use std::alloc::Global;
 use std::sync::Wait;

@@ -1,10 +1,10 @@
 //! What the tests share: objects, packets, appliers, bodies, answers as plain numbers, and gates with
 //! their parts.
 ghost use Rattle.std.specs.Prelude.{◌≡◌, [], length, IfSome, None};
+ghost use Rattle.gate_model.specs.Record.{items_of_records};
 ghost use Rattle.gate_queue.specs.Client.{client_state};
 ghost use Rattle.gate_queue.specs.Knowledge.{close_knowledge};
 ghost use Rattle.gate_queue.specs.Taker.{taker_state};
-ghost use Rattle.gate_close.specs.DrainedClose.{items_of_records};
 
 use gate_applier::{Applier, Ready};
 use gate_grammar::read_line;

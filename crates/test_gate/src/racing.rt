@@ -1,6 +1,6 @@
 //! Clients, a close and an applier on threads of their own: what a close of all then applied.
 ghost use Rattle.std.specs.Prelude.{◌≡◌, [], All, IfSome, IfOk};
-ghost use Rattle.gate_close.specs.DrainedClose.{items_of_records};
+ghost use Rattle.gate_model.specs.Record.{items_of_records};
 
 use crate::parts::{Answer, applied_until_closed, applier, closed, id_in, submitted};
 use gate_applier::Applier;

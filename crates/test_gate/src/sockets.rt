@@ -1,6 +1,7 @@
 use crate::fakes::{packet, settings};
 use crate::gateways::left_by;
-use gate_daemon::{Endpoint, Endpoints, run_gateway};
+use gate_daemon::{Endpoints, run_gateway};
+use gate_pool::Endpoint;
 use gate_ports::{AgentsPort, OperatorsPort, PagesPort, Ports, SystemWatch};
 use gate_worker::NoHold;
 use std::alloc::Global;

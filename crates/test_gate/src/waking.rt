@@ -1,5 +1,6 @@
 use crate::fakes::{AlwaysAt, is_reached, packet, settings};
-use gate_daemon::{Endpoint, Endpoints, run_gateway};
+use gate_daemon::{Endpoints, run_gateway};
+use gate_pool::Endpoint;
 use gate_worker::{Connections, Hold, Point, Wake};
 use std::alloc::Global;
 use std::sync::Wait;

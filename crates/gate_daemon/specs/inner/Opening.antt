@@ -9,7 +9,7 @@ use Rattle.gate_daemon.specs.declared.opening.Opening.{Opening}
 use Rattle.gate_daemon.specs.declared.opening.Parts.{Parts}
 use Rattle.gate_daemon.specs.declared.gateway.GatewayFault.{GatewayFault}
 use Rattle.gate_daemon.specs.declared.gateway.GatewayFault.TheVariants as fault
-use Rattle.gate_daemon.specs.inner.Joining.{HasRoom}
+use Rattle.gate_pool.specs.Joining.{HasRoom}
 
 -- the parts of a new gate, with a client for each of so many agents' workers and one more, the operator's
 pub record IsOpening (workers : ℕ) (opening : Opening) : Type 0 where

@@ -1,5 +1,6 @@
 -- Only proofs and private functions use this: how a daemon starts, and what its gateway leaves.
 use Rattle.std.specs.Prelude.{◌≡◌, ◌⊎◌, ◌≤◌, ℕ, List, [], length, replicate, Option, Some, None, IsSome, IsSomeAnd, MatchOption, IfErr, Result, Ok, Err, ⊤}
+use Rattle.gate_model.specs.Record.{items_of_records}
 use Rattle.gate_reader.specs.Sink.{SinkState, Delivers}
 use Rattle.gate_applier.specs.Applier.{ApplierView}
 use Rattle.gate_close.specs.declared.drained_close.CloseAllCause.{CloseAllCause}
@@ -7,23 +8,16 @@ use Rattle.gate_close.specs.declared.drained_close.CloseAllCause.TheVariants as 
 use Rattle.gate_worker.specs.declared.worker.Cause.{Cause}
 use Rattle.gate_worker.specs.declared.worker.Cause.TheVariants as worker
 use Rattle.gate_reader.specs.declared.report.Report.{Report}
-use Rattle.gate_daemon.specs.Answered.{reports_of_each, queued_by_each, HoldsAll}
-use Rattle.gate_daemon.specs.Served.{AllServed}
-use Rattle.gate_close.specs.DrainedClose.{items_of_records}
+use Rattle.gate_pool.specs.Answered.{reports_of_each, queued_by_each, HoldsAll}
+use Rattle.gate_pool.specs.Served.{AllServed}
 use Rattle.gate_daemon.specs.declared.gateway.Finished.{Finished}
 use Rattle.gate_daemon.specs.declared.gateway.GatewayFault.{GatewayFault}
 use Rattle.gate_daemon.specs.declared.gateway.GatewayFault.TheVariants as gateway_fault
 use Rattle.gate_config.specs.declared.config.Config.{Config}
-use Rattle.gate_serve.specs.declared.fault.ServeFault.{ServeFault}
-use Rattle.gate_serve.specs.declared.fault.ServeFault.TheVariants.{LogFull, OutOfMemory, Spawn}
-use Rattle.gate_serve.specs.BeforeServing.{Configures, IsWriteEnd}
-use Rattle.gate_serve.specs.Serve.{page_of, worker_limits, FollowsAddresses}
-
--- some text configures a daemon so, and its addresses were printed
-pub record IsStarted (config : Config) (before after : SinkState) : Type 0 where
-  pub text : List ℕ
-  pub configured : Configures text config
-  pub printed : FollowsAddresses config before after []
+use Rattle.gate_start.specs.declared.fault.ServeFault.{ServeFault}
+use Rattle.gate_start.specs.declared.fault.ServeFault.TheVariants.{LogFull, OutOfMemory, Spawn}
+use Rattle.gate_start.specs.BeforeServing.{IsWriteEnd}
+use Rattle.gate_serve.specs.Serve.{page_of, worker_limits}
 
 -- a gateway of this configuration applied all that was queued
 pub record HasRun (config : Config) (finished : Finished) : Type 0 where

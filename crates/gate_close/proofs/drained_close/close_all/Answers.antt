@@ -1,11 +1,12 @@
 use Rattle.std.proofs.Common.{◌≡◌, List, true, false, sym, ap, ◌∙◌, subst, rules}
 use Rattle.std.specs.Prelude.{IsSome}
+use Rattle.gate_model.specs.Record.{items_of_records}
 use Rattle.gate_core.specs.Merge.{IsClient, IsMerge}
 use Rattle.gate_queue.specs.declared.rule.EndedList.{EndedList}
 use Rattle.gate_close.specs.declared.drained_close.CloseAllCause.{CloseAllCause}
 use Rattle.gate_queue.specs.Client.{ClientState}
 use Rattle.gate_queue.specs.Taker.{queued_of, list_of, TakerState, taker_state}
-use Rattle.gate_close.specs.DrainedClose.{close_parts, lists_with, items_of_records, KnowsAsAll, LeavesSome, IsStopped, IsCloseAllFault}
+use Rattle.gate_close.specs.DrainedClose.{close_parts, lists_with, KnowsAsAll, LeavesSome, IsStopped, IsCloseAllFault}
 use Rattle.gate_close.specs.inner.Draining.{is_known}
 use Rattle.gate_close.proofs.DrainingSteps.{present_at, present_in, unknown, some_knows, same_moment, stopped_fault}
 use Rattle.gate_close.proofs.drained_close.close_all.Goals as goal

@@ -1,9 +1,8 @@
 use Rattle.std.proofs.Common.{ℕ, List, [], ◌∷◌, ◌++◌, sym, ap, ◌∙◌, subst}
 use Rattle.gate_model.specs.declared.submission.Numbered.{Numbered}
-use Rattle.gate_model.specs.Record.{later}
+use Rattle.gate_model.specs.Record.{later, items_of_records}
 use Rattle.gate_core.specs.Merge.{IsMerge}
 use Rattle.gate_queue.specs.Taker.{TakerState, taker_state, list_of}
-use Rattle.gate_close.specs.DrainedClose.{items_of_records}
 use Rattle.gate_close.specs.inner.Draining.{AllTakenIn}
 use Rattle.gate_close.proofs.DrainingSteps.{merge_of_all, applies_none, applies_next, items_next}
 use Rattle.gate_close.proofs.draining.drain.Goals as goal

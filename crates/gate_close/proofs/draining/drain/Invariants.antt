@@ -1,6 +1,7 @@
 use Rattle.std.proofs.Common.{◌≡◌}
+use Rattle.gate_model.specs.Record.{items_of_records}
 use Rattle.gate_queue.specs.Taker.{taker_state}
-use Rattle.gate_close.specs.DrainedClose.{items_of_records, AppliesMore}
+use Rattle.gate_close.specs.DrainedClose.{AppliesMore}
 use Rattle.gate_close.proofs.draining.drain.Given as goal
 
 abbrev pub invariant-loop : goal.invariant-loop

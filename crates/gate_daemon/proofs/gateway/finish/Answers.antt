@@ -1,12 +1,13 @@
 use Rattle.std.proofs.Common.{◌≡◌, ◌+◌, ℕ, refl}
-use Rattle.gate_close.specs.DrainedClose.{items_of_records, close_parts}
+use Rattle.gate_model.specs.Record.{items_of_records}
+use Rattle.gate_close.specs.DrainedClose.{close_parts}
 use Rattle.gate_queue.specs.Gate.{GateId}
-use Rattle.gate_daemon.specs.Answered.{reports_of_each, queued_by_each}
+use Rattle.gate_pool.specs.Answered.{reports_of_each, queued_by_each}
 use Rattle.gate_daemon.specs.declared.joined.Joined.{Joined}
 use Rattle.gate_daemon.specs.inner.Joining.{AreJoined}
 use Rattle.gate_daemon.proofs.Drained.{CanDrain, drained_all, drained_held, undrained, applied_until}
-use Rattle.gate_daemon.proofs.Clocked.{more_shown}
-use Rattle.gate_daemon.proofs.Ended.{all_held}
+use Rattle.gate_daemon.proofs.Shown.{more_shown}
+use Rattle.gate_daemon.proofs.Held.{all_held}
 use Rattle.gate_daemon.proofs.gateway.finish.Goals as goal
 
 can_drain : (workers : ℕ) (gate : GateId) (joined : Joined) → gate.limits.clients ≡ workers + 1 → AreJoined gate workers joined

@@ -1,7 +1,9 @@
-use Rattle.std.proofs.Common.{ℕ, List, sym, subst}
+use Rattle.std.proofs.Common.{ℕ, List, [], Option, sym, ap, subst}
 use Rattle.gate_reader.specs.declared.report.Report.{Report}
 use Rattle.gate_serve.specs.Serve.{ServeEnds}
-use Rattle.gate_serve.proofs.Steps.{ends_on}
+use Rattle.gate_pool.specs.Answered.{reports_of_each}
+use Rattle.gate_start.specs.declared.fault.ServeFault.{ServeFault}
+use Rattle.gate_serve.proofs.Steps.{ends_before, ends_on}
 use Rattle.gate_serve.proofs.serving.serve.Goals as goal
 
 pub returns-in-Ok : goal.returns-in-Ok
@@ -10,3 +12,11 @@ returns-in-Ok g c =
     subst (λ (reports : List (ℕ × List Report)). ServeEnds (state c.args.output.now) (state c.end.new.output) reports c.end.result.fault) (sym c.end.ensures.reports)
     (ends_on c.run-ran.result c.end.result.fault c.in-Ok.config (state c.args.output.now) (state c.start.new.output) (state c.end.new.output)
     c.in-Ok.ensures.ok c.run-ran.ensures.ran c.run-ran.ensures.fault c.end.ensures.ended)
+
+pub returns-in-Err : goal.returns-in-Err
+returns-in-Err g c =
+    let before = g.W.Sink.state c.args.output.now in
+    let after = g.W.Sink.state c.start.new.output in
+    let end = c.without_reports in
+    subst (λ (reports : List (ℕ × List Report)). ServeEnds before after reports end.result.fault) (sym (ap reports_of_each end.ensures.reports))
+    (subst (λ (f : Option ServeFault). ServeEnds before after [] f) (sym end.ensures.fault) (ends_before before after c.in-Err.fault c.in-Err.ensures.err))

@@ -1,5 +1,5 @@
 use Rattle.std.proofs.Common.{◌≡◌}
-use Rattle.gate_close.specs.DrainedClose.{items_of_records}
+use Rattle.gate_model.specs.Record.{items_of_records}
 use Rattle.test_gate.proofs.parts.applied_until_closed.Given as goal
 
 abbrev pub invariant-loop : goal.invariant-loop

@@ -1,5 +1,5 @@
 use Rattle.std.proofs.Common.{◌∙◌}
-use Rattle.gate_daemon.proofs.Clocked.{goes_shown}
+use Rattle.gate_boards.proofs.Clocked.{goes_shown}
 use Rattle.gate_daemon.proofs.starting.fn.start_applier.run.Goals as goal
 
 pub returns : goal.returns

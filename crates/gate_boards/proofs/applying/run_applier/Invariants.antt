@@ -1,0 +1,12 @@
+use Rattle.std.proofs.Common.{◌≡◌, ◌≤◌}
+use Rattle.gate_model.specs.Record.{items_of_records}
+use Rattle.gate_boards.specs.Applying.{GoesByClock, IsSameLog}
+use Rattle.gate_boards.proofs.applying.run_applier.Given as goal
+
+abbrev pub invariant-loop : goal.invariant-loop
+invariant-loop g l =
+    (goal.iterator-loop g).can_next l.iterator' × (goal.iterator-loop g).is_finite l.iterator'
+    × (l.taker.gate ≡ l.gate) × (items_of_records l.applier.records ≡ l.taker.taken) × (l.taker.ended ≡ l.initial.taker.ended)
+    × IsSameLog l.initial.applier l.applier
+    × (l.last.pauses_left ≤ 25)
+    × GoesByClock (g.K.Clock.state l.fn.clock) (g.K.Clock.state l.clock) l.initial.applier l.applier

@@ -1,0 +1,4 @@
+pub mod Applying
+pub mod Boards
+pub mod Showing
+pub mod inner

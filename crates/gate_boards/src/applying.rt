@@ -1,0 +1,256 @@
+ghost use Rattle.std.specs.Prelude.{◌≡◌, ◌≤◌, IsSome, length};
+ghost use Rattle.gate_model.specs.Record.{items_of_records};
+ghost use Rattle.gate_boards.specs.declared.applying.ApplierStop.TheVariants.{Closing, LogFull};
+ghost use Rattle.gate_boards.specs.declared.applying.FullLog.{FullLog};
+ghost use Rattle.gate_boards.specs.Applying.{GoesByClock, IsSameLog};
+ghost use Rattle.gate_boards.specs.inner.Publishing.{GoesOn};
+ghost use Rattle.gate_boards.specs.declared.applying.Attempt.TheVariants as attempt;
+ghost use Rattle.gate_boards.specs.declared.boards.Found.TheVariants.{Nothing};
+
+use crate::boards::{Found, LastBoard, show, show_last};
+use gate_applier::{Applier, PrepareCause, PrepareFault};
+use gate_pages::Board;
+use gate_queue::{Gate, Taker};
+use gate_reader::Clock;
+use gate_worker::times::PAUSE_MILLIS;
+use gate_worker::{Hold, Point, pause};
+use std::alloc::Global;
+use std::sync::{Mutex, Wait};
+use std::time;
+use std::time::{Duration, Instant, SystemTime};
+
+/// Why the applier stopped. Own rules.
+#[derive(Clone, Copy)]
+pub enum ApplierStop {
+    /// The gate is closing, and the queue was empty or there was no memory for one more record.
+    Closing,
+    /// The log is full.
+    LogFull(FullLog),
+}
+
+/// It was noted in the gate that a full log takes nothing from the queue, so that nobody waits for
+/// room; and a board shows all of it, or memory for one was missing for a second. Only `end_full`
+/// makes one of these.
+#[derive(Clone, Copy)]
+pub struct FullLog(());
+
+// What one turn of the applier did.
+#[derive(Clone, Copy)]
+pub(crate) enum Attempt {
+    Took(Found),
+    LogFull,
+    OutOfMemory,
+}
+
+// Why the applier can't apply one more record.
+fn refused_attempt(cause: PrepareCause) -> Attempt
+    ensures { result ≡ attempt.LogFull → cause ≡ PrepareCause.LogFull }
+{
+    match cause {
+        PrepareCause::LogFull => Attempt::LogFull,
+        PrepareCause::OutOfMemory => Attempt::OutOfMemory,
+    }
+}
+
+// Takes an item and applies it, where there is room for it.
+fn turn<R: Wait, K: Clock, H: Hold>(
+    rt: &R,
+    gate: &Gate,
+    taker: &mut Taker,
+    applier: Applier,
+    clock: &mut K,
+    hold: &mut H,
+) -> (Applier, Attempt)
+    requires gate { taker.old.gate ≡ gate.now }
+    requires applied { items_of_records applier.records ≡ taker.old.taken }
+    ensures gate { taker.new.gate ≡ taker.old.gate }
+    ensures ended { taker.new.ended ≡ taker.old.ended }
+    ensures applied { items_of_records result.0.records ≡ taker.new.taken }
+    ensures same { IsSameLog applier result.0 }
+    ensures clock { GoesByClock (K.state clock.old) (K.state clock.new) applier result.0 }
+    ensures log_full { result.1 ≡ attempt.LogFull
+        → length result.0.records ≡ result.0.limit }
+{
+    let ready = match applier.prepare() {
+        Ok(ready) => ready,
+        Err(PrepareFault { cause, applier }) => return (applier, refused_attempt(cause)),
+    };
+    match taker.take(rt, gate) {
+        Some(item) => {
+            hold.pass(Point::BeforeApply);
+            let (applier, _) = ready.apply(item, clock.now());
+            (applier, Attempt::Took(Found::Item))
+        }
+        None => (ready.give_back(), Attempt::Took(Found::Nothing)),
+    }
+}
+
+// Goes on to the clock's moment, where it is later.
+fn go_on<K: Clock>(applier: &mut Applier, clock: &mut K)
+    ensures idle { GoesOn (K.state clock.old) (K.state clock.new)
+        applier.old.moment applier.new.moment }
+    ensures records { applier.new.records ≡ applier.old.records }
+    ensures same { IsSameLog applier.old applier.new }
+{
+    let now = clock.now();
+    // What is due by time is looked for once a second, and not in each turn.
+    if applier.moment().0 < now.0 {
+        applier.advance(now);
+    }
+}
+
+// Publishes a board, where one is due. Where no item was found, the applier goes on with the clock
+// before it.
+fn show_turn<R: Wait, K: Clock>(
+    rt: &R,
+    alloc: Global,
+    applier: &mut Applier,
+    found: Found,
+    clock: &mut K,
+    last: LastBoard,
+    board: &Mutex<Board>,
+) -> LastBoard
+    requires pauses { last.pauses_left ≤ 25 }
+    ensures pauses { result.pauses_left ≤ 25 }
+    ensures clock { GoesByClock
+        (K.state clock.old) (K.state clock.new) applier.old applier.new }
+    ensures idle { found ≡ Nothing → GoesOn (K.state clock.old) (K.state clock.new)
+        applier.old.moment applier.new.moment }
+    ensures records { applier.new.records ≡ applier.old.records }
+    ensures same { IsSameLog applier.old applier.new }
+{
+    match found {
+        Found::Item => show(rt, alloc, applier, found, last, board),
+        Found::Nothing => {
+            go_on(applier, clock);
+            show(rt, alloc, applier, found, last, board)
+        }
+    }
+}
+
+// Ends the taking, since the log is full, and shows all of it.
+fn end_full<R: Wait + time::Clock>(
+    rt: &R,
+    alloc: Global,
+    gate: &Gate,
+    applier: &Applier,
+    board: &Mutex<Board>,
+) -> FullLog
+    requires { length applier.now.records ≡ applier.now.limit }
+{
+    gate.stop_taking();
+    show_last(rt, alloc, applier, board);
+    FullLog(())
+}
+
+// The time until the clock's next second.
+fn until_next_second<R: time::Clock>(rt: &R) -> Duration {
+    let now = SystemTime::now(rt).ok();
+    let since = now.and_then(|now| now.duration_since(SystemTime::UNIX_EPOCH).ok());
+    let within = since.map_or(0, |since| since.subsec_millis());
+    Duration::from_millis(1_000 - u64::from(within))
+}
+
+// Rests until an item is queued or the gate is closed, where the queue was empty: for a pause where a
+// board is still due, and otherwise until the clock's next second.
+fn rest_after<R: Wait + time::Clock>(
+    rt: &R,
+    gate: &Gate,
+    taker: &mut Taker,
+    applier: &Applier,
+    attempt: Attempt,
+    last: LastBoard,
+) -> LastBoard
+    requires gate { taker.old.gate ≡ gate.now }
+    requires pauses { last.pauses_left ≤ 25 }
+    ensures gate { taker.new.gate ≡ taker.old.gate }
+    ensures taken { taker.new.taken ≡ taker.old.taken }
+    ensures ended { taker.new.ended ≡ taker.old.ended }
+    ensures same { result ≡ record last { pauses_left = result.pauses_left } }
+    ensures pauses { result.pauses_left ≤ 25 }
+{
+    match attempt {
+        Attempt::Took(Found::Nothing) => {}
+        // An item may be queued that can't be applied, for which it would not rest.
+        Attempt::OutOfMemory => {
+            pause(rt);
+            return last;
+        }
+        Attempt::Took(Found::Item) | Attempt::LogFull => return last,
+    }
+    let most = if last.shows_all(applier.records().len(), applier.moment()) {
+        until_next_second(rt)
+    } else {
+        Duration::from_millis(PAUSE_MILLIS)
+    };
+    let began = Instant::now(rt);
+    taker.rest(rt, gate, most);
+    let rested = began.and_then(|began| began.elapsed(rt));
+    last.after_rest(rested.unwrap_or(Duration::from_millis(PAUSE_MILLIS)))
+}
+
+/// Takes and applies the items of the queue, one by one, each at the clock's moment or the
+/// applier's, whichever is later. While no item comes it goes on to the clock's moment, and publishes
+/// a board where something was applied or a second has passed, at most every 50 ms. While items come
+/// one after another a board is published each second. It sleeps until an item is queued or the gate
+/// is closed, and wakes each second.
+///
+/// It stops where the gate is closing and the queue is empty or memory for one more record is missing,
+/// and where the log is full, once a board shows all of it or memory for one is missing for a second:
+/// the queue fills up then, and nobody waits for room in it. Where memory is missing and the gate is
+/// open, it tries again. It waits for items, and for other threads at the queue and at the board.
+/// Own rule.
+pub fn run_applier<R: Wait + time::Clock, K: Clock, H: Hold + Drop>(
+    rt: &R,
+    alloc: Global,
+    gate: &Gate,
+    taker: Taker,
+    applier: Applier,
+    clock: &mut K,
+    mut hold: H,
+    board: &Mutex<Board>,
+) -> (Taker, Applier, ApplierStop)
+    requires gate { taker.gate ≡ gate.now }
+    requires applied { items_of_records applier.records ≡ taker.taken }
+
+    // What is in the log is what was taken, each item once and in that order.
+    ensures applied { items_of_records result.1.records ≡ result.0.taken }
+    ensures gate { result.0.gate ≡ gate.now }
+    ensures ended { result.0.ended ≡ taker.ended }
+    ensures same { IsSameLog applier result.1 }
+    // Each record stands at the later of a reading of its own and the applier's moment then.
+    ensures clock { GoesByClock (K.state clock.old) (K.state clock.new) applier result.1 }
+
+    ensures closing { result.2 ≡ Closing → IsSome result.0.known_close }
+    ensures log_full { (full : FullLog) → result.2 ≡ LogFull full
+        → length result.1.records ≡ result.1.limit }
+{
+    let mut taker = taker;
+    let mut applier = applier;
+    let mut last = LastBoard {
+        records: 0,
+        moment: applier.moment(),
+        published: None,
+        pauses_left: 0,
+    };
+    for _ in rt.forever() {
+        let (next, attempt) = turn(rt, gate, &mut taker, applier, clock, &mut hold);
+        applier = next;
+        let found = match attempt {
+            Attempt::LogFull => {
+                let full = end_full(rt, alloc, gate, &applier, board);
+                return (taker, applier, ApplierStop::LogFull(full));
+            }
+            Attempt::Took(Found::Item) => Found::Item,
+            Attempt::Took(Found::Nothing) | Attempt::OutOfMemory => {
+                if taker.look(gate).is_some() {
+                    return (taker, applier, ApplierStop::Closing);
+                }
+                Found::Nothing
+            }
+        };
+        last = show_turn(rt, alloc, &mut applier, found, clock, last, board);
+        last = rest_after(rt, gate, &mut taker, &applier, attempt, last);
+    }
+    unreachable!()
+}

@@ -1,0 +1,47 @@
+ghost use Rattle.std.specs.Prelude.{◌≡◌, IsSome};
+
+use gate_applier::Applier;
+use gate_model::Moment;
+use gate_pages::{Board, publish};
+use gate_worker::times::MEMORY_TRIES;
+use gate_worker::{Wake, pause};
+use std::alloc::Global;
+use std::sync::{Mutex, Wait};
+use std::time::Clock;
+
+// A board that is marked closing was published, or there was no memory for it.
+#[derive(Clone, Copy)]
+pub(crate) struct LastShown(());
+
+// Publishes a board that is marked closing.
+fn publish_last(board: &mut Board, next: Board) -> LastShown
+    requires { IsSome next.closing }
+    ensures { board.new ≡ next }
+{
+    publish(board, next);
+    LastShown(())
+}
+
+// Publishes a board that is marked closing, so that the pages end with it. Where there is no memory for
+// it, it is tried for a second.
+pub(crate) fn show_close<R: Wait + Clock>(
+    rt: &R,
+    alloc: Global,
+    applier: &Applier,
+    board: &Mutex<Board>,
+    moment: Moment,
+) -> LastShown {
+    for _ in 0..MEMORY_TRIES {
+        if let Ok(next) = Board::of(alloc, applier) {
+            return publish_last(&mut board.lock(rt), next.closing(moment));
+        }
+        pause(rt);
+    }
+    LastShown(())
+}
+
+// Wakes the thread that serves pages. Woken before the last board is published, it would end with
+// an earlier one.
+pub(crate) fn wake_pages<W: Wake>(wake: &W, _last: LastShown) {
+    wake.pages();
+}

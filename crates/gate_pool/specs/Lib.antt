@@ -1,0 +1,4 @@
+pub mod Answered
+pub mod Collecting
+pub mod Joining
+pub mod Served

@@ -1,0 +1,2 @@
+pub mod ConfiguringSteps
+pub mod Steps

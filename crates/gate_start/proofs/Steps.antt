@@ -1,0 +1,62 @@
+-- The steps of a daemon before it serves: how they end, and what they print.
+use Rattle.std.proofs.Common.{◌≡◌, ℕ, List, [], refl, sym, subst}
+use Rattle.std.specs.Prelude.{Result, Ok, Err, IfOk, IsOkAnd, Vec}
+use Rattle.std.specs.declared.alloc.AllocError.{AllocError}
+use Rattle.std.specs.declared.net.socket_addr.SocketAddr.{SocketAddr}
+use Rattle.std.proofs.lemmas.List.{append-nil}
+use Rattle.gate_config.specs.declared.config.Config.{Config}
+use Rattle.gate_reader.specs.Sink.{SinkState, Delivers}
+use Rattle.gate_start.specs.declared.fault.ServeFault.{ServeFault}
+use Rattle.gate_start.specs.declared.fault.ServeFault.TheVariants as fault
+use Rattle.gate_start.specs.BeforeServing.{Configures, AreBoundAs, EndsBefore, FollowsAddresses, IsAddressIn, IsBindEnd, IsConfigEnd, IsStarted, IsWriteEnd, address_lines}
+
+-- the addresses were printed, and nothing else
+announced : (config : Config) (agents operators pages : SocketAddr) (before after : SinkState) → AreBoundAs config agents operators pages
+    → Delivers before after (address_lines agents operators pages) → FollowsAddresses config before after []
+announced config a o p before after bound printed = record {
+  agents = a;
+  operators = o;
+  pages = p;
+  bound = bound;
+  printed = subst (λ (t : List ℕ). Delivers before after t) (sym (append-nil (address_lines a o p))) printed;
+}
+
+-- a daemon of this configuration has started, whose addresses were printed if there was memory for them
+pub started : {Allocator : Type 0} (lines : Result (Vec ℕ Allocator) AllocError) (text : List ℕ) (config : Config) (agents operators pages : SocketAddr) (before after : SinkState) → Configures text config → AreBoundAs config agents operators pages
+    → IfOk lines (λ made. made.items ≡ address_lines agents operators pages) → IsOkAnd lines (λ made. Delivers before after made.items) → IsStarted config before after
+started (Ok made) text config a o p before after configured bound are printed = record {
+  text = text;
+  configured = configured;
+  printed = announced config a o p before after bound (subst (λ (t : List ℕ). Delivers before after t) are printed);
+}
+started (Err why) text config a o p before after configured bound are printed = absurd printed
+
+-- without a configuration nothing is served
+pub unconfigured : (state : SinkState) (found : ServeFault) → IsConfigEnd found → EndsBefore state state found
+unconfigured state fault.Unreadable k = refl
+unconfigured state (fault.Config reported) k = (k, refl)
+unconfigured state (fault.Bind address) k = absurd k
+unconfigured state fault.LogFull k = absurd k
+unconfigured state fault.OutOfMemory k = refl
+unconfigured state fault.Spawn k = absurd k
+unconfigured state fault.WriteFault k = absurd k
+
+-- without an address nothing is served
+pub unbound : (text : List ℕ) (config : Config) (state : SinkState) (found : ServeFault) → Configures text config → IsBindEnd (IsAddressIn config) found → EndsBefore state state found
+unbound text config state fault.Unreadable is k = absurd k
+unbound text config state (fault.Config reported) is k = absurd k
+unbound text config state (fault.Bind address) is k = ((text, config, is, k), refl)
+unbound text config state fault.LogFull is k = absurd k
+unbound text config state fault.OutOfMemory is k = refl
+unbound text config state fault.Spawn is k = absurd k
+unbound text config state fault.WriteFault is k = absurd k
+
+-- without what is to be printed first nothing is served
+pub unprinted : (before after : SinkState) (found : ServeFault) → IsWriteEnd before after found → EndsBefore before after found
+unprinted before after fault.Unreadable k = absurd k
+unprinted before after (fault.Config reported) k = absurd k
+unprinted before after (fault.Bind address) k = absurd k
+unprinted before after fault.LogFull k = absurd k
+unprinted before after fault.OutOfMemory k = k
+unprinted before after fault.Spawn k = absurd k
+unprinted before after fault.WriteFault k = k

@@ -1,0 +1,3 @@
+pub mod BeforeServing
+pub mod Fault
+pub mod inner

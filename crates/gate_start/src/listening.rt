@@ -1,0 +1,120 @@
+ghost use Rattle.std.specs.Prelude.{◌≡◌, IfErr, IfOk, IsTrue};
+ghost use Rattle.gate_start.specs.BeforeServing.{AreBoundAs, IsAddressIn, IsBindEnd, IsBoundAs};
+
+use crate::fault::{ServeFault, or_fault};
+use gate_config::{Address, Config};
+use gate_model::Text;
+use gate_ports::{AgentsPort, OperatorsPort, PagesPort, Ports};
+use std::alloc::Global;
+use std::io;
+use std::io::ErrorKind;
+use std::net::{Net, SocketAddr, TcpListener, TcpStream};
+use std::time::Clock;
+
+// How many descriptors are needed beside those of the agents' workers, at least.
+const SPARE_DESCRIPTORS: u32 = 16;
+
+/// A port, with the address that it is bound to. Where a configuration has port 0, the system chose the
+/// port.
+#[derive(Drop)]
+pub(crate) struct Bound<P> {
+    pub(crate) port: P,
+    pub(crate) address: SocketAddr,
+}
+
+/// The daemon's ports, and the addresses of agents, of operators and of pages.
+#[derive(Drop)]
+pub(crate) struct Listening {
+    pub(crate) ports: Ports,
+    pub(crate) agents: SocketAddr,
+    pub(crate) operators: SocketAddr,
+    pub(crate) pages: SocketAddr,
+}
+
+fn is_bound_as(configured: SocketAddr, address: SocketAddr) -> bool
+    ensures { IsTrue result → IsBoundAs configured address }
+{
+    address.ip() == configured.ip()
+        && (configured.port() == 0 || address.port() == configured.port())
+}
+
+// Binds a socket, and opens a port at this very listener.
+fn bind_socket<
+    R: Net<Listener = TcpListener, Stream = TcpStream>,
+    P: Drop,
+    F: FnOnce(TcpListener) -> io::Result<P> + Drop,
+>(rt: &R, socket: SocketAddr, make: F) -> io::Result<Bound<P>>
+    requires { F.IsAlwaysCallable make }
+    ensures { IfOk result (λ bound. IsBoundAs socket bound.address) }
+{
+    let listener = TcpListener::bind(rt, socket)?;
+    let address = listener.local_addr()?;
+    if !is_bound_as(socket, address) {
+        return Err(io::Error::from(ErrorKind::AddrNotAvailable));
+    }
+    Ok(Bound {
+        port: make(listener)?,
+        address,
+    })
+}
+
+// The same at an address of the configuration.
+fn bind<
+    R: Net<Listener = TcpListener, Stream = TcpStream>,
+    P: Drop,
+    F: FnOnce(TcpListener) -> io::Result<P> + Drop,
+>(rt: &R, alloc: Global, address: &Address, make: F) -> Result<Bound<P>, ServeFault>
+    requires { F.IsAlwaysCallable make }
+    ensures bound { IfOk result (λ bound. IsBoundAs address.now.socket bound.address) }
+    ensures err { IfErr result (IsBindEnd (λ text. text ≡ address.now.text)) }
+{
+    let unbound = ServeFault::Bind(Text::copied(alloc, address.text.bytes())?);
+    or_fault(bind_socket(rt, address.socket, make), unbound)
+}
+
+// Whether the system grants so many descriptors: they are those of peers, once the daemon serves.
+fn grants_descriptors(alloc: Global, listener: &TcpListener, count: u32) -> io::Result<()> {
+    let mut taken = Vec::with_capacity(alloc, count as usize)?;
+    for _ in 0..count {
+        taken.push(listener.try_clone()?)?;
+    }
+    Ok(())
+}
+
+/// Binds the addresses of agents, of operators and of pages, in this order, each once.
+///
+/// Bind names the first address that can't be bound, or at which the system doesn't grant what its port
+/// waits with. It names that of the agents where the system doesn't grant a descriptor for each agents'
+/// worker and 16 more. Own rule.
+pub(crate) fn listen<R: Net<Listener = TcpListener, Stream = TcpStream> + Clock>(
+    rt: &R,
+    alloc: Global,
+    config: &Config,
+) -> Result<Listening, ServeFault>
+    ensures bound { IfOk result (λ listening. AreBoundAs config.now
+        listening.agents listening.operators listening.pages) }
+
+    ensures err { IfErr result (IsBindEnd (IsAddressIn config.now)) }
+{
+    let agents = bind(rt, alloc, &config.agents, |listener| {
+        let count = config.workers.saturating_add(SPARE_DESCRIPTORS);
+        grants_descriptors(alloc, &listener, count)?;
+        AgentsPort::new(listener)
+    })?;
+    let operators = bind(rt, alloc, &config.operators, |listener| {
+        OperatorsPort::new(rt, alloc, listener)
+    })?;
+    let pages = bind(rt, alloc, &config.pages, |listener| {
+        PagesPort::new(rt, alloc, listener)
+    })?;
+    Ok(Listening {
+        ports: Ports {
+            agents: agents.port,
+            operators: operators.port,
+            pages: pages.port,
+        },
+        agents: agents.address,
+        operators: operators.address,
+        pages: pages.address,
+    })
+}
