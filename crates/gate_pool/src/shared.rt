@@ -5,7 +5,7 @@ use gate_worker::WorkerLimits;
 use std::alloc::Global;
 
 /// What the threads of a gateway share.
-#[derive(Clone, Copy)]
+#[derive(Drop)]
 pub struct Shared<'s, R, K, W> {
     pub rt: &'s R,
     pub alloc: Global,

@@ -4,7 +4,7 @@ use std::time::{Clock, SystemTime};
 
 /// The clock of the system, in whole seconds since 1970. One that can't be read stands at 0, where
 /// no packet is stale, and the applier keeps its moment.
-#[derive(Clone, Copy)]
+#[derive(Drop)]
 pub struct SystemWatch<'a, R> {
     pub rt: &'a R,
 }

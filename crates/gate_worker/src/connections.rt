@@ -69,7 +69,7 @@ pub trait Watch {
 
 /// A session's view of a shared clock. Each reading is one that the shared clock may show; which one
 /// isn't known.
-#[derive(Clone, Copy)]
+#[derive(Drop)]
 pub struct SharedClock<'a, K: Watch>(pub &'a K);
 
 impl<'a, K: Watch> Clock for SharedClock<'a, K> {

@@ -43,7 +43,7 @@ pub struct WorkerEnd {
 }
 
 // What a worker serves with.
-#[derive(Clone, Copy)]
+#[derive(Drop)]
 struct Serving<'a, R, K> {
     rt: &'a R,
     alloc: Global,

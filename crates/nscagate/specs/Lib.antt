@@ -1,1 +1,3 @@
 pub mod Program
+pub mod Serve
+pub mod inner

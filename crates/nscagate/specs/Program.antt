@@ -12,7 +12,7 @@ use Rattle.gate_reader.specs.Sink.{SinkState}
 use Rattle.gate_reader.specs.declared.report.Report.{Report}
 use Rattle.gate_start.specs.declared.fault.ServeFault.{ServeFault}
 use Rattle.gate_start.specs.Fault.{status_of, message_of}
-use Rattle.gate_serve.specs.Serve.{ServeEnds}
+use Rattle.nscagate.specs.Serve.{ServeEnds}
 
 -- an error on the words is out of memory, or they are bad arguments
 pub record IsWordsFault (error : Error) (fault : ProgramFault) : Type 0 where

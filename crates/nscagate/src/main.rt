@@ -3,8 +3,11 @@
 //! it down. Each ends with an exit status, and with one line on standard error where it isn't 0.
 #![tactic(auto)]
 
+mod ending;
 mod fault;
 mod program;
+mod served;
+mod serving;
 
 use crate::fault::ProgramFault;
 use crate::program::run_program;

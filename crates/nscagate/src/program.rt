@@ -5,9 +5,9 @@ ghost use Rattle.gate_replay.specs.Replay.{IsReplayRun};
 ghost use Rattle.nscagate.specs.Program.{IsRefused, IsServeRun};
 
 use crate::fault::ProgramFault;
+use crate::serving::serve;
 use gate_reader::{Sink, end_with};
 use gate_replay::run_replay;
-use gate_serve::serve;
 use gate_words::{Request, read_words};
 use std::alloc::Global;
 use std::fs::Files;

@@ -17,7 +17,7 @@ use Rattle.gate_config.specs.declared.config.Config.{Config}
 use Rattle.gate_start.specs.declared.fault.ServeFault.{ServeFault}
 use Rattle.gate_start.specs.declared.fault.ServeFault.TheVariants.{LogFull, OutOfMemory, Spawn}
 use Rattle.gate_start.specs.BeforeServing.{IsWriteEnd}
-use Rattle.gate_serve.specs.Serve.{page_of, worker_limits}
+use Rattle.nscagate.specs.Serve.{page_of, worker_limits}
 
 -- a gateway of this configuration applied all that was queued
 pub record HasRun (config : Config) (finished : Finished) : Type 0 where

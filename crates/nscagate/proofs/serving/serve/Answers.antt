@@ -1,10 +1,10 @@
 use Rattle.std.proofs.Common.{ℕ, List, [], Option, sym, ap, subst}
 use Rattle.gate_reader.specs.declared.report.Report.{Report}
-use Rattle.gate_serve.specs.Serve.{ServeEnds}
+use Rattle.nscagate.specs.Serve.{ServeEnds}
 use Rattle.gate_pool.specs.Answered.{reports_of_each}
 use Rattle.gate_start.specs.declared.fault.ServeFault.{ServeFault}
-use Rattle.gate_serve.proofs.Steps.{ends_before, ends_on}
-use Rattle.gate_serve.proofs.serving.serve.Goals as goal
+use Rattle.nscagate.proofs.Steps.{ends_before, ends_on}
+use Rattle.nscagate.proofs.serving.serve.Goals as goal
 
 pub returns-in-Ok : goal.returns-in-Ok
 returns-in-Ok g c =

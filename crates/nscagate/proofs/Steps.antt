@@ -24,8 +24,8 @@ use Rattle.gate_daemon.specs.declared.gateway.GatewayFault.TheVariants as gatewa
 use Rattle.gate_start.specs.declared.fault.ServeFault.{ServeFault}
 use Rattle.gate_start.specs.declared.fault.ServeFault.TheVariants as fault
 use Rattle.gate_start.specs.BeforeServing.{EndsBefore, FollowsAddresses, IsStarted, IsWriteEnd, address_lines}
-use Rattle.gate_serve.specs.Serve.{ServeEnds, IsServed, IsRun, IsFull, IsStarved, page_of, worker_limits, addresses_alone, log_so_far, log_whole}
-use Rattle.gate_serve.specs.inner.Serving.{HasRun, IsPageGiven, EndsWith, operator_fault, close_fault, fault_after, reports_after, applier_after}
+use Rattle.nscagate.specs.Serve.{ServeEnds, IsServed, IsRun, IsFull, IsStarved, page_of, worker_limits, addresses_alone, log_so_far, log_whole}
+use Rattle.nscagate.specs.inner.Serving.{HasRun, IsPageGiven, EndsWith, operator_fault, close_fault, fault_after, reports_after, applier_after}
 
 -- nothing was printed before what comes after the addresses
 delivers_after : (before middle after : SinkState) (x y : List ℕ) → Delivers before middle x → Delivers middle after y → Delivers before after (x ++ y)

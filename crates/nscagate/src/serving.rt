@@ -1,8 +1,8 @@
 ghost use Rattle.std.specs.Prelude.{◌≡◌, IfErr, IfOk, vec_len};
 ghost use Rattle.gate_pool.specs.Answered.{reports_of_each};
 ghost use Rattle.gate_daemon.specs.Faults.{IsGatewayFault};
-ghost use Rattle.gate_serve.specs.Serve.{ServeEnds, worker_limits};
-ghost use Rattle.gate_serve.specs.inner.Serving.{HasRun};
+ghost use Rattle.nscagate.specs.Serve.{ServeEnds, worker_limits};
+ghost use Rattle.nscagate.specs.inner.Serving.{HasRun};
 
 use crate::ending::end;
 use crate::served::{Served, without_reports};

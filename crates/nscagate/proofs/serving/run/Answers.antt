@@ -1,7 +1,7 @@
 use Rattle.std.proofs.Common.{None, sym, ◌∙◌}
 use Rattle.std.proofs.lemmas.Simd.{splat_is_map}
-use Rattle.gate_serve.proofs.Steps.{faults_of, has_run}
-use Rattle.gate_serve.proofs.serving.run.Goals as goal
+use Rattle.nscagate.proofs.Steps.{faults_of, has_run}
+use Rattle.nscagate.proofs.serving.run.Goals as goal
 
 pub returns-clause-ran : goal.returns-clause-ran
 returns-clause-ran g c =

@@ -1,6 +1,6 @@
 ghost use Rattle.std.specs.Prelude.{◌≡◌, IsSome, Some};
 ghost use Rattle.gate_pool.specs.Answered.{reports_of_each};
-ghost use Rattle.gate_serve.specs.inner.Serving.{EndsWith, IsNamed, applier_after, close_fault, fault_after, operator_fault, reports_after};
+ghost use Rattle.nscagate.specs.inner.Serving.{EndsWith, IsNamed, applier_after, close_fault, fault_after, operator_fault, reports_after};
 
 use crate::served::{Served, without_reports};
 use gate_applier::Applier;

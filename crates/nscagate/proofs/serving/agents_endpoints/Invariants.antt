@@ -1,6 +1,6 @@
 use Rattle.std.proofs.Common.{◌≡◌, ◌≤◌, vec_len}
 use Rattle.std.specs.Prelude.{vec_capacity}
-use Rattle.gate_serve.proofs.serving.agents_endpoints.Given as goal
+use Rattle.nscagate.proofs.serving.agents_endpoints.Given as goal
 
 abbrev pub invariant-loop : goal.invariant-loop
 invariant-loop g l = record {
