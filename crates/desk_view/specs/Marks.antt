@@ -3,7 +3,7 @@
 -- it: a host, a semicolon and a service.
 use Rattle.std.specs.Prelude.{ℕ, ◌==◌, if◌then◌else◌, List, [], ◌∷◌, ◌++◌, length, map, take, codes}
 use Rattle.std.specs.List.{flat_map, enumerate_from}
-use Rattle.gate_pages.specs.StatusPage.{state_name}
+use Rattle.gate_lines.specs.Lines.{state_name}
 use Rattle.status_reading.specs.Rows.{ObjectView, object_view}
 use Rattle.status_merge.specs.declared.query.Choice.TheVariants.{In}
 use Rattle.status_merge.specs.Asking.{choice_word}

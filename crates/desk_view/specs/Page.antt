@@ -4,7 +4,7 @@
 use Rattle.std.specs.Prelude.{ℕ, ◌/◌, ◌-◌, nat_lt, Bool, true, false, ◌&&◌, ◌==◌, if◌then◌else◌, List, [], ◌∷◌, ◌++◌, length, map, Option, Some, None, codes}
 use Rattle.std.specs.List.{flat_map, list_any}
 use Rattle.std.specs.Str.{bytes_eq}
-use Rattle.gate_pages.specs.StatusPage.{state_name}
+use Rattle.gate_lines.specs.Lines.{state_name}
 use Rattle.status_reading.specs.declared.rows.ShownAcknowledgement.{ShownAcknowledgement}
 use Rattle.status_reading.specs.declared.rows.ShownAcknowledgement.TheVariants.{Missing, Normal, Sticky}
 use Rattle.status_reading.specs.Rows.{ObjectView, CommentView, DowntimeView, object_view, comment_view, downtime_view}

@@ -25,7 +25,7 @@ use Rattle.gate_model.specs.declared.submission.Body.TheVariants as bodies
 use Rattle.gate_model.specs.declared.status.ObjectEvent.{ObjectEvent}
 use Rattle.gate_model.specs.declared.comments.CommentEvent.TheVariants as comment
 use Rattle.gate_model.specs.declared.comments.Source.TheVariants.{User, Ack, Downtime}
-use Rattle.gate_model.proofs.ServiceSteps.{services-few, services-within}
+use Rattle.gate_table.proofs.ServiceSteps.{services-few, services-within}
 use Rattle.gate_objects.specs.Book.{new_statuses, threshold_of_status}
 use Rattle.gate_model.specs.declared.record.Moment.{Moment}
 use Rattle.gate_applier.specs.declared.books.Books.{Books}

@@ -8,8 +8,9 @@ ghost use Rattle.gate_applier.specs.inner.Books.{Events, events_of, BooksFollow,
 
 use gate_comments::CommentBook;
 use gate_downtime::DowntimeBook;
-use gate_model::{Moment, ObjectId, ObjectTable, Outcome, Source};
+use gate_model::{Moment, ObjectId, Outcome, Source};
 use gate_objects::{ObjectBook, PassiveDisabled};
+use gate_table::ObjectTable;
 use std::alloc::{AllocError, Global};
 
 /// What the judged records leave, kept so that no question and no further record needs a scan of

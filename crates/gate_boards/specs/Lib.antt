@@ -1,4 +1,3 @@
 pub mod Applying
 pub mod Boards
-pub mod Showing
 pub mod inner

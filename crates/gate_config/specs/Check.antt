@@ -3,9 +3,9 @@ use Rattle.std.specs.Prelude.{◌≡◌, ◌≢◌, ◌⊎◌, ℕ, List, [], �
 use Rattle.std.specs.declared.net.socket_addr.SocketAddr.{SocketAddr}
 use Rattle.std.specs.Net.Grammar.{IsSocketText}
 use Rattle.gate_model.specs.declared.object.ObjectLine.{ObjectLine}
-use Rattle.gate_model.specs.declared.table.TableFault.{TableFault}
-use Rattle.gate_model.specs.declared.table.TableFault.TheVariants as table_fault
-use Rattle.gate_model.specs.Table.{IsFaultless, IsFaultOf}
+use Rattle.gate_table.specs.declared.table.TableFault.{TableFault}
+use Rattle.gate_table.specs.declared.table.TableFault.TheVariants as table_fault
+use Rattle.gate_table.specs.Faults.{IsFaultless, IsFaultOf}
 use Rattle.gate_config.specs.declared.fault.ConfigFault.{ConfigFault}
 use Rattle.gate_config.specs.declared.fault.ConfigFault.TheVariants.{Object, OutOfMemory}
 

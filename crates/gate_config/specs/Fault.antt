@@ -1,8 +1,8 @@
 -- The text by which a program reports why a configuration is refused (`text_of`): one line, without an LF. Own rule.
 use Rattle.std.specs.Prelude.{ℕ, List, ◌++◌, codes}
 use Rattle.std.specs.Fmt.{decimal}
-use Rattle.gate_model.specs.declared.table.TableFault.{TableFault}
-use Rattle.gate_model.specs.declared.table.TableFault.TheVariants as table_fault
+use Rattle.gate_table.specs.declared.table.TableFault.{TableFault}
+use Rattle.gate_table.specs.declared.table.TableFault.TheVariants as table_fault
 use Rattle.gate_model.specs.Escaping.{escaped}
 use Rattle.gate_config.specs.declared.fault.ConfigFault.{ConfigFault}
 use Rattle.gate_config.specs.declared.fault.ConfigFault.TheVariants.{TooLarge, NotToml, UnknownKey, BadValue, MissingName, Object, OutOfMemory}

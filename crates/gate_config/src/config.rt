@@ -1,7 +1,8 @@
 ghost use Rattle.std.specs.Prelude.{◌≤◌};
 
 use crate::limits::Limits;
-use gate_model::{ObjectTable, Text};
+use gate_model::Text;
+use gate_table::ObjectTable;
 use std::net::SocketAddr;
 
 /// An IP address with a port.

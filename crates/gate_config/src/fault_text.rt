@@ -5,7 +5,8 @@ ghost use Rattle.gate_model.specs.Escaping.{escaped};
 ghost use Rattle.gate_config.specs.Fault.{text_of, table_text, line_text};
 
 use crate::fault::ConfigFault;
-use gate_model::{TableFault, push_escaped, push_number};
+use gate_model::{push_escaped, push_number};
+use gate_table::TableFault;
 use std::alloc::{AllocError, Global};
 
 // The text of a fault of an object's line.

@@ -3,7 +3,7 @@ ghost use Rattle.std.specs.Net.Grammar.{IsSocketText};
 ghost use Rattle.toml.specs.Parse.{parse_document};
 ghost use Rattle.toml.specs.View.{table_view};
 ghost use Rattle.toml.specs.Data.{Members};
-ghost use Rattle.gate_model.specs.Table.{IsFaultless};
+ghost use Rattle.gate_table.specs.Faults.{IsFaultless};
 ghost use Rattle.gate_config.specs.declared.fault.ConfigFault.TheVariants.{TooLarge, NotToml, OutOfMemory};
 ghost use Rattle.gate_config.specs.Values.{value_at, text_or};
 ghost use Rattle.gate_config.specs.Check.{AllPass, FirstFails, Passes, Fails, object_table, IsFirstFault};
@@ -16,9 +16,10 @@ use crate::key::Key;
 use crate::limits::Limits;
 use crate::{objects, values};
 use gate_model::{
-    BuildFault, DOCUMENT_BYTES, GREATEST_AGE, MOST_CAPACITY, MOST_ITEMS, MOST_RECORDS,
-    MOST_SESSIONS, MOST_WORKERS, ObjectLine, ObjectTable, TableFault, Text,
+    DOCUMENT_BYTES, GREATEST_AGE, MOST_CAPACITY, MOST_ITEMS, MOST_RECORDS, MOST_SESSIONS,
+    MOST_WORKERS, ObjectLine, Text,
 };
+use gate_table::{BuildFault, ObjectTable, TableFault};
 use std::alloc::{AllocError, Global};
 use std::net::SocketAddr;
 use toml::Table;

@@ -1,7 +1,7 @@
 use gate_model::{Body, Moment, Numbered};
 
 /// What happens. Clients are named by their numbers, from 1.
-#[derive(Debug, Drop)]
+#[derive(Drop)]
 pub enum Event {
     /// A client looks whether a close has begun.
     Look(u32),

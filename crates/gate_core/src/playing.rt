@@ -6,6 +6,7 @@ use crate::event::{Event, PushFault, Reply};
 use crate::world::World;
 use gate_model::Body;
 use std::alloc::Global;
+use std::fmt;
 use thiserror::Error;
 
 impl World {
@@ -87,13 +88,20 @@ impl World {
 }
 
 /// A run that was refused because memory ran out: nothing was played.
-#[derive(Debug, Drop, Error)]
+#[derive(Drop, Error)]
 #[error("out of memory: no event was played")]
 pub struct RefusedRun {
     /// The events, in their order.
     pub events: Vec<Event>,
     /// The World as it was.
     pub world: World,
+}
+
+/// Shows the type's name.
+impl fmt::Debug for RefusedRun {
+    fn fmt<W: fmt::Write>(&self, f: &mut fmt::Formatter<W>) -> fmt::Result {
+        f.write_str("RefusedRun")
+    }
 }
 
 /// Plays events one after another, and lists the replies in the order of the events.

@@ -8,11 +8,12 @@ ghost use Rattle.gate_core.specs.Merge.{numbered};
 ghost use Rattle.gate_core.specs.Submit.{Refuses, RefusesClose};
 
 use gate_model::{Body, Moment};
+use std::fmt;
 use thiserror::Error;
 
 /// Why a submission is refused. The first that applies is reported, and the body is returned. Own
 /// rules.
-#[derive(Debug, Drop, Error)]
+#[derive(Drop, Error)]
 pub enum Refused {
     /// A close has begun, the first one at this moment.
     #[error("a close has begun")]
@@ -23,6 +24,17 @@ pub enum Refused {
     /// The queue holds as many items as it may.
     #[error("the queue is full")]
     Full(Body),
+}
+
+/// Shows the variant's name.
+impl fmt::Debug for Refused {
+    fn fmt<W: fmt::Write>(&self, f: &mut fmt::Formatter<W>) -> fmt::Result {
+        f.write_str(match self {
+            Refused::Closing(..) => "Closing",
+            Refused::Spent(_) => "Spent",
+            Refused::Full(_) => "Full",
+        })
+    }
 }
 
 /// Why a close is refused. Own rules.

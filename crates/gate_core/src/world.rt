@@ -11,7 +11,7 @@ use std::collections::VecDeque;
 use std::marker::Model;
 
 /// What is kept of a client.
-#[derive(Clone, Copy, Debug)]
+#[derive(Clone, Copy)]
 pub struct Seat {
     /// How many items were queued for it.
     pub count: u32,
@@ -33,7 +33,7 @@ const NEW_SEAT: Seat = Seat {
 
 /// The queue, its clients and its close, as one value that answers events. Contracts see what it was
 /// opened with, the queue, the moment of the first close and a seat for each client.
-#[derive(Debug, Drop)]
+#[derive(Drop)]
 pub struct World {
     clients: u32,
     capacity: usize,

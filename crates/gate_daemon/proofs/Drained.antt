@@ -16,7 +16,7 @@ use Rattle.gate_queue.specs.Gate.{GateId}
 use Rattle.gate_close.specs.DrainedClose.{is_present, queued_by, CloseParts, AppliesMore, CanClose, IsCloseAllFault, IsLeastMissing, IsStopped, LeavesSome}
 use Rattle.gate_worker.specs.Numbers.{numbers_after}
 use Rattle.gate_pool.specs.Answered.{HoldsAll}
-use Rattle.gate_daemon.specs.Faults.{LosesNothing, IsUndrained}
+use Rattle.gate_opening.specs.Faults.{LosesNothing, IsUndrained}
 use Rattle.gate_pool.specs.Collecting.{numbers_of, queued_for_each}
 use Rattle.gate_daemon.proofs.Merged.{AreHeld, all_merged, holds_all}
 

@@ -11,11 +11,12 @@ use Rattle.gate_reader.specs.declared.report.Report.{Report}
 use Rattle.gate_worker.specs.declared.limits.WorkerLimits.{WorkerLimits}
 use Rattle.gate_worker.specs.declared.worker.Cause.{Cause}
 use Rattle.gate_boards.specs.Applying.{AreShown}
-use Rattle.gate_daemon.specs.Faults.{AreShownUntil, IsGatewayFault}
-use Rattle.gate_daemon.specs.declared.gateway.GatewayFault.{GatewayFault}
-use Rattle.gate_daemon.specs.declared.gateway.GatewayFault.TheVariants as fault
+use Rattle.gate_daemon.specs.Faults.{AreShownUntil}
+use Rattle.gate_opening.specs.Faults.{IsGatewayFault}
+use Rattle.gate_opening.specs.declared.fault.GatewayFault.{GatewayFault}
+use Rattle.gate_opening.specs.declared.fault.GatewayFault.TheVariants as fault
 use Rattle.gate_pool.specs.Collecting.{AllEnded}
-use Rattle.gate_daemon.specs.inner.Opening.{IsUnopened}
+use Rattle.gate_opening.specs.Opening.{IsUnopened}
 
 -- ---- it can't be opened
 

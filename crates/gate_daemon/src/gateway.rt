@@ -4,30 +4,27 @@ ghost use Rattle.gate_queue.specs.Client.{client_state};
 ghost use Rattle.gate_worker.specs.declared.limits.WorkerLimits.{WorkerLimits};
 ghost use Rattle.gate_pool.specs.Answered.{reports_of_each, queued_by_each, HoldsAll};
 ghost use Rattle.gate_boards.specs.Applying.{AreShown, IsSameLog};
-ghost use Rattle.gate_daemon.specs.Faults.{AreShownUntil, IsGatewayFault};
+ghost use Rattle.gate_daemon.specs.Faults.{AreShownUntil};
+ghost use Rattle.gate_opening.specs.Faults.{IsGatewayFault};
 ghost use Rattle.gate_pool.specs.Served.{AllServed};
-ghost use Rattle.gate_daemon.specs.declared.gateway.GatewayFault.TheVariants.{OutOfMemory};
 ghost use Rattle.gate_pool.specs.Collecting.{AllEnded};
 ghost use Rattle.gate_daemon.specs.inner.Joining.{AreJoined, HaveRun, IsStart};
 
 use crate::endpoints::Endpoints;
 use crate::joined::Joined;
-use crate::opening::{open_parts, start_on};
 use crate::settings::GatewaySettings;
-use crate::threads::run_threads;
-use gate_applier::OpenCause;
-use gate_close::{CloseAllFault, Closed, close_all};
-use gate_core::OpenFault;
+use crate::threads::{run_threads, start_on};
+use gate_close::{Closed, close_all};
+use gate_opening::{GatewayFault, open_parts};
 use gate_pool::{Collected, Shared, Unstarted};
 use gate_queue::Gate;
 use gate_reader::Report;
 use gate_worker::{Cause, Connections, Hold, Wake, Watch};
-use std::alloc::{AllocError, Global};
+use std::alloc::Global;
 use std::sync::Wait;
+use std::thread;
 use std::thread::Threads;
 use std::time::Clock;
-use std::{fmt, thread};
-use thiserror::Error;
 
 /// All that was queued, applied; and what each client was answered.
 #[derive(Drop)]
@@ -39,54 +36,6 @@ pub struct Finished {
     /// Why the operator's worker ended. At OutOfMemory no operator could close the gate any more, so
     /// the gateway closed it.
     pub operator: Cause,
-}
-
-/// Why a gateway did not finish. Own rules.
-#[derive(Drop, Error)]
-pub enum GatewayFault {
-    /// The queue can't be opened.
-    #[error("{0}")]
-    Queue(OpenFault),
-    /// The applier can't be opened.
-    #[error("{0}")]
-    Applier(OpenCause),
-    /// There is no memory for the first board, or for what the workers return.
-    #[error("out of memory")]
-    OutOfMemory,
-    /// A thread can't be started. Those that were have ended; what was queued and not applied is
-    /// lost.
-    #[error("a thread can't be started")]
-    Spawn,
-    /// Not all that was queued could be applied. With these parts and the gate, `close_all` can be
-    /// called again.
-    #[error("{fault}")]
-    CloseAll {
-        gate: Gate,
-        fault: CloseAllFault,
-        reports: Vec<(u32, Vec<Report>)>,
-    },
-}
-
-impl fmt::Debug for GatewayFault {
-    fn fmt<W: fmt::Write>(&self, f: &mut fmt::Formatter<W>) -> fmt::Result {
-        match self {
-            GatewayFault::Queue(fault) => f.debug_tuple("Queue").field(fault).finish(),
-            GatewayFault::Applier(cause) => f.debug_tuple("Applier").field(cause).finish(),
-            GatewayFault::OutOfMemory => f.write_str("OutOfMemory"),
-            GatewayFault::Spawn => f.write_str("Spawn"),
-            GatewayFault::CloseAll { fault, .. } => {
-                f.debug_tuple("CloseAll").field(fault).finish()
-            }
-        }
-    }
-}
-
-impl From<AllocError> for GatewayFault {
-    ghost from_gives = { λ _ fault. fault ≡ OutOfMemory };
-
-    fn from(_: AllocError) -> GatewayFault {
-        GatewayFault::OutOfMemory
-    }
 }
 
 // Drains the gate of so many agents' workers, once all threads are joined.

@@ -7,11 +7,11 @@ mod endpoints;
 mod gateway;
 mod joined;
 mod last_board;
-mod opening;
 mod settings;
 mod starting;
 mod threads;
 
 pub use endpoints::Endpoints;
-pub use gateway::{Finished, GatewayFault, run_gateway};
+pub use gate_opening::GatewayFault;
+pub use gateway::{Finished, run_gateway};
 pub use settings::GatewaySettings;

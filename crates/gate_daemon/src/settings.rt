@@ -1,4 +1,4 @@
-use gate_model::ObjectTable;
+use gate_table::ObjectTable;
 use gate_worker::WorkerLimits;
 
 /// What a gateway is run with.

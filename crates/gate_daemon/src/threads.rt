@@ -1,14 +1,17 @@
-ghost use Rattle.std.specs.Prelude.{IfOk, map};
+ghost use Rattle.std.specs.Prelude.{◌≡◌, ◌+◌, IfOk, map, vec_len};
 ghost use Rattle.gate_daemon.specs.inner.Joining.{HaveRun, IsStart};
+ghost use Rattle.gate_opening.specs.Opening.{AreParts};
 
+use crate::endpoints::Endpoints;
 use crate::joined::Joined;
 use crate::last_board::{show_close, wake_pages};
 use crate::starting::start_applier;
 use gate_applier::Applier;
-use gate_boards::run_pages;
+use gate_opening::{Opening, Parts};
 use gate_pages::Board;
 use gate_pool::{Closable, Shared, Unstarted, Workers, close_gate, run_workers};
-use gate_queue::{Closer, Taker};
+use gate_queue::{Closer, Gate, Taker};
+use gate_showing::run_pages;
 use gate_worker::{Connections, Hold, Wake, Watch};
 use std::sync::{Mutex, Wait};
 use std::thread::{JoinHandle, Scope, Threads};
@@ -23,6 +26,56 @@ pub(crate) struct Start<A, O, P, H> {
     pub(crate) workers: Workers<A, O, H>,
     pub(crate) pages: P,
     pub(crate) hold: H,
+}
+
+// The gate and the board of these parts, and what the threads start with on these endpoints.
+pub(crate) fn start_on<A, O, P, H>(
+    parts: Parts,
+    endpoints: Endpoints<A, O, P, H>,
+) -> (Gate, Mutex<Board>, Start<A, O, P, H>)
+    requires { AreParts (vec_len endpoints.agents) parts }
+    ensures clients { result.0.limits.clients ≡ vec_len endpoints.agents + 1 }
+    ensures start { IsStart result.0 result.2 }
+    ensures applier { result.2.applier ≡ parts.applier }
+    ensures agents { result.2.workers.endpoints.items ≡ endpoints.agents.items }
+    ensures operator { result.2.workers.operator_endpoint.connections
+        ≡ endpoints.operator.connections }
+{
+    let Parts {
+        opening,
+        applier,
+        collected,
+        board,
+    } = parts;
+    let Opening {
+        gate,
+        taker,
+        closer,
+        clients,
+        last,
+    } = opening;
+    let Endpoints {
+        agents,
+        operator,
+        pages,
+        applier: hold,
+    } = endpoints;
+    let workers = Workers {
+        clients,
+        endpoints: agents,
+        operator: last,
+        operator_endpoint: operator,
+        collected,
+    };
+    let start = Start {
+        taker,
+        applier,
+        closer,
+        workers,
+        pages,
+        hold,
+    };
+    (gate, board, start)
 }
 
 // Starts the thread that shows pages.

@@ -4,7 +4,8 @@ ghost use Rattle.gate_applier.specs.Applier.{opened};
 ghost use Rattle.gate_foresight.specs.Foresight.{IsOpenedAlike, applied_at, applied_from, moment_after};
 
 use gate_applier::{Applier, PrepareCause};
-use gate_model::{MOST_RECORDS, Moment, ObjectTable, Record};
+use gate_model::{MOST_RECORDS, Moment, Record};
+use gate_table::ObjectTable;
 use std::alloc::{AllocError, Global};
 use thiserror::Error;
 

@@ -1,5 +1,4 @@
 pub mod Escaping
-pub mod Names
 pub mod Table
 pub mod Submission
 pub mod State
@@ -9,4 +8,3 @@ pub mod Comments
 pub mod Downtime
 pub mod Meaning
 pub mod Search
-pub mod inner

@@ -1,14 +1,14 @@
 //! The limits of a gateway, all of them own rules. The definitions write out the same numbers.
 
-/// The most lines of an object table: `specs/Table.antt`, `IsFaultless`.
+/// The most lines of an object table: gate_table, `specs/Faults.antt`, `IsFaultless`.
 pub const LINES: usize = 16_384;
-/// The most hosts of a table: `specs/Table.antt`, `host_fault`.
+/// The most hosts of a table: gate_table, `specs/Faults.antt`, `host_fault`.
 pub const HOSTS: usize = 1_024;
-/// The most services of one host: `specs/Table.antt`, `service_fault`.
+/// The most services of one host: gate_table, `specs/Faults.antt`, `service_fault`.
 pub const SERVICES_OF_HOST: usize = 1_024;
-/// The most bytes of a host's name: `specs/Table.antt`, `is_named`.
+/// The most bytes of a host's name: gate_table, `specs/Faults.antt`, `is_named`.
 pub const HOST_NAME: usize = 63;
-/// The most bytes of a service's name: `specs/Table.antt`, `is_service_name`.
+/// The most bytes of a service's name: gate_table, `specs/Faults.antt`, `is_service_name`.
 pub const SERVICE_NAME: usize = 127;
 
 /// The most bytes of a command line, without its LF: gate_grammar, `specs/Parsing.antt`.

@@ -1,3 +1,2 @@
-pub mod LineSteps
 pub mod FillingSteps
 mod StatusExamples

@@ -1,3 +1,2 @@
-pub mod LogPage
 pub mod Rows
 pub mod StatusPage

@@ -1,9 +1,11 @@
 ghost use Rattle.std.specs.Prelude.{◌≡◌, Some, IfOk};
 ghost use Rattle.gate_pages.specs.StatusPage.{board_at, status_text};
 
-use crate::lines::{push_closing, push_comments, push_downtimes, push_objects};
-use crate::rows::{CommentRow, DowntimeRow, ObjectRow, comment_rows, downtime_rows, object_rows};
+use crate::rows::{comment_rows, downtime_rows, object_rows};
 use gate_applier::Applier;
+use gate_lines::{
+    CommentRow, DowntimeRow, ObjectRow, push_closing, push_comments, push_downtimes, push_objects,
+};
 use gate_model::{Moment, push_number};
 use std::alloc::{AllocError, Global};
 use std::marker::Model;

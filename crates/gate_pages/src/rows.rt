@@ -6,52 +6,10 @@ ghost use Rattle.gate_model.specs.declared.record.Moment.{Moment};
 ghost use Rattle.gate_pages.specs.Rows.{output_in, author_in, comment_in, part_of, moment_of, output_after, object_row, object_rows, host_of, service_of, comment_row, shown_begin, downtime_row, downtime_rows};
 
 use gate_applier::{Applier, LiveDowntime};
-use gate_model::{
-    Acknowledgement, Body, CheckResult, Comment, Kind, Moment, ObjectId, ObjectLine, ObjectTable,
-    Record, Scheduled, State, Text,
-};
+use gate_lines::{CommentRow, DowntimeRow, ObjectRow};
+use gate_model::{Body, CheckResult, Comment, Kind, Moment, ObjectId, ObjectLine, Record, Text};
+use gate_table::ObjectTable;
 use std::alloc::{AllocError, Global};
-
-/// What the page shows of a monitored object.
-#[derive(Drop)]
-pub struct ObjectRow {
-    pub host: Text,
-    pub service: Option<Text>,
-    pub state: State,
-    /// The last accepted result.
-    pub last: Option<CheckResult>,
-    pub stale: bool,
-    /// The acknowledgement that is in force.
-    pub acknowledgement: Option<Acknowledgement>,
-    /// How many of its downtime entries are active.
-    pub depth: u32,
-    /// The output of the last accepted result.
-    pub output: Text,
-}
-
-/// What the page shows of a comment.
-#[derive(Drop)]
-pub struct CommentRow {
-    pub comment: Comment,
-    pub host: Text,
-    pub service: Option<Text>,
-    /// The moment of its record.
-    pub moment: Moment,
-    pub author: Text,
-    pub text: Text,
-}
-
-/// What the page shows of a live downtime entry.
-#[derive(Drop)]
-pub struct DowntimeRow {
-    pub scheduled: Scheduled,
-    pub host: Text,
-    pub service: Option<Text>,
-    /// When it began, in seconds, if it has begun.
-    pub begin: Option<u32>,
-    pub author: Text,
-    pub text: Text,
-}
 
 // ---- what a record has
 

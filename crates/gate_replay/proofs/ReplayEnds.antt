@@ -9,7 +9,7 @@ use Rattle.gate_core.specs.Limits.{Limits, limits_of, default_quota}
 use Rattle.gate_core.specs.Legal.{Run}
 use Rattle.gate_solo.specs.Ending.{with_ends}
 use Rattle.gate_applier.specs.Applier.{ApplierView}
-use Rattle.gate_pages.specs.LogPage.{log_text}
+use Rattle.gate_lines.specs.LogPage.{log_text}
 use Rattle.gate_reader.specs.Sink.{SinkState, Writes, Delivers, FailsOnce}
 use Rattle.gate_replay.specs.declared.fault.ReplayFault.{ReplayFault}
 use Rattle.gate_replay.specs.declared.fault.ReplayFault.TheVariants.{TooLong, Line, LogFull, OutOfMemory, ReadFault, WriteFault}

@@ -5,7 +5,7 @@ use Rattle.std.specs.List.{filter_map, cons_option}
 use Rattle.std.proofs.lemmas.List.{take_all, take_more, append-nil, get_or-map, length-map}
 use Rattle.std.proofs.lemmas.List.Elements.{filter_map-append}
 use Rattle.gate_model.specs.declared.object.ObjectLine.{ObjectLine}
-use Rattle.gate_model.specs.Table.{IsFaultless}
+use Rattle.gate_table.specs.Faults.{IsFaultless}
 use Rattle.gate_replay.specs.declared.script.Step.{Step}
 use Rattle.gate_replay.specs.declared.setup.Setup.{Setup}
 use Rattle.gate_replay.specs.declared.script.Script.{Script}

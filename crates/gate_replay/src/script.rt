@@ -1,6 +1,6 @@
 ghost use Rattle.std.specs.Prelude.{◌≡◌, [], Some, IfOk, IfErr};
 ghost use Rattle.std.specs.Option.{option_copied};
-ghost use Rattle.gate_model.specs.Table.{IsFaultless};
+ghost use Rattle.gate_table.specs.Faults.{IsFaultless};
 ghost use Rattle.gate_packet.specs.Packet.{content, IsContent};
 ghost use Rattle.gate_replay.specs.ScriptLine.{Object, parsed_script_line};
 ghost use Rattle.gate_replay.specs.Script.{parsed_script_lines, object_of, step_of, IsStep, IsScript, IsFaultOf};
@@ -10,8 +10,9 @@ use crate::lines::lines_of;
 use crate::script_line::{ScriptLine, read_script_line};
 use crate::sent_packet::SentPacket;
 use crate::setup::Setup;
-use gate_model::{BuildFault, Moment, ObjectLine, ObjectTable, TableFault, Text};
+use gate_model::{Moment, ObjectLine, Text};
 use gate_packet::Packet;
+use gate_table::{BuildFault, ObjectTable, TableFault};
 use std::alloc::{AllocError, AllocFailed, Global};
 use thiserror::Error;
 

@@ -1,7 +1,8 @@
 ghost use Rattle.std.specs.Prelude.{◌≡◌, true};
 ghost use Rattle.gate_replay.specs.ScriptLine.{are_in_range};
 
-use gate_model::{Moment, ObjectTable};
+use gate_model::Moment;
+use gate_table::ObjectTable;
 
 /// What a script opens with: a table of objects, a moment, the greatest age of a packet in seconds,
 /// the most items of its queue and the most records of its log; all of them in their ranges.

@@ -24,7 +24,7 @@ use Rattle.gate_grammar.specs.Commands.{values_of}
 use Rattle.gate_grammar.specs.Writability.{IsWritable, AreInRange, AreWritable}
 use Rattle.gate_grammar.proofs.Numerals.{number_facts}
 use Rattle.gate_grammar.proofs.WriteLaws.{answer_writable}
-use Rattle.gate_pages.specs.LogPage.{log_line, log_text}
+use Rattle.gate_lines.specs.LogPage.{log_line, log_text}
 use Rattle.status_reading.specs.Board.{HoldsNone, MayHoldNone}
 use Rattle.status_reading.specs.Gateway.{IsSpelled, IsSubmission}
 use Rattle.status_reading.proofs.EachSteps.{each_reverse, each_map}

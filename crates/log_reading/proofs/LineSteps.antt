@@ -15,7 +15,7 @@ use Rattle.gate_model.specs.Escaping.{escaped}
 use Rattle.gate_grammar.specs.Canonical.{body_text}
 use Rattle.gate_grammar.specs.Spelling.{holds}
 use Rattle.gate_grammar.proofs.Numerals.{decimal_digits, none_in_digits, digit_isnt}
-use Rattle.gate_pages.specs.LogPage.{outcome_name}
+use Rattle.gate_lines.specs.LogPage.{outcome_name}
 use Rattle.status_reading.specs.Readable.{Fits}
 use Rattle.status_reading.proofs.CutSteps.{same_cut, none_together}
 use Rattle.log_reading.specs.declared.logged.Logged.{Logged}

@@ -5,7 +5,7 @@ use Rattle.std.specs.Prelude.{◌≤◌, List, length}
 use Rattle.std.specs.List.{AllByRecursion}
 use Rattle.gate_model.specs.declared.record.Record.{Record}
 use Rattle.gate_model.specs.declared.object.ObjectLine.{ObjectLine}
-use Rattle.gate_model.specs.Table.{IsFaultless}
+use Rattle.gate_table.specs.Faults.{IsFaultless}
 use Rattle.gate_grammar.specs.Writability.{AreInRange}
 use Rattle.status_reading.specs.Gateway.{IsSubmission}
 use Rattle.log_reading.specs.Log.{IsStamped}

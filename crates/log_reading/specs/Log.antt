@@ -16,7 +16,7 @@ use Rattle.gate_model.specs.Submission.{is_result}
 use Rattle.gate_grammar.specs.Arguments.{Code}
 use Rattle.gate_grammar.specs.Canonical.{body_text}
 use Rattle.gate_grammar.specs.Writability.{IsInRange, AreInRange, IsWritable}
-use Rattle.gate_pages.specs.LogPage.{outcome_name, log_line}
+use Rattle.gate_lines.specs.LogPage.{outcome_name, log_line}
 use Rattle.status_reading.specs.Readable.{Fits}
 use Rattle.status_reading.specs.Board.{HoldsNone, MayHoldNone}
 use Rattle.log_reading.specs.declared.logged.Logged.{Logged}

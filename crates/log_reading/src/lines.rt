@@ -5,7 +5,7 @@ ghost use Rattle.std.specs.Bool.{Decides};
 ghost use Rattle.std.specs.Fmt.{decimal};
 ghost use Rattle.gate_model.specs.Record.{is_accepted};
 ghost use Rattle.gate_grammar.specs.Canonical.{body_text};
-ghost use Rattle.gate_pages.specs.LogPage.{outcome_name};
+ghost use Rattle.gate_lines.specs.LogPage.{outcome_name};
 ghost use Rattle.status_reading.specs.Readable.{Fits};
 ghost use Rattle.log_reading.specs.Log.{logged_line, stamp_text, line_front, IsReadableBody, IsReadable};
 ghost use Rattle.log_reading.specs.inner.Gives.{Gives, Finds};
@@ -15,8 +15,8 @@ use crate::bodies::body_of;
 use crate::cuts::{after, before, cut, cut_last, is_word, number};
 use crate::logged::{Logged, Refusal};
 use gate_grammar::write_body;
+use gate_lines::outcome_name;
 use gate_model::{Moment, Numbered, Outcome, Record, Text, push_escaped, push_number};
-use gate_pages::outcome_name;
 use status_reading::plain_bytes;
 use std::alloc::{AllocError, Global};
 

@@ -3,7 +3,7 @@ ghost use Rattle.std.specs.List.{zip};
 ghost use Rattle.gate_model.specs.declared.record.Record.{Record};
 ghost use Rattle.gate_model.specs.declared.object.ObjectLine.{ObjectLine};
 ghost use Rattle.gate_model.specs.Meaning.{outcomes_of};
-ghost use Rattle.gate_pages.specs.LogPage.{log_text};
+ghost use Rattle.gate_lines.specs.LogPage.{log_text};
 ghost use Rattle.status_reading.specs.Readable.{Fits};
 ghost use Rattle.log_reading.specs.Log.{logged_text, logged_of, AreReadable};
 ghost use Rattle.log_reading.specs.Faults.{first_line, IsFaultOf};

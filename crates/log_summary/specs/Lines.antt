@@ -6,7 +6,7 @@ use Rattle.std.specs.Str.Lossy.{utf8_lossy}
 use Rattle.json.specs.Json.{Json, null, string, object}
 use Rattle.gate_model.specs.declared.record.Outcome.{Outcome}
 use Rattle.gate_model.specs.declared.record.Outcome.TheVariants.{Accepted}
-use Rattle.gate_pages.specs.LogPage.{outcome_name}
+use Rattle.gate_lines.specs.LogPage.{outcome_name}
 use Rattle.status_export.specs.Document.{compact_text, number_json, field_json, members_of}
 use Rattle.log_reading.specs.declared.logged.Logged.{Logged}
 use Rattle.log_reading.specs.declared.logged.Logged.TheVariants as logged

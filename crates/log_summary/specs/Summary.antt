@@ -7,7 +7,7 @@ use Rattle.indexmap.specs.IndexSet.{insert_all}
 use Rattle.gate_model.specs.declared.record.Outcome.{Outcome}
 use Rattle.gate_model.specs.declared.record.Outcome.TheVariants.{NoSuchHost, NoSuchService, PassiveDisabled, NoServices, NoSuchComment, NoSuchDowntime, WrongKind, NoProblem, NotAcknowledged, BadWindow, WindowPast, NoSuchTrigger}
 use Rattle.gate_model.specs.declared.record.Outcome.TheVariants as outcome
-use Rattle.gate_pages.specs.LogPage.{outcome_name}
+use Rattle.gate_lines.specs.LogPage.{outcome_name}
 use Rattle.log_reading.specs.declared.logged.Logged.{Logged}
 use Rattle.log_reading.specs.declared.logged.Logged.TheVariants.{Accepted, Refused}
 

@@ -5,8 +5,8 @@ ghost use Rattle.log_summary.specs.Lines.{count_of};
 ghost use Rattle.log_summary.specs.Summary.{moment_of, since, outcome_of, with_outcome};
 ghost use Rattle.log_summary.specs.inner.Groups.{values_in};
 
+use gate_lines::outcome_name;
 use gate_model::{Moment, Outcome};
-use gate_pages::outcome_name;
 use log_reading::Logged;
 use std::alloc::{AllocError, Global};
 

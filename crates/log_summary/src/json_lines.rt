@@ -9,8 +9,8 @@ ghost use Rattle.log_summary.specs.inner.Groups.{values_in, groups_in};
 
 use crate::counting::count;
 use crate::hosts::{host_of, refusals};
+use gate_lines::outcome_name;
 use gate_model::Outcome;
-use gate_pages::outcome_name;
 use log_reading::{Logged, Refusal};
 use status_export::{Value, json_line};
 use std::alloc::{AllocError, Global};

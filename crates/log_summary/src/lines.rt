@@ -7,8 +7,8 @@ ghost use Rattle.log_summary.specs.inner.Groups.{values_in, groups_in};
 
 use crate::counting::count;
 use crate::hosts::{REASONS, refusals};
+use gate_lines::outcome_name;
 use gate_model::{Outcome, push_number};
-use gate_pages::outcome_name;
 use log_reading::{Logged, line_of};
 use std::alloc::{AllocError, Global};
 

@@ -17,10 +17,10 @@ use Rattle.gate_worker.specs.declared.limits.WorkerLimits.{WorkerLimits}
 use Rattle.gate_pool.specs.Answered.{reports_of_each, queued_by_each, HoldsAll}
 use Rattle.gate_pool.specs.Served.{AllServed}
 use Rattle.gate_daemon.specs.declared.settings.GatewaySettings.{GatewaySettings}
-use Rattle.gate_daemon.specs.Faults.{IsDrainFault, IsGatewayFault}
+use Rattle.gate_opening.specs.Faults.{IsDrainFault, IsGatewayFault}
 use Rattle.gate_daemon.specs.declared.gateway.Finished.{Finished}
-use Rattle.gate_daemon.specs.declared.gateway.GatewayFault.{GatewayFault}
-use Rattle.gate_daemon.specs.declared.gateway.GatewayFault.TheVariants as gateway_fault
+use Rattle.gate_opening.specs.declared.fault.GatewayFault.{GatewayFault}
+use Rattle.gate_opening.specs.declared.fault.GatewayFault.TheVariants as gateway_fault
 use Rattle.gate_start.specs.declared.fault.ServeFault.{ServeFault}
 use Rattle.gate_start.specs.declared.fault.ServeFault.TheVariants as fault
 use Rattle.gate_start.specs.BeforeServing.{EndsBefore, FollowsAddresses, IsStarted, IsWriteEnd, address_lines}

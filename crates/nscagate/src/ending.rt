@@ -6,7 +6,7 @@ use crate::served::{Served, without_reports};
 use gate_applier::Applier;
 use gate_close::{CloseAllCause, CloseAllFault};
 use gate_daemon::{Finished, GatewayFault};
-use gate_pages::log_page;
+use gate_lines::log_page;
 use gate_reader::Sink;
 use gate_start::{ServeFault, print};
 use gate_worker::Cause;

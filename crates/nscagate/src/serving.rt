@@ -1,6 +1,6 @@
 ghost use Rattle.std.specs.Prelude.{◌≡◌, IfErr, IfOk, vec_len};
 ghost use Rattle.gate_pool.specs.Answered.{reports_of_each};
-ghost use Rattle.gate_daemon.specs.Faults.{IsGatewayFault};
+ghost use Rattle.gate_opening.specs.Faults.{IsGatewayFault};
 ghost use Rattle.nscagate.specs.Serve.{ServeEnds, worker_limits};
 ghost use Rattle.nscagate.specs.inner.Serving.{HasRun};
 
@@ -8,13 +8,13 @@ use crate::ending::end;
 use crate::served::{Served, without_reports};
 use gate_config::{Config, Limits};
 use gate_daemon::{Endpoints, Finished, GatewayFault, GatewaySettings, run_gateway};
-use gate_model::ObjectTable;
 use gate_pool::Endpoint;
 use gate_ports::{
     AgentConnections, AgentsPort, OperatorConnections, Ports, ReaderConnections, SystemWatch,
 };
 use gate_reader::{SessionLimits, Sink};
 use gate_start::start;
+use gate_table::ObjectTable;
 use gate_worker::{NoHold, WorkerLimits};
 use std::alloc::{AllocError, Global};
 use std::fs::Files;
@@ -70,13 +70,15 @@ fn agents_endpoints<'a, R>(
     Ok(endpoints)
 }
 
-// Runs a gateway on these ports until it is closed.
-fn run<R: Net<Listener = TcpListener, Stream = TcpStream> + Threads + Wait + Clock + Sync>(
-    rt: &R,
+// Runs a gateway of these agents' workers on these ports until it is closed.
+fn run_on<'a, R: Net<Listener = TcpListener, Stream = TcpStream> + Threads + Wait + Clock + Sync>(
+    rt: &'a R,
     alloc: Global,
     config: Config,
-    ports: Ports,
+    ports: &'a Ports,
+    agents: Vec<Endpoint<AgentConnections<'a, R>, NoHold>>,
 ) -> Result<Finished, GatewayFault>
+    requires { vec_len agents ≡ config.workers }
     ensures ran { IfOk result (HasRun config) }
     ensures fault { IfErr result
         (IsGatewayFault config.workers config.limits.capacity config.limits.limit config.table) }
@@ -88,13 +90,33 @@ fn run<R: Net<Listener = TcpListener, Stream = TcpStream> + Threads + Wait + Clo
         ReaderConnections<'_, R>,
         NoHold,
     > = Endpoints {
-        agents: agents_endpoints(rt, alloc, &ports.agents, config.workers)?,
+        agents,
         operator: endpoint(ports.operators.connections(rt)),
         pages: ports.pages.connections(rt),
         applier: NoHold,
     };
     let settings = gateway_settings(config.workers, config.limits, config.table);
-    run_gateway(rt, alloc, settings, endpoints, &SystemWatch { rt }, &ports)
+    run_gateway(rt, alloc, settings, endpoints, &SystemWatch { rt }, ports)
+}
+
+// Runs a gateway on these ports until it is closed.
+fn run<R: Net<Listener = TcpListener, Stream = TcpStream> + Threads + Wait + Clock + Sync>(
+    rt: &R,
+    alloc: Global,
+    config: Config,
+    ports: Ports,
+) -> Result<Finished, GatewayFault>
+    ensures ran { IfOk result (HasRun config) }
+    ensures fault { IfErr result
+        (IsGatewayFault config.workers config.limits.capacity config.limits.limit config.table) }
+{
+    match agents_endpoints(rt, alloc, &ports.agents, config.workers) {
+        Ok(agents) => run_on(rt, alloc, config, &ports, agents),
+        Err(_) => {
+            drop(config);
+            Err(GatewayFault::OutOfMemory)
+        }
+    }
 }
 
 /// Runs the daemon as the file of this path configures it, until an operator shuts it down: it

@@ -6,7 +6,7 @@ use Rattle.gate_model.specs.declared.state.State.{State}
 use Rattle.gate_model.specs.declared.submission.Body.{Body}
 use Rattle.gate_model.specs.declared.submission.Body.TheVariants as bodies
 use Rattle.gate_model.specs.Escaping.{escaped}
-use Rattle.gate_pages.specs.StatusPage.{service_text}
+use Rattle.gate_lines.specs.Lines.{service_text}
 use Rattle.status_reading.specs.Rows.{ObjectView, CommentView, DowntimeView, PageView}
 use Rattle.page_changes.specs.Shows.{last_comment, last_entry}
 use Rattle.operator_effects.specs.declared.ending.Effect.{Effect}

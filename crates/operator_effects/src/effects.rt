@@ -1,7 +1,7 @@
 //! What two pages show of a command's effect, for its message.
 
 ghost use Rattle.std.specs.Prelude.{◌≡◌, map, IfOk};
-ghost use Rattle.gate_pages.specs.StatusPage.{service_text};
+ghost use Rattle.gate_lines.specs.Lines.{service_text};
 ghost use Rattle.page_changes.specs.Shows.{last_comment, last_entry};
 ghost use Rattle.status_reading.specs.Rows.{object_view, comment_view, downtime_view, page_view};
 ghost use Rattle.operator_effects.specs.Effects.{comment_id, effect_on, entry_id, fields, state_on};

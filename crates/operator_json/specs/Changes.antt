@@ -1,7 +1,7 @@
 -- A change between two status pages as JSON: `change_json`. Own rules: the members, their order and their words.
 use Rattle.std.specs.Prelude.{ℕ, Bool, true, false, List, [], ◌∷◌, codes}
 use Rattle.json.specs.Json.{Json, null, string, object}
-use Rattle.gate_pages.specs.StatusPage.{state_name, freshness_name}
+use Rattle.gate_lines.specs.Lines.{state_name, freshness_name}
 use Rattle.status_reading.specs.Page.{shown_acknowledgement}
 use Rattle.page_changes.specs.declared.comparing.Change.{Change}
 use Rattle.page_changes.specs.declared.comparing.Change.TheVariants as change

@@ -2,7 +2,7 @@
 use Rattle.std.specs.Prelude.{ℕ, List, [], ◌∷◌, Option, Some, None, codes}
 use Rattle.std.specs.Str.Lossy.{utf8_lossy}
 use Rattle.json.specs.Json.{Json, null, string, object}
-use Rattle.gate_pages.specs.StatusPage.{state_name}
+use Rattle.gate_lines.specs.Lines.{state_name}
 use Rattle.gate_model.specs.declared.state.State.{State}
 use Rattle.gate_model.specs.declared.submission.Body.{Body}
 use Rattle.operator_effects.specs.declared.ending.Ending.{Ending}

@@ -1,7 +1,7 @@
 //! A change between two pages.
 
 ghost use Rattle.std.specs.Prelude.{◌≡◌, IfOk};
-ghost use Rattle.gate_pages.specs.StatusPage.{freshness_name};
+ghost use Rattle.gate_lines.specs.Lines.{freshness_name};
 ghost use Rattle.status_reading.specs.Page.{shown_acknowledgement};
 ghost use Rattle.status_export.specs.Document.{compact_text, service_json};
 ghost use Rattle.status_export.specs.Lines.{value_json};

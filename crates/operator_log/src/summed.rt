@@ -5,7 +5,7 @@ ghost use Rattle.std.specs.List.{zip};
 ghost use Rattle.gate_model.specs.declared.record.Record.{Record};
 ghost use Rattle.gate_model.specs.declared.object.ObjectLine.{ObjectLine};
 ghost use Rattle.gate_model.specs.Meaning.{outcomes_of};
-ghost use Rattle.gate_pages.specs.LogPage.{log_text};
+ghost use Rattle.gate_lines.specs.LogPage.{log_text};
 ghost use Rattle.log_reading.specs.Log.{logged_of};
 ghost use Rattle.log_reading.specs.Gateway.{IsLogged};
 ghost use Rattle.operator_restore.specs.Printed.{IsLastPage};

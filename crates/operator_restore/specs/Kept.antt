@@ -6,7 +6,7 @@ use Rattle.gate_model.specs.declared.object.ObjectLine.{ObjectLine}
 use Rattle.gate_model.specs.declared.record.Moment.{Moment}
 use Rattle.gate_model.specs.declared.record.Record.{Record}
 use Rattle.gate_model.specs.Record.{later, is_accepted}
-use Rattle.gate_model.specs.Table.{IsFaultless}
+use Rattle.gate_table.specs.Faults.{IsFaultless}
 use Rattle.gate_model.specs.Meaning.{outcomes_of}
 use Rattle.gate_applier.specs.Applier.{ApplierView}
 use Rattle.gate_foresight.specs.Foresight.{applied_from, moment_after}

@@ -9,7 +9,8 @@ ghost use Rattle.operator_restore.specs.Pages.{kept_lines};
 use crate::pages::kept_table;
 use gate_applier::Applier;
 use gate_foresight::{ForesightFault, apply_all};
-use gate_model::{Moment, ObjectTable, Outcome, TableFault};
+use gate_model::{Moment, Outcome};
+use gate_table::{ObjectTable, TableFault};
 use log_reading::{LogFault, accepted_records, read_log_page};
 use status_reading::StatusPage;
 use std::alloc::{AllocError, Global};
@@ -60,7 +61,7 @@ impl From<ForesightFault> for KeptFault {
 }
 
 impl From<TableFault> for KeptFault {
-    ghost use Rattle.gate_model.specs.declared.table.TableFault.TheVariants as table;
+    ghost use Rattle.gate_table.specs.declared.table.TableFault.TheVariants as table;
     ghost use Rattle.operator_restore.specs.declared.kept.KeptFault.TheVariants.{BadTable, OutOfMemory};
 
     ghost from_gives = { λ fault kept.

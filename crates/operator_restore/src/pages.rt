@@ -2,12 +2,13 @@
 
 ghost use Rattle.std.specs.Prelude.{◌≡◌, ◌≢◌, IfErr, IfOk, map};
 ghost use Rattle.std.specs.List.{list_all};
-ghost use Rattle.gate_model.specs.Table.{IsFaultless, IsFaultOf};
+ghost use Rattle.gate_table.specs.Faults.{IsFaultless, IsFaultOf};
 ghost use Rattle.operator_restore.specs.Pages.{kept_service, kept_line, kept_lines, is_unmarked, is_fresh};
 ghost use Rattle.operator_restore.specs.Markers.{is_marker};
 
 use crate::markers::is_marker;
-use gate_model::{ObjectLine, ObjectTable, TableFault, Text};
+use gate_model::{ObjectLine, Text};
+use gate_table::{ObjectTable, TableFault};
 use status_reading::{ShownAcknowledgement, ShownComment, ShownObject, StatusPage, plain_bytes};
 use std::alloc::{AllocError, Global};
 

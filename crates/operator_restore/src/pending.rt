@@ -3,7 +3,8 @@
 ghost use Rattle.std.specs.Prelude.{◌≡◌};
 ghost use Rattle.operator_restore.specs.Pending.{has_none, object_is_pending, is_pending, pending_on};
 
-use gate_model::{Body, ObjectId, ObjectTable};
+use gate_model::{Body, ObjectId};
+use gate_table::ObjectTable;
 use status_reading::{ShownObject, StatusPage};
 
 fn has_none(row: &ShownObject<'_>) -> bool

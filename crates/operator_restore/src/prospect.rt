@@ -24,7 +24,8 @@ use crate::kept::{KeptFault, kept_gateway, kept_over};
 use crate::naming::{left_count, push_left, push_rows, row_count};
 use crate::printed::log_part;
 use gate_applier::Applier;
-use gate_model::{Body, Moment, ObjectTable, push_number};
+use gate_model::{Body, Moment, push_number};
+use gate_table::ObjectTable;
 use page_return::{Missing, find_missing};
 use restore_plan::{
     Fate, Plan, RehearsalFault, commands_of, page_of, plan_of, plan_of_page, rehearse,

@@ -5,7 +5,8 @@ ghost use Rattle.gate_model.specs.declared.record.Moment.{Moment};
 ghost use Rattle.operator_restoring.specs.Restored.{IsPlannedAt, IsPlanned};
 
 use crate::restore_fault::RestoreFault;
-use gate_model::{Moment, ObjectTable};
+use gate_model::Moment;
+use gate_table::ObjectTable;
 use kept_files::{is_newer, read_file};
 use operator_commands::Options;
 use operator_restore::{Prospect, Tables, look_ahead, look_ahead_by_page};

@@ -13,8 +13,9 @@ use crate::preparing::{KeptFiles, in_time, prospect_of};
 use crate::restore_fault::RestoreFault;
 use crate::sending::{lines_of, send_others};
 use gate_config::Config;
-use gate_model::{Moment, ObjectTable, Text};
+use gate_model::{Moment, Text};
 use gate_reader::Sink;
+use gate_table::ObjectTable;
 use operator_commands::{Options, Task};
 use operator_restore::{Prospect, status_of};
 use operator_setup::{

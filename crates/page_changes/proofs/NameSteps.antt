@@ -14,11 +14,12 @@ use Rattle.gate_model.specs.declared.object.Kind.TheVariants.{Host, Service}
 use Rattle.gate_model.specs.declared.object.ObjectId.{ObjectId}
 use Rattle.gate_model.specs.declared.object.ObjectLine.{ObjectLine}
 use Rattle.gate_model.specs.Escaping.{escaped}
-use Rattle.gate_model.specs.Table.{is_same_service, is_line_of, object_kind, object_at, is_service_line_of, services_from, IsFaultless}
+use Rattle.gate_model.specs.Table.{is_same_service, is_line_of, object_kind, object_at, is_service_line_of, services_from}
+use Rattle.gate_table.specs.Faults.{IsFaultless}
 use Rattle.gate_model.specs.Meaning as meaning
-use Rattle.gate_model.proofs.ServiceSteps.{services-cons}
+use Rattle.gate_table.proofs.ServiceSteps.{services-cons}
 use Rattle.gate_pages.specs.Rows.{object_row}
-use Rattle.gate_pages.specs.StatusPage.{service_text}
+use Rattle.gate_lines.specs.Lines.{service_text}
 use Rattle.status_reading.specs.Plain.{plain_bytes}
 use Rattle.status_reading.specs.Rows.{ObjectView}
 use Rattle.status_reading.specs.Board.{shown_object}

@@ -25,9 +25,9 @@ use Rattle.gate_model.specs.Downtime.{entries_of, scheduled_in, transition_of, w
 use Rattle.gate_model.specs.Table.{place_of, has_object, object_kind, object_at, object_of, is_service_line_of, services_from, services_of}
 use Rattle.gate_model.specs.Meaning.{Judged, is_same_kind, object_events, comment_events, downtime_events, outlives, is_live_after, history_of, comments_at, downtimes_at, LiveEntry, outcome_at, outcome_after}
 use Rattle.gate_model.specs.Meaning as meaning
-use Rattle.gate_model.proofs.ServiceSteps.{services-cons}
+use Rattle.gate_table.proofs.ServiceSteps.{services-cons}
 use Rattle.gate_pages.specs.Rows.{service_of, comment_row, downtime_row}
-use Rattle.gate_pages.specs.StatusPage.{service_text}
+use Rattle.gate_lines.specs.Lines.{service_text}
 use Rattle.status_reading.specs.declared.rows.ShownAcknowledgement.TheVariants.{Normal, Sticky}
 use Rattle.status_reading.specs.Rows.{ObjectView, CommentView, DowntimeView, PageView}
 use Rattle.status_reading.specs.Board.{acknowledgement_shown, shown_comment, shown_downtime, shown_board}

@@ -2,7 +2,7 @@
 use Rattle.std.specs.Prelude.{ℕ, ◌==◌, ◌&&◌, Bool, false, not, List, length, find, Option, Some, None}
 use Rattle.std.specs.Str.{bytes_eq}
 use Rattle.gate_model.specs.Escaping.{escaped}
-use Rattle.gate_pages.specs.StatusPage.{service_text}
+use Rattle.gate_lines.specs.Lines.{service_text}
 use Rattle.status_reading.specs.Rows.{ObjectView}
 
 -- the fields

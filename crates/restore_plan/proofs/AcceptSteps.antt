@@ -21,10 +21,11 @@ use Rattle.gate_model.specs.declared.submission.Body.TheVariants as bodies
 use Rattle.gate_model.specs.Record.{is_accepted}
 use Rattle.gate_model.specs.Status.{is_passive, is_transition, state_of}
 use Rattle.gate_model.specs.State.{state_of_code, is_problem}
-use Rattle.gate_model.specs.Table.{IsFaultless, place_of, object_kind, object_at}
+use Rattle.gate_model.specs.Table.{place_of, object_kind, object_at}
+use Rattle.gate_table.specs.Faults.{IsFaultless}
 use Rattle.gate_model.specs.Downtime.{scheduled_in}
 use Rattle.gate_model.specs.Meaning.{Judged, object_event, object_events, transition_by, plan_of, is_sticky, downtime_events_of_body, downtime_events, is_live_after, outcome_at_place, outcome_for, outcome_of_window, outcome_at, outcome_after, outcomes_of, judgement_of, judged}
-use Rattle.gate_model.proofs.Hosts.{has_object-host}
+use Rattle.gate_table.proofs.Hosts.{has_object-host}
 use Rattle.gate_model.proofs.Lists.{position_from-push}
 use Rattle.gate_model.proofs.MeaningSteps.{outcomes_of-append}
 use Rattle.gate_model.proofs.ObjectSteps.{state_of-result}

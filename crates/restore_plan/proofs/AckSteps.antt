@@ -17,10 +17,11 @@ use Rattle.gate_model.specs.declared.submission.Body.{Body}
 use Rattle.gate_model.specs.declared.submission.Body.TheVariants as bodies
 use Rattle.gate_model.specs.State.{state_of_code, is_problem}
 use Rattle.gate_model.specs.Status.{state_left_by}
-use Rattle.gate_model.specs.Table.{IsFaultless, place_of, object_of, object_kind, object_at, is_line_of}
+use Rattle.gate_model.specs.Table.{place_of, object_of, object_kind, object_at, is_line_of}
+use Rattle.gate_table.specs.Faults.{IsFaultless}
 use Rattle.gate_model.specs.Meaning.{LiveEntry, downtimes_at, last_result_at, acknowledgement_at}
 use Rattle.gate_model.proofs.Lists.{none_is_not_some, position_from-found}
-use Rattle.gate_model.proofs.KeySteps.{line_decides}
+use Rattle.gate_table.proofs.KeySteps.{line_decides}
 use Rattle.gate_applier.specs.Applier.{ApplierView}
 use Rattle.restore_plan.specs.declared.entries.Terms.{Terms}
 use Rattle.restore_plan.specs.declared.entries.Renewal.{Renewal}

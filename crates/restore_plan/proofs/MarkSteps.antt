@@ -16,7 +16,8 @@ use Rattle.gate_model.specs.declared.object.ObjectId.{ObjectId}
 use Rattle.gate_model.specs.declared.state.State.{State}
 use Rattle.gate_model.specs.declared.state.State.TheVariants as states
 use Rattle.gate_model.specs.State.{state_of_code, is_problem}
-use Rattle.gate_model.specs.Table.{IsFaultless, place_of, object_kind, object_at}
+use Rattle.gate_model.specs.Table.{place_of, object_kind, object_at}
+use Rattle.gate_table.specs.Faults.{IsFaultless}
 use Rattle.status_reading.specs.declared.page.StatusPage.{StatusPage}
 use Rattle.status_reading.specs.declared.rows.ShownObject.{ShownObject}
 use Rattle.status_reading.specs.declared.rows.ShownComment.{ShownComment}

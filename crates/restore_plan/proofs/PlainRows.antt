@@ -5,7 +5,7 @@ use Rattle.std.specs.List.{AllByRecursion}
 use Rattle.gate_model.specs.declared.record.Moment.{Moment}
 use Rattle.gate_model.specs.declared.object.ObjectLine.{ObjectLine}
 use Rattle.gate_model.specs.declared.submission.Body.{Body}
-use Rattle.gate_model.specs.Table.{IsFaultless}
+use Rattle.gate_table.specs.Faults.{IsFaultless}
 use Rattle.status_reading.specs.declared.page.StatusPage.{StatusPage}
 use Rattle.status_reading.specs.declared.rows.ShownObject.{ShownObject}
 use Rattle.status_reading.specs.declared.rows.ShownComment.{ShownComment}

@@ -11,7 +11,8 @@ use Rattle.gate_model.specs.declared.submission.Body.{Body}
 use Rattle.gate_model.specs.declared.submission.Body.TheVariants as bodies
 use Rattle.gate_model.specs.declared.state.State.{State}
 use Rattle.gate_model.specs.declared.status.CheckResult.{CheckResult}
-use Rattle.gate_model.specs.Table.{IsFaultless, place_of, object_of, object_kind, object_at}
+use Rattle.gate_model.specs.Table.{place_of, object_of, object_kind, object_at}
+use Rattle.gate_table.specs.Faults.{IsFaultless}
 use Rattle.gate_model.specs.Meaning.{LiveEntry, downtimes_at}
 use Rattle.gate_applier.specs.Applier.{ApplierView}
 use Rattle.status_reading.proofs.EachSteps.{each_append}

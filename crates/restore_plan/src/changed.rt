@@ -5,7 +5,8 @@ ghost use Rattle.gate_model.specs.State.{is_same_state};
 ghost use Rattle.restore_plan.specs.Changed.{state_on, are_same, is_same_on, left_by, fates_by, fates_of, fates_on};
 
 use crate::fates::{Cause, Fate, copied, copied_service, object_of};
-use gate_model::{Body, ObjectId, ObjectTable, State, Text};
+use gate_model::{Body, ObjectId, State, Text};
+use gate_table::ObjectTable;
 use status_reading::StatusPage;
 use std::alloc::{AllocError, Global};
 

@@ -5,7 +5,8 @@ ghost use Rattle.restore_plan.specs.Entries.{is_known, id_at, index_of, new_id, 
 
 use crate::fates::{Cause, Fate, copied, copied_service, object_of};
 use gate_applier::{Applier, LiveDowntime};
-use gate_model::{Body, Moment, ObjectLine, ObjectTable, Plan, Scheduled, Text};
+use gate_model::{Body, Moment, ObjectLine, Plan, Scheduled, Text};
+use gate_table::ObjectTable;
 use std::alloc::{AllocError, Global};
 
 /// When an entry is, and what begins it.

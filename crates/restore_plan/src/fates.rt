@@ -5,7 +5,8 @@ ghost use Rattle.std.specs.Option.{option_map};
 ghost use Rattle.gate_model.specs.Table.{object_of};
 ghost use Rattle.restore_plan.specs.Fates.{sent_to};
 
-use gate_model::{Body, ObjectId, ObjectTable, Text};
+use gate_model::{Body, ObjectId, Text};
+use gate_table::ObjectTable;
 use std::alloc::{AllocError, Global};
 use thiserror::Error;
 

@@ -5,9 +5,8 @@ ghost use Rattle.restore_plan.specs.Fates.{last_of, acknowledgement_of, is_disab
 
 use crate::fates::{Cause, Fate, copied, copied_service, object_of, sent_to};
 use gate_applier::Applier;
-use gate_model::{
-    Acknowledgement, Body, CheckResult, Comment, Moment, ObjectId, ObjectTable, Text,
-};
+use gate_model::{Acknowledgement, Body, CheckResult, Comment, Moment, ObjectId, Text};
+use gate_table::ObjectTable;
 use std::alloc::{AllocError, Global};
 
 // ---- what stands

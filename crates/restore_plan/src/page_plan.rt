@@ -4,7 +4,7 @@ ghost use Rattle.std.specs.Prelude.{◌≡◌, ◌++◌, ◌<◌, ◌≤◌, len
 ghost use Rattle.status_reading.specs.Plain.{plain_bytes};
 ghost use Rattle.status_reading.specs.RowFaults.{IsSound};
 ghost use Rattle.status_reading.specs.Rows.{page_view};
-ghost use Rattle.gate_model.specs.Table.{IsFaultless};
+ghost use Rattle.gate_table.specs.Faults.{IsFaultless};
 ghost use Rattle.restore_plan.specs.Acceptance.{AcceptsOthers, AcknowledgesProblems};
 ghost use Rattle.restore_plan.specs.Plan.{commands_of};
 ghost use Rattle.restore_plan.specs.Rehearsal.{first_refusal};
@@ -15,7 +15,8 @@ use crate::entries::{Terms, fate_on, push_id, renewed_terms};
 use crate::fates::{Cause, Fate, object_of, sent_to};
 use crate::objects::{is_outdated, threshold_of};
 use crate::plan::Plan;
-use gate_model::{Body, Moment, ObjectId, ObjectLine, ObjectTable, Plan as Asked, State, Text};
+use gate_model::{Body, Moment, ObjectId, ObjectLine, Plan as Asked, State, Text};
+use gate_table::ObjectTable;
 use status_reading::{
     ShownAcknowledgement, ShownComment, ShownDowntime, ShownObject, ShownSource, StatusPage,
     plain_bytes,

@@ -2,7 +2,7 @@
 
 ghost use Rattle.std.specs.Prelude.{◌≡◌, ◌≤◌, [], ◌∷◌, ◌++◌, length, take, drop, filter_map, None, IfOk, OnOk};
 ghost use Rattle.std.specs.Option.{option_to_list};
-ghost use Rattle.gate_model.specs.Table.{IsFaultless};
+ghost use Rattle.gate_table.specs.Faults.{IsFaultless};
 ghost use Rattle.restore_plan.specs.Rehearsal.{first_refusal};
 ghost use Rattle.restore_plan.specs.Entries.{renewals_of, entry_fate};
 ghost use Rattle.restore_plan.specs.Scheduling.{sent_terms, AreSchedulable};
@@ -12,7 +12,8 @@ use crate::entries::{Renewal, push_entries, renewals_of};
 use crate::fates::Fate;
 use crate::objects::{acknowledgement_fate, comment_fate, result_fate, setting_fate};
 use gate_applier::Applier;
-use gate_model::{Body, Moment, ObjectTable, Record};
+use gate_model::{Body, Moment, Record};
+use gate_table::ObjectTable;
 use std::alloc::{AllocError, Global};
 
 /// The fate of each thing that stands of a kept log.

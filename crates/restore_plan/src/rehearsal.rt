@@ -6,8 +6,9 @@ ghost use Rattle.restore_plan.specs.Rehearsal.{records_from, first_among, first_
 
 use gate_applier::Applier;
 use gate_foresight::{ForesightFault, apply_all};
-use gate_model::{Body, Moment, Numbered, ObjectTable, Outcome, Record};
+use gate_model::{Body, Moment, Numbered, Outcome, Record};
 use gate_pages::{Board, status_page};
+use gate_table::ObjectTable;
 use std::alloc::{AllocError, Global};
 use thiserror::Error;
 

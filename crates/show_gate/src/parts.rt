@@ -1,8 +1,9 @@
 ghost use Rattle.std.specs.Prelude.{◌≡◌, [], IfSome};
 
 use gate_applier::Applier;
-use gate_model::{Moment, ObjectTable};
+use gate_model::Moment;
 use gate_queue::{Client, Closer, Gate, Taker, open};
+use gate_table::ObjectTable;
 use std::alloc::Global;
 use std::io::Write;
 

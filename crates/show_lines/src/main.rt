@@ -9,21 +9,16 @@ use std::alloc::Global;
 use std::io;
 use std::io::{BufRead, BufReader, BufWriter, Write};
 
-// Names a line that isn't read again as its command.
-fn show_if_other(
-    alloc: Global,
-    command: &Command,
-    line: &[u8],
-    output: &mut impl Write,
-) -> io::Result<()> {
+// Names a line that isn't read again as a command of the same line.
+fn show_if_other(alloc: Global, line: &[u8], output: &mut impl Write) -> io::Result<()> {
     match read_line(alloc, line) {
         Ok(again) => {
-            let is_same = again == *command;
+            let written = write_line(alloc, &again);
             drop(again);
-            if is_same {
-                Ok(())
-            } else {
-                output.write_all(b"read again: another command\n")
+            match written {
+                Ok(written) if written.as_slice() == line => Ok(()),
+                Ok(_) => output.write_all(b"read again: another command\n"),
+                Err(_) => output.write_all(b"write_line: OutOfMemory\n"),
             }
         }
         Err(fault) => writeln!(output, "read again: {fault:?}"),
@@ -37,7 +32,7 @@ fn show_command(alloc: Global, command: &Command, output: &mut impl Write) -> io
         Ok(line) => {
             output.write_all(&line)?;
             output.write_all(b"\n")?;
-            show_if_other(alloc, command, &line, output)
+            show_if_other(alloc, &line, output)
         }
         Err(_) => output.write_all(b"write_line: OutOfMemory\n"),
     }

@@ -1,5 +1,6 @@
 use gate_applier::Applier;
-use gate_model::{Moment, ObjectLine, ObjectTable, Text};
+use gate_model::{Moment, ObjectLine, Text};
+use gate_table::ObjectTable;
 use std::alloc::{AllocError, Global};
 use std::io;
 use std::io::{Error, ErrorKind, Write};

@@ -1,5 +1,6 @@
 use gate_applier::Applier;
-use gate_pages::{Board, log_page, status_page};
+use gate_lines::log_page;
+use gate_pages::{Board, status_page};
 use std::alloc::{AllocError, Global};
 use std::io::Write;
 

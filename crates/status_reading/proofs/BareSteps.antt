@@ -7,14 +7,15 @@ use Rattle.std.proofs.lemmas.List.{take-map, length-take, length-map}
 use Rattle.std.proofs.lemmas.List.Sums.{sum_by-cons}
 use Rattle.std.proofs.lemmas.Option.{slice_get-map, slice_get_within}
 use Rattle.gate_model.specs.declared.object.ObjectLine.{ObjectLine}
-use Rattle.gate_model.specs.declared.table.TableFault.{TableFault}
-use Rattle.gate_model.specs.declared.table.TableFault.TheVariants.{BadName, NoSuchHost, DuplicateHost, DuplicateService, TooMany}
+use Rattle.gate_table.specs.declared.table.TableFault.{TableFault}
+use Rattle.gate_table.specs.declared.table.TableFault.TheVariants.{BadName, NoSuchHost, DuplicateHost, DuplicateService, TooMany}
 use Rattle.gate_model.specs.Escaping.{escaped}
-use Rattle.gate_model.specs.Names.{is_name}
-use Rattle.gate_model.specs.Table.{is_line_of, place_of, has_object, is_host_line, is_service_line_of, is_service_name, is_named, host_fault, service_fault, line_fault, line_fault_at, IsFaultless}
+use Rattle.gate_table.specs.Names.{is_name}
+use Rattle.gate_model.specs.Table.{is_line_of, place_of, has_object, is_host_line, is_service_line_of}
+use Rattle.gate_table.specs.Faults.{is_service_name, is_named, host_fault, service_fault, line_fault, line_fault_at, IsFaultless}
 use Rattle.gate_model.proofs.Lists.{none_is_not_some, some_is, none_from_is_some, position_from-map, position_from-push, position_from-more, position_from-found}
-use Rattle.gate_model.proofs.KeySteps.{line_decides}
-use Rattle.gate_pages.specs.StatusPage.{service_text}
+use Rattle.gate_table.proofs.KeySteps.{line_decides}
+use Rattle.gate_lines.specs.Lines.{service_text}
 use Rattle.status_reading.specs.Plain.{plain_bytes}
 use Rattle.status_reading.specs.RowFaults.{service_name}
 use Rattle.status_reading.proofs.PlainLaws.{plain_escaped}

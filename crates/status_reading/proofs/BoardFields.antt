@@ -9,7 +9,7 @@ use Rattle.gate_model.specs.declared.state.State.TheVariants.{Pending, Ok, Warni
 use Rattle.gate_grammar.specs.Spelling.{joined, holds}
 use Rattle.gate_grammar.proofs.Numerals.{decimal_digits, none_in_digits, digit_isnt}
 use Rattle.gate_model.specs.Escaping.{hex_digit, is_escaped, escape_of, escaped_byte, escaped}
-use Rattle.gate_pages.specs.StatusPage.{service_text, state_name, optional_number, freshness_name, persistence_digit, plan_name}
+use Rattle.gate_lines.specs.Lines.{service_text, state_name, optional_number, freshness_name, persistence_digit, plan_name}
 use Rattle.status_reading.specs.declared.rows.ShownAcknowledgement.{ShownAcknowledgement}
 use Rattle.status_reading.specs.declared.rows.ShownAcknowledgement.TheVariants.{Missing, Normal, Sticky}
 use Rattle.status_reading.specs.declared.rows.ShownSource.{ShownSource}

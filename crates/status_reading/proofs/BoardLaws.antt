@@ -8,12 +8,13 @@ use Rattle.gate_model.specs.declared.record.Moment.{Moment}
 use Rattle.gate_model.specs.declared.status.Acknowledgement.{Acknowledgement}
 use Rattle.gate_model.specs.declared.comments.Source.{Source}
 use Rattle.gate_model.specs.declared.comments.Source.TheVariants as kept
-use Rattle.gate_pages.specs.declared.rows.ObjectRow.{ObjectRow}
-use Rattle.gate_pages.specs.declared.rows.CommentRow.{CommentRow}
-use Rattle.gate_pages.specs.declared.rows.DowntimeRow.{DowntimeRow}
+use Rattle.gate_lines.specs.declared.rows.ObjectRow.{ObjectRow}
+use Rattle.gate_lines.specs.declared.rows.CommentRow.{CommentRow}
+use Rattle.gate_lines.specs.declared.rows.DowntimeRow.{DowntimeRow}
 use Rattle.gate_model.specs.Escaping.{escaped}
-use Rattle.gate_pages.specs.StatusPage as gate
-use Rattle.gate_pages.specs.StatusPage.{BoardView, page_line, service_text, state_name, optional_number, last_moment, freshness_name, persistence_digit, plan_name, status_text}
+use Rattle.gate_lines.specs.Lines as gate
+use Rattle.gate_lines.specs.Lines.{page_line, service_text, state_name, optional_number, last_moment, freshness_name, persistence_digit, plan_name}
+use Rattle.gate_pages.specs.StatusPage.{BoardView, status_text}
 use Rattle.status_reading.specs.declared.page.StatusPage.{StatusPage}
 use Rattle.status_reading.specs.declared.page.ReadFault.{ReadFault}
 use Rattle.status_reading.specs.declared.page.ReadFault.TheVariants.{OutOfMemory}

@@ -25,7 +25,7 @@ use Rattle.gate_model.specs.Comments.{is_addition, number_made, removes, unless_
 use Rattle.gate_model.specs.Downtime.{scheduled_in}
 use Rattle.gate_model.specs.Table.{object_kind, object_of, place_of, services_of}
 use Rattle.gate_model.specs.Meaning.{Judged, is_sticky, object_event_of, object_event, object_events, transition_by, plan_of, downtime_events_of_body, downtime_events_of_record, downtime_events, judged}
-use Rattle.gate_pages.specs.StatusPage.{last_moment}
+use Rattle.gate_lines.specs.Lines.{last_moment}
 use Rattle.status_reading.specs.Readable.{Fits, MayFit}
 use Rattle.status_reading.proofs.EachSteps.{each_append, each_reverse, every_map, each_filter_map, each_option, some_if, some_map}
 use Rattle.status_reading.proofs.SubmissionSteps.{IsPlainPlan, HasPlainPlan}

@@ -6,7 +6,7 @@ use Rattle.gate_model.specs.declared.record.Record.{Record}
 use Rattle.gate_model.specs.declared.object.ObjectLine.{ObjectLine}
 use Rattle.gate_model.specs.declared.submission.Body.{Body}
 use Rattle.gate_model.specs.declared.submission.Body.TheVariants as bodies
-use Rattle.gate_model.specs.Table.{fault_at}
+use Rattle.gate_table.specs.Faults.{fault_at}
 use Rattle.gate_grammar.specs.Spelling.{Spells}
 use Rattle.gate_grammar.specs.Examples.{on_literals, remark}
 use Rattle.gate_grammar.specs.inner.Answers.{answer_of}

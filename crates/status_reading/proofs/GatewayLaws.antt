@@ -15,10 +15,11 @@ use Rattle.gate_model.specs.declared.downtime.DowntimeEvent.{DowntimeEvent}
 use Rattle.gate_model.specs.Comments.{comments_of}
 use Rattle.gate_model.specs.Downtime.{scheduled_in, entries_by, entries_of, begin_of, is_live, is_active_in, transition_of, was_deleted}
 use Rattle.gate_model.specs.Meaning.{Judged, object_events, downtime_events, comment_events, outlives, is_live_after, history_of, last_result_at, comments_at, depth_at, LiveEntry, downtimes_at}
-use Rattle.gate_model.proofs.ServiceSteps.{services-modest}
+use Rattle.gate_table.proofs.ServiceSteps.{services-modest}
 use Rattle.gate_applier.proofs.CountSteps.{made-few, scheduled-few}
 use Rattle.gate_pages.specs.Rows.{part_of, author_in, moment_of, object_row, comment_row, comment_rows, shown_begin, downtime_row, downtime_rows}
-use Rattle.gate_pages.specs.StatusPage.{last_moment, status_text}
+use Rattle.gate_lines.specs.Lines.{last_moment}
+use Rattle.gate_pages.specs.StatusPage.{status_text}
 use Rattle.status_reading.specs.declared.page.StatusPage.{StatusPage}
 use Rattle.status_reading.specs.declared.page.ReadFault.{ReadFault}
 use Rattle.status_reading.specs.declared.page.ReadFault.TheVariants.{OutOfMemory}

@@ -32,8 +32,8 @@ use Rattle.gate_model.specs.Downtime.{scheduled_in}
 use Rattle.gate_model.specs.Table.{is_line_of, object_kind, object_at, object_of, place_of, services_of}
 use Rattle.gate_model.specs.Meaning.{Judged, is_persistent, is_sticky, object_event_of, object_event, object_events, transition_by, plan_of, clearing_by, addition_for, addition_of_entry, next_entry, downtime_events_of_body, downtime_events_of_record, downtime_events, comment_events_of_body, comment_events_of_record, comment_events}
 use Rattle.gate_model.proofs.Lists.{position_from-within}
-use Rattle.gate_model.proofs.ServiceSteps.{services-within}
-use Rattle.gate_pages.specs.StatusPage.{last_moment}
+use Rattle.gate_table.proofs.ServiceSteps.{services-within}
+use Rattle.gate_lines.specs.Lines.{last_moment}
 use Rattle.status_reading.specs.RowFaults.{is_state_of}
 use Rattle.status_reading.proofs.EachSteps.{each_append, each_reverse, each_map, each_filter_map, each_option, some_if, some_map}
 use Rattle.status_reading.proofs.BareSteps.{found_line}

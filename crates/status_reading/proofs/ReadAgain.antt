@@ -4,7 +4,7 @@ use Rattle.std.specs.Prelude.{MatchResult}
 use Rattle.std.specs.Coded.{Coded-set, coded_bool}
 use Rattle.std.proofs.Math.Logic.{∥∥₁_elim}
 use Rattle.std.proofs.Props.{props}
-use Rattle.gate_model.specs.Table.{fault_at}
+use Rattle.gate_table.specs.Faults.{fault_at}
 use Rattle.status_reading.specs.declared.page.StatusPage.{StatusPage}
 use Rattle.status_reading.specs.declared.page.ReadFault.{ReadFault}
 use Rattle.status_reading.specs.declared.page.ReadFault.TheVariants.{NoStatus, BadLine, BadRow, OutOfMemory}

@@ -5,9 +5,9 @@ use Rattle.std.specs.List.{flat_map}
 use Rattle.std.specs.Fmt.{decimal}
 use Rattle.std.proofs.lemmas.List.{append_cancel_left}
 use Rattle.gate_model.specs.declared.object.ObjectLine.{ObjectLine}
-use Rattle.gate_model.specs.declared.table.TableFault.{TableFault}
-use Rattle.gate_model.specs.declared.table.TableFault.TheVariants as table
-use Rattle.gate_model.specs.Table.{IsFaultless, IsOverfull, IsFirstFault, IsFaultOf as IsTableFault}
+use Rattle.gate_table.specs.declared.table.TableFault.{TableFault}
+use Rattle.gate_table.specs.declared.table.TableFault.TheVariants as table
+use Rattle.gate_table.specs.Faults.{IsFaultless, IsOverfull, IsFirstFault, IsFaultOf as IsTableFault}
 use Rattle.status_reading.specs.declared.row_faults.RowFault.{RowFault}
 use Rattle.status_reading.specs.declared.page.StatusPage.{StatusPage}
 use Rattle.status_reading.specs.declared.page.ReadFault.{ReadFault}

@@ -12,11 +12,12 @@ use Rattle.gate_model.specs.declared.downtime.DowntimeEvent.{DowntimeEvent}
 use Rattle.gate_model.specs.Escaping.{escaped}
 use Rattle.gate_model.specs.Comments.{comments_of}
 use Rattle.gate_model.specs.Downtime.{scheduled_in, entries_of, begin_in, begin_of, is_live, is_live_in, is_active_in, transition_of, was_deleted, is_begun_by}
-use Rattle.gate_model.specs.Table.{place_of, object_kind, IsFaultless}
+use Rattle.gate_model.specs.Table.{place_of, object_kind}
+use Rattle.gate_table.specs.Faults.{IsFaultless}
 use Rattle.gate_model.proofs.Lists.{none_is_not_some}
 use Rattle.gate_model.specs.Meaning.{Judged, downtime_events, comment_events, outlives, is_live_after, history_of, comments_at, depth_at, state_at, last_result_at, LiveEntry, downtimes_at}
 use Rattle.gate_pages.specs.Rows.{host_of, service_of, object_row, comment_row, comment_rows, downtime_row, downtime_rows}
-use Rattle.gate_pages.specs.StatusPage.{service_text, last_moment}
+use Rattle.gate_lines.specs.Lines.{service_text, last_moment}
 use Rattle.status_reading.specs.declared.row_faults.RowFault.{RowFault}
 use Rattle.status_reading.specs.declared.row_faults.RowFault.TheVariants.{WrongState, WrongDepth}
 use Rattle.status_reading.specs.Rows.{ObjectView, DowntimeView, PageView}

@@ -4,10 +4,10 @@ use Rattle.std.specs.Prelude.{slice_get, IfSome, if◌then◌else◌}
 use Rattle.std.specs.List.{list_any, AllByRecursion}
 use Rattle.std.proofs.lemmas.Bool.{and_parts, or_parts, or_from, not-true}
 use Rattle.gate_model.specs.declared.object.ObjectLine.{ObjectLine}
-use Rattle.gate_model.specs.declared.table.TableFault.{TableFault}
-use Rattle.gate_model.specs.declared.table.TableFault.TheVariants.{BadName}
-use Rattle.gate_model.specs.Names.{is_barred, is_name}
-use Rattle.gate_model.specs.Table.{is_named, is_service_name, line_fault_at, IsFaultless}
+use Rattle.gate_table.specs.declared.table.TableFault.{TableFault}
+use Rattle.gate_table.specs.declared.table.TableFault.TheVariants.{BadName}
+use Rattle.gate_table.specs.Names.{is_barred, is_name}
+use Rattle.gate_table.specs.Faults.{is_named, is_service_name, line_fault_at, IsFaultless}
 use Rattle.gate_grammar.specs.Spelling.{holds}
 use Rattle.gate_pages.specs.Rows.{host_of, service_of}
 use Rattle.status_reading.specs.Board.{HoldsNone, MayHoldNone}

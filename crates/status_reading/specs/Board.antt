@@ -8,11 +8,12 @@ use Rattle.gate_model.specs.declared.status.Acknowledgement.{Acknowledgement}
 use Rattle.gate_model.specs.declared.comments.Source.{Source}
 use Rattle.gate_model.specs.declared.comments.Source.TheVariants as kept
 use Rattle.gate_grammar.specs.Spelling.{holds}
-use Rattle.gate_pages.specs.declared.rows.ObjectRow.{ObjectRow}
-use Rattle.gate_pages.specs.declared.rows.CommentRow.{CommentRow}
-use Rattle.gate_pages.specs.declared.rows.DowntimeRow.{DowntimeRow}
+use Rattle.gate_lines.specs.declared.rows.ObjectRow.{ObjectRow}
+use Rattle.gate_lines.specs.declared.rows.CommentRow.{CommentRow}
+use Rattle.gate_lines.specs.declared.rows.DowntimeRow.{DowntimeRow}
 use Rattle.gate_model.specs.Escaping.{escaped}
-use Rattle.gate_pages.specs.StatusPage.{BoardView, service_text, last_moment}
+use Rattle.gate_lines.specs.Lines.{service_text, last_moment}
+use Rattle.gate_pages.specs.StatusPage.{BoardView}
 use Rattle.status_reading.specs.declared.rows.ShownAcknowledgement.{ShownAcknowledgement}
 use Rattle.status_reading.specs.declared.rows.ShownAcknowledgement.TheVariants.{Missing, Normal, Sticky}
 use Rattle.status_reading.specs.declared.rows.ShownSource.{ShownSource}

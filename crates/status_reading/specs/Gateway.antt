@@ -9,7 +9,7 @@ use Rattle.gate_model.specs.declared.record.Record.{Record}
 use Rattle.gate_model.specs.declared.object.ObjectLine.{ObjectLine}
 use Rattle.gate_model.specs.declared.submission.Body.{Body}
 use Rattle.gate_model.specs.Submission.{is_result}
-use Rattle.gate_model.specs.Table.{IsFaultless}
+use Rattle.gate_table.specs.Faults.{IsFaultless}
 use Rattle.gate_grammar.specs.declared.commands.Command.{Command}
 use Rattle.gate_grammar.specs.Spelling.{Spells}
 use Rattle.gate_pages.specs.StatusPage.{BoardView, board_at}

@@ -3,7 +3,7 @@
 use Rattle.std.specs.Prelude.{ℕ, List, [], ◌∷◌, ◌++◌, Option, Some, None, codes}
 use Rattle.std.specs.List.{flat_map}
 use Rattle.std.specs.Fmt.{decimal}
-use Rattle.gate_pages.specs.StatusPage.{page_line, state_name, optional_number, freshness_name, persistence_digit, plan_name}
+use Rattle.gate_lines.specs.Lines.{page_line, state_name, optional_number, freshness_name, persistence_digit, plan_name}
 use Rattle.status_reading.specs.declared.rows.ShownAcknowledgement.{ShownAcknowledgement}
 use Rattle.status_reading.specs.declared.rows.ShownAcknowledgement.TheVariants.{Missing, Normal, Sticky}
 use Rattle.status_reading.specs.declared.rows.ShownSource.{ShownSource}

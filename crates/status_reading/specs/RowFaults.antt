@@ -10,10 +10,11 @@ use Rattle.gate_model.specs.declared.object.Kind.TheVariants.{Host, Service}
 use Rattle.gate_model.specs.declared.object.ObjectLine.{ObjectLine}
 use Rattle.gate_model.specs.declared.state.State.{State}
 use Rattle.gate_model.specs.declared.state.State.TheVariants.{Pending, Ok, Warning, Critical, Unknown, Up, Down, Unreachable}
-use Rattle.gate_model.specs.declared.table.TableFault.{TableFault}
-use Rattle.gate_model.specs.declared.table.TableFault.TheVariants as table
+use Rattle.gate_table.specs.declared.table.TableFault.{TableFault}
+use Rattle.gate_table.specs.declared.table.TableFault.TheVariants as table
 use Rattle.gate_model.specs.State.{is_same_state}
-use Rattle.gate_model.specs.Table.{object_kind, place_of, IsFaultless, IsFaultOf}
+use Rattle.gate_model.specs.Table.{object_kind, place_of}
+use Rattle.gate_table.specs.Faults.{IsFaultless, IsFaultOf}
 use Rattle.status_reading.specs.declared.row_faults.RowFault.{RowFault}
 use Rattle.status_reading.specs.declared.row_faults.RowFault.TheVariants.{BadName, NoSuchHost, Twice, TooMany, WrongState, WrongDepth, NoSuchObject, WrongOrder}
 use Rattle.status_reading.specs.declared.page.ReadFault.{ReadFault}

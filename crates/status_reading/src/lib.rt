@@ -12,8 +12,8 @@ mod row_faults;
 mod rows;
 mod words;
 
+pub use gate_lines::{plan_name, state_name};
 pub use gate_model::State;
-pub use gate_pages::{plan_name, state_name};
 pub use page::{ReadFault, StatusPage, read_status_page};
 pub use page_text::PageText;
 pub use plain::plain_bytes;

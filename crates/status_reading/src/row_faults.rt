@@ -2,7 +2,8 @@
 
 ghost use Rattle.std.specs.Prelude.{◌≡◌, ◌∷◌, ◌++◌, ◌+◌, ◌<◌, ◌≤◌, ◌^◌, [], OnOk, ℕ, List, length, map, get_or, vec_len, option_map, IfOk, IfSome, MatchResult};
 ghost use Rattle.std.specs.List.{enumerate_from};
-ghost use Rattle.gate_model.specs.Table.{object_kind, IsFaultless};
+ghost use Rattle.gate_model.specs.Table.{object_kind};
+ghost use Rattle.gate_table.specs.Faults.{IsFaultless};
 ghost use Rattle.status_reading.specs.Rows.{object_view, comment_view, downtime_view, page_view};
 ghost use Rattle.status_reading.specs.Faults.{line_count};
 ghost use Rattle.status_reading.specs.RowFaults.{row_fault_words, service_name, line_of, place_on, table_fault, is_state_of, active_at, object_fault, comment_names, downtime_names, id_fault, id_faults, row_faults, first_from, IsSound, IsUnsound};
@@ -12,7 +13,8 @@ ghost use Rattle.status_reading.specs.declared.rows.ShownDowntime.{ShownDowntime
 use crate::page::{ReadFault, StatusPage};
 use crate::plain::plain_bytes;
 use crate::rows::{ShownComment, ShownDowntime, ShownObject};
-use gate_model::{ObjectLine, ObjectTable, State, TableFault, Text};
+use gate_model::{ObjectLine, State, Text};
+use gate_table::{ObjectTable, TableFault};
 use std::alloc::{AllocError, Global};
 use std::error::Error;
 use std::fmt;

@@ -3,15 +3,15 @@
 ghost use Rattle.std.specs.Prelude.{◌≡◌, IfSome};
 ghost use Rattle.std.specs.Bool.{Decides};
 ghost use Rattle.std.specs.Fmt.{decimal};
-ghost use Rattle.gate_pages.specs.StatusPage.{state_name, optional_number, freshness_name, persistence_digit, plan_name};
+ghost use Rattle.gate_lines.specs.Lines.{state_name, optional_number, freshness_name, persistence_digit, plan_name};
 ghost use Rattle.status_reading.specs.Page.{shown_acknowledgement, shown_source};
 ghost use Rattle.status_reading.specs.Readable.{Fits, MayFit};
 ghost use Rattle.status_reading.specs.inner.Reading.{Reads, Names};
 
 use crate::rows::{ShownAcknowledgement, ShownSource};
 use gate_grammar::read_number;
+use gate_lines::{plan_name, state_name};
 use gate_model::State;
-use gate_pages::{plan_name, state_name};
 use itoa::Buffer;
 
 /// Whether a field shows this number, without leading zeros.

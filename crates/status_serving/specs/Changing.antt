@@ -5,7 +5,7 @@ use Rattle.std.specs.Arc.{arc_value}
 use Rattle.std.specs.List.{flat_map}
 use Rattle.std.specs.List.Sorted.{IsPermutation, IsNonDecreasingBy}
 use Rattle.json.specs.Json.{Json, string, object}
-use Rattle.gate_pages.specs.StatusPage.{state_name}
+use Rattle.gate_lines.specs.Lines.{state_name}
 use Rattle.status_memory.specs.declared.memory.Kept.{Kept}
 use Rattle.status_memory.specs.declared.history.StateChange.{StateChange}
 use Rattle.status_memory.specs.declared.history.GatewayChange.{GatewayChange}

@@ -1,7 +1,7 @@
 -- Changes of states: the page of them, `changes_nodes`, and their feed, `feed_nodes`, a document of Atom (RFC 4287).
 -- Own rules, but for the elements of the feed (sections 4.1 and 4.2).
 use Rattle.std.specs.Prelude.{ℕ, not, ◌==◌, List, [], ◌∷◌, ◌++◌, length, codes}
-use Rattle.gate_pages.specs.StatusPage.{state_name}
+use Rattle.gate_lines.specs.Lines.{state_name}
 use Rattle.status_memory.specs.declared.history.GatewayChange.{GatewayChange}
 use Rattle.status_merge.specs.declared.query.Choice.TheVariants.{In}
 use Rattle.status_merge.specs.Asking.{choice_word}

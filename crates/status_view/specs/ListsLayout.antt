@@ -1,6 +1,6 @@
 -- The lists of comments and of downtime entries: `entries_nodes`. Own rules.
 use Rattle.std.specs.Prelude.{ℕ, ◌-◌, ◌==◌, Bool, not, nat_lt, List, [], ◌∷◌, ◌++◌, length, Option, Some, None, codes}
-use Rattle.gate_pages.specs.StatusPage.{plan_name}
+use Rattle.gate_lines.specs.Lines.{plan_name}
 use Rattle.status_reading.specs.Page.{shown_source}
 use Rattle.status_view.specs.declared.layout.EntryList.{EntryList}
 use Rattle.status_view.specs.declared.layout.EntryList.TheVariants.{Comments, Downtimes}

@@ -2,9 +2,10 @@ ghost use Rattle.std.specs.Prelude.{◌≡◌, IfSome};
 
 use crate::parts::packet_of;
 use gate_daemon::GatewaySettings;
-use gate_model::{Moment, ObjectTable};
+use gate_model::Moment;
 use gate_packet::{PACKET_SIZE, encode};
 use gate_reader::SessionLimits;
+use gate_table::ObjectTable;
 use gate_worker::{Connections, Wake, Watch, WorkerLimits};
 use std::alloc::Global;
 use std::sync::atomic::{AtomicU64, Ordering};

@@ -1,7 +1,8 @@
 //! Boards and the words of pages; `crates/show_records` writes the pages of a day.
 use crate::parts::applier;
+use gate_lines::{outcome_name, plan_name, state_name};
 use gate_model::{Moment, Outcome, State};
-use gate_pages::{Board, outcome_name, plan_name, publish, state_name, status_page};
+use gate_pages::{Board, publish, status_page};
 use std::alloc::Global;
 
 fn board_at(alloc: Global, now: u32) -> Option<Board> {

@@ -8,9 +8,10 @@ ghost use Rattle.gate_queue.specs.Taker.{taker_state};
 
 use gate_applier::{Applier, Ready};
 use gate_grammar::read_line;
-use gate_model::{Body, Kind, Moment, Numbered, ObjectId, ObjectLine, ObjectTable, Text};
+use gate_model::{Body, Kind, Moment, Numbered, ObjectId, ObjectLine, Text};
 use gate_packet::Packet;
 use gate_queue::{Client, CloseFault, Closer, Gate, Refused, Taker, open, open_with};
+use gate_table::ObjectTable;
 use std::alloc::Global;
 use std::sync::Wait;
 use std::thread;

@@ -4,9 +4,10 @@ use gate_close::CloseAllCause;
 use gate_core::OpenFault;
 use gate_downtime::{CancelFault, ScheduleFault};
 use gate_grammar::LineFault;
-use gate_model::{BuildFault, Moment, TableFault};
+use gate_model::Moment;
 use gate_packet::{ContentFault, Field, PacketFault};
 use gate_queue::{CloseFault, Refused};
+use gate_table::{BuildFault, TableFault};
 use std::alloc::Global;
 use std::fmt::Display;
 

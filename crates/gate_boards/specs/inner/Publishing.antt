@@ -1,11 +1,8 @@
--- Only proofs and private functions use this: an applier without an item, the board that was tried last, and the page of
--- one.
-use Rattle.std.specs.Prelude.{◌≡◌, ℕ, Bool, length, is_some, Result, IfOk, Vec}
-use Rattle.std.specs.declared.alloc.AllocError.{AllocError}
+-- Only proofs and private functions use this: an applier without an item, and the board that was tried last.
+use Rattle.std.specs.Prelude.{◌≡◌, ℕ, length}
 use Rattle.gate_model.specs.declared.record.Moment.{Moment}
 use Rattle.gate_model.specs.Record.{later}
 use Rattle.gate_reader.specs.Clock.{ClockState, Shows}
-use Rattle.gate_pages.specs.StatusPage.{BoardView, status_text}
 use Rattle.gate_applier.specs.Applier.{ApplierView}
 use Rattle.gate_boards.specs.declared.boards.LastBoard.{LastBoard}
 
@@ -18,9 +15,3 @@ pub record IsTried (applier : ApplierView) (board : LastBoard) : Type 0 where
   pub records : board.records ≡ length applier.records
   pub moment : board.moment ≡ applier.moment
   pub pauses : board.pauses_left ≡ 25
-
--- a page, if there was memory for it, and whether it is the last one, are those of some board
-pub record IsMadeOf {Allocator : Type 0} (page : Result (Vec ℕ Allocator) AllocError) (is_last : Bool) : Type 0 where
-  pub board : BoardView
-  pub text : IfOk page (λ bytes. bytes.items ≡ status_text board)
-  pub last : is_last ≡ is_some board.closing

@@ -7,7 +7,7 @@ use Rattle.gate_model.specs.declared.record.Outcome.{Outcome}
 use Rattle.gate_model.specs.declared.record.Outcome.TheVariants as outcome
 use Rattle.gate_model.specs.Escaping.{escaped}
 use Rattle.gate_grammar.specs.Canonical.{body_text}
-use Rattle.gate_pages.specs.LogPage.{outcome_name}
+use Rattle.gate_lines.specs.LogPage.{outcome_name}
 use Rattle.status_reading.specs.Readable.{Fits}
 use Rattle.log_reading.specs.declared.logged.Logged.{Logged}
 use Rattle.log_reading.specs.declared.logged.Logged.TheVariants.{Accepted, Refused}

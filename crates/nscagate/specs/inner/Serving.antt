@@ -11,8 +11,8 @@ use Rattle.gate_reader.specs.declared.report.Report.{Report}
 use Rattle.gate_pool.specs.Answered.{reports_of_each, queued_by_each, HoldsAll}
 use Rattle.gate_pool.specs.Served.{AllServed}
 use Rattle.gate_daemon.specs.declared.gateway.Finished.{Finished}
-use Rattle.gate_daemon.specs.declared.gateway.GatewayFault.{GatewayFault}
-use Rattle.gate_daemon.specs.declared.gateway.GatewayFault.TheVariants as gateway_fault
+use Rattle.gate_opening.specs.declared.fault.GatewayFault.{GatewayFault}
+use Rattle.gate_opening.specs.declared.fault.GatewayFault.TheVariants as gateway_fault
 use Rattle.gate_config.specs.declared.config.Config.{Config}
 use Rattle.gate_start.specs.declared.fault.ServeFault.{ServeFault}
 use Rattle.gate_start.specs.declared.fault.ServeFault.TheVariants.{LogFull, OutOfMemory, Spawn}

@@ -2,8 +2,8 @@
 -- active entries.
 use Rattle.std.specs.Prelude.{◌≡◌, ◌<◌, ◌&&◌, ℕ, Bool, List, length, get_or, count_by, is_some}
 use Rattle.gate_model.specs.declared.object.ObjectLine.{ObjectLine}
-use Rattle.gate_model.specs.declared.table.TableFault.{TableFault}
-use Rattle.gate_model.specs.Table.{IsFaultOf}
+use Rattle.gate_table.specs.declared.table.TableFault.{TableFault}
+use Rattle.gate_table.specs.Faults.{IsFaultOf}
 use Rattle.status_reading.specs.declared.page.ReadFault.{ReadFault}
 use Rattle.status_reading.specs.declared.page.ReadFault.TheVariants.{OutOfMemory}
 use Rattle.status_reading.specs.declared.row_faults.Named.{Named}

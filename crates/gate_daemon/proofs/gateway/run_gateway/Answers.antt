@@ -5,7 +5,7 @@ use Rattle.std.proofs.lemmas.Result.{IfErr-weaker, IfOk-weaker}
 use denote.Param.Send.{Quiet-if}
 use Rattle.gate_model.specs.declared.object.ObjectLine.{ObjectLine}
 use Rattle.gate_applier.specs.Applier.{ApplierView}
-use Rattle.gate_daemon.specs.Faults.{IsGatewayFault}
+use Rattle.gate_opening.specs.Faults.{IsGatewayFault}
 use Rattle.gate_daemon.specs.inner.Joining.{AreJoined}
 use Rattle.gate_daemon.proofs.Started.{unopened_fault, unopened_shown, opened_shown, all_on}
 use Rattle.gate_daemon.proofs.gateway.run_gateway.Goals as goal

@@ -1,7 +1,7 @@
 use Rattle.std.proofs.Common.{◌++◌, sym, ◌∙◌}
 use Rattle.std.specs.Prelude.{codes}
 use Rattle.std.proofs.lemmas.List.{append_cancel_right}
-use Rattle.gate_pages.specs.LogPage.{outcome_name}
+use Rattle.gate_lines.specs.LogPage.{outcome_name}
 use Rattle.status_reading.proofs.CutSteps.{never_holds}
 use Rattle.log_reading.proofs.LineSteps.{same_ending, none_is_some, same_some}
 use Rattle.log_reading.proofs.lines.ending.Goals as goal

@@ -1,7 +1,7 @@
 use Rattle.std.proofs.Common.{if◌then◌else◌, List, subst, ap, ◌∙◌}
 use Rattle.std.proofs.lemmas.Result.{err_from_is_err_and}
 use Rattle.gate_model.specs.Meaning.{outcomes_of}
-use Rattle.gate_pages.specs.LogPage.{log_text}
+use Rattle.gate_lines.specs.LogPage.{log_text}
 use Rattle.log_reading.specs.declared.logged.Logged.{Logged}
 use Rattle.operator_restore.specs.Printed.{IsLastPage}
 use Rattle.log_summary.specs.Lines.{summary_text, summary_json}

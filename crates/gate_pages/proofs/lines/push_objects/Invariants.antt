@@ -1,7 +1,0 @@
-use Rattle.std.proofs.Common.{◌≡◌, ◌++◌, drop}
-use Rattle.std.specs.List.{flat_map}
-use Rattle.gate_pages.specs.StatusPage.{object_line}
-use Rattle.gate_pages.proofs.lines.push_objects.Given as goal
-
-abbrev pub invariant-loop-row : goal.invariant-loop-row
-invariant-loop-row l = l.out.items ++ flat_map object_line (drop l.row-index l.rows) ≡ l.fn.out.items ++ flat_map object_line l.rows

@@ -1,0 +1,82 @@
+ghost use Rattle.gate_showing.specs.Showing.{ShowsBoard};
+ghost use Rattle.gate_showing.specs.inner.Making.{IsMadeOf};
+
+use gate_pages::{Board, status_page};
+use gate_reader::{Sink, put_last};
+use gate_worker::times::MEMORY_TRIES;
+use gate_worker::{Connections, pause};
+use std::alloc::{AllocError, Global};
+use std::sync::{Mutex, Wait};
+use std::time::Clock;
+
+// The status page of the board, if there is memory for it, and whether it is the last one: that of a
+// closing board.
+fn page_of<R: Wait>(
+    rt: &R,
+    alloc: Global,
+    board: &Mutex<Board>,
+) -> (Result<Vec<u8>, AllocError>, bool)
+    ensures { IsMadeOf result.0 result.1 }
+{
+    let shown = board.lock(rt);
+    (status_page(alloc, &shown), shown.closes_at().is_some())
+}
+
+// The same, where memory for the page is missing after a second.
+fn next_page<R: Wait + Clock>(
+    rt: &R,
+    alloc: Global,
+    board: &Mutex<Board>,
+) -> (Result<Vec<u8>, AllocError>, bool)
+    ensures { IsMadeOf result.0 result.1 }
+{
+    for _ in 1..MEMORY_TRIES {
+        let (page, is_last) = page_of(rt, alloc, board);
+        if page.is_ok() {
+            return (page, is_last);
+        }
+        pause(rt);
+    }
+    page_of(rt, alloc, board)
+}
+
+// Writes the page of the board that stands there to a reader, who doesn't get it where it has gone, or
+// where memory for it is missing after a second. Whether it was the last one.
+fn show_page<R: Wait + Clock, O: Sink>(
+    rt: &R,
+    alloc: Global,
+    board: &Mutex<Board>,
+    output: &mut O,
+) -> bool
+    ensures { ShowsBoard (O.state output.old) (O.state output.new) result }
+{
+    let (page, is_last) = next_page(rt, alloc, board);
+    if let Ok(page) = page {
+        let _ = put_last(output, &page);
+    }
+    is_last
+}
+
+/// Writes the status page to each connection. It ends after the first connection that is served
+/// with a closing board, and where there are no more connections.
+///
+/// What a connection sends isn't looked at. A page for which memory is missing for a second isn't
+/// written. It waits for the connections and for the board. Own rule.
+pub fn run_pages<R: Wait + Clock, C: Connections + Drop>(
+    rt: &R,
+    alloc: Global,
+    mut connections: C,
+    board: &Mutex<Board>,
+) {
+    for _ in rt.forever() {
+        let Some((input, mut output)) = connections.next() else {
+            break;
+        };
+        let is_last = show_page(rt, alloc, board, &mut output);
+        connections.part(input, output);
+        if is_last {
+            break;
+        }
+    }
+    connections.end();
+}

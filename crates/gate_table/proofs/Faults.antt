@@ -1,0 +1,42 @@
+-- What the faults of single lines are for all lines.
+use Rattle.std.proofs.Common.{◌≡◌, ℕ, ◌<◌, ◌≤◌, List, length, take, None, subst, ap, ◌∙◌, arith, inl, inr}
+use Rattle.std.specs.Prelude.{Err}
+use Rattle.std.proofs.lemmas.Bool.{cases_lt}
+use Rattle.std.proofs.lemmas.Option.{slice_get_past}
+use Rattle.std.proofs.lemmas.List.{take_all}
+use Rattle.gate_model.specs.declared.object.ObjectLine.{ObjectLine}
+use Rattle.gate_table.specs.declared.table.TableFault.{TableFault}
+use Rattle.gate_table.specs.declared.table.TableFault.TheVariants as faults
+use Rattle.gate_table.specs.declared.table_builder.TableBuilder.{TableBuilder}
+use Rattle.gate_table.specs.inner.Keys.{IsIndex}
+use Rattle.gate_table.specs.Faults.{line_fault_at, fault_at, IsFaultOf}
+use Rattle.gate_table.specs.inner.TableBuilder.{TracksLines, AddsOrRefuses}
+
+-- none of the lines before an index is faulty
+abbrev pub FaultlessBelow : List ObjectLine → ℕ → Type 0
+FaultlessBelow lines i = (j : ℕ) → j < i → fault_at lines j ≡ None
+
+pub first_fault : (lines : List ObjectLine) (i : ℕ) (fault : TableFault) (builder : TableBuilder) → length lines ≤ 16384 → FaultlessBelow lines i → AddsOrRefuses lines i (Err fault) builder → IsFaultOf lines fault
+first_fault lines i faults.OutOfMemory builder few before is = record {
+  index = i;
+  few = few;
+  faultless = λ j le. elim (cases_lt j i) [ inl lt ↦ before j lt | inr ge ↦ let same : j ≡ i = omega (arith, le, ge) in ap (fault_at lines) same ∙ is ];
+}
+first_fault lines i (faults.BadName n) builder few before is = inr (record { index = i; few = few; here = is; first = before })
+first_fault lines i (faults.NoSuchHost n) builder few before is = inr (record { index = i; few = few; here = is; first = before })
+first_fault lines i (faults.DuplicateHost n) builder few before is = inr (record { index = i; few = few; here = is; first = before })
+first_fault lines i (faults.DuplicateService n) builder few before is = inr (record { index = i; few = few; here = is; first = before })
+first_fault lines i (faults.TooMany n) builder few before is = inr (record { index = i; few = few; here = is; first = before })
+
+no_fault_past : (lines : List ObjectLine) (i : ℕ) → length lines ≤ i → fault_at lines i ≡ None
+no_fault_past lines i le = ap (line_fault_at lines i) (slice_get_past lines i le)
+
+pub index_of_all : (lines : List ObjectLine) (i : ℕ) (builder : TableBuilder) → length lines ≤ 16384 → length lines ≤ i → FaultlessBelow lines i → TracksLines (take i lines) builder → IsIndex lines builder.keys
+index_of_all lines i builder few le before tracks =
+    let all : take i lines ≡ lines = take_all i lines le in
+    let known : TracksLines lines builder = subst (λ (ls : List ObjectLine). TracksLines ls builder) all tracks in
+    record {
+      keys_are = known.keys_are;
+      short = known.short;
+      faultless = record { few = few; each = λ j. elim (cases_lt j i) [ inl lt ↦ before j lt | inr ge ↦ no_fault_past lines j (omega arith) ] };
+    }
