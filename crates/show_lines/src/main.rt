@@ -18,7 +18,7 @@ fn show_if_other(alloc: Global, line: &[u8], output: &mut impl Write) -> io::Res
             match written {
                 Ok(written) if written.as_slice() == line => Ok(()),
                 Ok(_) => output.write_all(b"read again: another command\n"),
-                Err(_) => output.write_all(b"write_line: OutOfMemory\n"),
+                Err(_) => output.write_all(b"read again: OutOfMemory\n"),
             }
         }
         Err(fault) => writeln!(output, "read again: {fault:?}"),
