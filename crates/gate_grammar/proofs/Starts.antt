@@ -1,5 +1,5 @@
 -- What starts with a text, as bytes are appended to it.
-use Rattle.std.proofs.Common.{◌≡◌, ℕ, List, [], ◌++◌, sym, ap, ◌∙◌, append_assoc, append-nil, Result, Ok, Err, OnErr}
+use Rattle.std.proofs.Common.{ℕ, List, ◌++◌, ap, ◌∙◌, append_assoc, Result, Ok, Err, OnErr}
 use Rattle.gate_grammar.specs.Canonical.{StartsWith}
 
 pub starts_after : (text middle front : List ℕ) → StartsWith text middle → StartsWith middle front → StartsWith text front
