@@ -1,9 +1,11 @@
 ghost use Rattle.std.specs.Prelude.{◌≡◌, ◌<◌, ◌≤◌, ◌+◌, ◌++◌, ◌∷◌, [], List, length, map};
 ghost use Rattle.gate_grammar.specs.Arguments.{ArgumentValue};
+ghost use Rattle.gate_grammar.specs.Arguments as value;
 ghost use Rattle.gate_grammar.specs.Arguments.{value_in, text_in, number_in, code_in};
 ghost use Rattle.gate_grammar.specs.inner.Values.{value_of};
 
 use arrayvec::ArrayVec;
+use gate_model::Text;
 use std::marker::Model;
 
 /// What kind of argument a command takes.
@@ -73,6 +75,28 @@ impl<'a> Arguments<'a> {
     {
         let _fits = self.items.try_extend_from_slice(more);
         self
+    }
+
+    /// These arguments and numbers.
+    fn with_numbers(mut self, numbers: &[u32]) -> Self
+        requires { length self + length numbers.now ≤ ARGUMENTS }
+        ensures { result ≡ self.entry ++ map value.Number numbers.now }
+    {
+        for number in numbers {
+            self.items.push(Argument::Number(*number));
+        }
+        self
+    }
+
+    /// These arguments, numbers, and a comment after its author.
+    pub fn with_comment(self, numbers: &[u32], author: &'a Text, text: &'a Text) -> Self
+        requires { length self + length numbers.now + 2 ≤ ARGUMENTS }
+        ensures { result ≡ self.entry ++ map value.Number numbers.now ++ value.Text author.now ∷ value.Text text.now ∷ [] }
+    {
+        self.with_numbers(numbers).with(&[
+            Argument::Text(author.bytes()),
+            Argument::Text(text.bytes()),
+        ])
     }
 
     pub fn as_slice(&self) -> &[Argument<'a>]

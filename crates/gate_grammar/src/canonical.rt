@@ -57,7 +57,7 @@ fn push_ranged_body(out: &mut Vec<u8>, body: &Body) -> Result<(), AllocError>
     ensures in_range { AreInRange body.now }
 {
     let command = command_of(body);
-    out.extend_from_slice(command.name.syntax().text)?;
+    out.extend_from_slice(command.name.text())?;
     push_arguments(out, command.arguments.as_slice())
 }
 

@@ -88,7 +88,7 @@ fn fields_at(line: &[u8]) -> Result<ParsedLine<'_>, LineFault>
     let Some(name) = name_at(text) else {
         return Err(LineFault::UnknownCommand);
     };
-    let arguments = arguments_at(name.syntax().kinds, rest)?;
+    let arguments = arguments_at(name.kinds(), rest)?;
     Ok(ParsedLine {
         entered: Moment(entered),
         name,
@@ -126,7 +126,7 @@ fn name_among(names: &[CommandName], text: &[u8]) -> Option<CommandName>
     ensures { result ≡ name_among names.now text.now }
 {
     for name in names {
-        if name.syntax().text == text {
+        if name.text() == text {
             return Some(*name);
         }
     }

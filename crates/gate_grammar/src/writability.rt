@@ -21,7 +21,7 @@ pub fn writable(command: &Command) -> bool
 {
     let mut time = Buffer::new();
     let called = command_of(&command.body);
-    let start = time.format(command.entered.0).len() + called.name.syntax().text.len() + 3;
+    let start = time.format(command.entered.0).len() + called.name.text().len() + 3;
     let arguments = called.arguments.as_slice();
     fit(LINE_LENGTH - start, arguments) && are_writable(arguments)
 }
