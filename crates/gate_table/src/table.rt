@@ -47,31 +47,34 @@ pub enum TableFault {
     OutOfMemory,
 }
 
+impl TableFault {
+    /// The number of the faulty line, where it is one, and what is wrong with it or the list.
+    fn phrase(self) -> (Option<u32>, &'static str) {
+        match self {
+            TableFault::BadName(line) => (
+                Some(line),
+                "a name is empty or too long, has a space at an end, or contains a `;` or a control byte",
+            ),
+            TableFault::NoSuchHost(line) => (Some(line), "no host of that name stands before it"),
+            TableFault::DuplicateHost(line) => (Some(line), "a host of that name stands before it"),
+            TableFault::DuplicateService(line) => (
+                Some(line),
+                "a service of that name, of the same host, stands before it",
+            ),
+            TableFault::TooMany(0) => (None, "more than 16384 lines"),
+            TableFault::TooMany(line) => {
+                (Some(line), "more than 1024 hosts, or services of one host")
+            }
+            TableFault::OutOfMemory => (None, "out of memory"),
+        }
+    }
+}
+
 impl fmt::Display for TableFault {
     fn fmt<W: fmt::Write>(&self, f: &mut fmt::Formatter<W>) -> fmt::Result {
-        match self {
-            TableFault::BadName(line) => write!(
-                f,
-                "line {line}: a name is empty or too long, has a space at an end, or contains a `;` or a control byte"
-            ),
-            TableFault::NoSuchHost(line) => {
-                write!(f, "line {line}: no host of that name stands before it")
-            }
-            TableFault::DuplicateHost(line) => {
-                write!(f, "line {line}: a host of that name stands before it")
-            }
-            TableFault::DuplicateService(line) => write!(
-                f,
-                "line {line}: a service of that name, of the same host, stands before it"
-            ),
-            TableFault::TooMany(0) => write!(f, "more than 16384 lines"),
-            TableFault::TooMany(line) => {
-                write!(
-                    f,
-                    "line {line}: more than 1024 hosts, or services of one host"
-                )
-            }
-            TableFault::OutOfMemory => write!(f, "out of memory"),
+        match self.phrase() {
+            (Some(line), phrase) => write!(f, "line {line}: {phrase}"),
+            (None, phrase) => f.write_str(phrase),
         }
     }
 }
