@@ -54,11 +54,16 @@ list_all-push test (x ∷ before) line all here =
 pub take-line : (lines : List ObjectLine) (i : ℕ) (line : ObjectLine) → i < length lines → line ≡ get_or lines i line → take (i + 1) lines ≡ take i lines ++ line ∷ []
 take-line lines i line lt there = rw (add-one, take-suc lines i line lt) (ap (λ (x : ObjectLine). take i lines ++ x ∷ []) (sym there))
 
-line_there : (lines : List ObjectLine) (i : ℕ) (line : ObjectLine) → i < length lines → line ≡ get_or lines i line → slice_get lines i ≡ Some line
+-- the line at an index
+pub line_there : (lines : List ObjectLine) (i : ℕ) (line : ObjectLine) → i < length lines → line ≡ get_or lines i line → slice_get lines i ≡ Some line
 line_there lines i line lt there = slice_get-get_or lines i line lt ∙ ap (λ (l : ObjectLine). Some l) (sym there)
 
 fault_at-there : (lines : List ObjectLine) (i : ℕ) (line : ObjectLine) → i < length lines → line ≡ get_or lines i line → fault_at lines i ≡ line_fault (take i lines) (i + 1) line
 fault_at-there lines i line lt there = ap (line_fault_at lines i) (line_there lines i line lt there)
+
+-- a line whose names can be none is faulty
+pub bad_name : (lines : List ObjectLine) (i : ℕ) (line : ObjectLine) → i < length lines → line ≡ get_or lines i line → is_named line ≡ false → fault_at lines i ≡ Some (BadName (i + 1))
+bad_name lines i line lt there bad = fault_at-there lines i line lt there ∙ rw bad refl
 
 pub length-before : (lines : List ObjectLine) (i : ℕ) → i < length lines → length (take i lines) ≡ i
 length-before lines i lt = omega (arith, length-take i lines)

@@ -1,5 +1,5 @@
 -- What the faults of single lines are for all lines.
-use Rattle.std.proofs.Common.{◌≡◌, ℕ, ◌<◌, ◌≤◌, List, length, take, None, subst, ap, ◌∙◌, arith, inl, inr}
+use Rattle.std.proofs.Common.{◌≡◌, ◌≢◌, ℕ, ◌+◌, ◌<◌, ◌≤◌, List, length, take, None, refl, subst, ap, ◌∙◌, arith, inl, inr}
 use Rattle.std.specs.Prelude.{Err}
 use Rattle.std.proofs.lemmas.Bool.{cases_lt}
 use Rattle.std.proofs.lemmas.Option.{slice_get_past}
@@ -9,7 +9,7 @@ use Rattle.gate_table.specs.declared.table.TableFault.{TableFault}
 use Rattle.gate_table.specs.declared.table.TableFault.TheVariants as faults
 use Rattle.gate_table.specs.declared.table_builder.TableBuilder.{TableBuilder}
 use Rattle.gate_table.specs.inner.Keys.{IsIndex}
-use Rattle.gate_table.specs.Faults.{line_fault_at, fault_at, IsFaultOf}
+use Rattle.gate_table.specs.Faults.{line_fault_at, fault_at, IsFaultOf, IsFaultless}
 use Rattle.gate_table.specs.inner.TableBuilder.{TracksLines, AddsOrRefuses}
 
 -- none of the lines before an index is faulty
@@ -28,13 +28,25 @@ first_fault lines i (faults.DuplicateHost n) builder few before is = inr (record
 first_fault lines i (faults.DuplicateService n) builder few before is = inr (record { index = i; few = few; here = is; first = before })
 first_fault lines i (faults.TooMany n) builder few before is = inr (record { index = i; few = few; here = is; first = before })
 
+-- a line's fault is no fault of a table
+pub faulty : (lines : List ObjectLine) (i : ℕ) (fault : TableFault) (builder : TableBuilder) → AddsOrRefuses lines i (Err fault) builder → fault ≢ faults.OutOfMemory → IsFaultless lines → ⊥
+faulty lines i faults.OutOfMemory builder is other faultless = other refl
+faulty lines i fault builder is other faultless = let none = faultless.each i in cc
+
+-- a line without a fault after lines without one
+pub faultless_next : (lines : List ObjectLine) (i : ℕ) → FaultlessBelow lines i → fault_at lines i ≡ None → FaultlessBelow lines (i + 1)
+faultless_next lines i before here j lt = elim (cases_lt j i) [ inl less ↦ before j less | inr ge ↦ let same : j ≡ i = omega (arith, lt, ge) in ap (fault_at lines) same ∙ here ]
+
+-- past the last line all lines are tracked
+pub tracks_all : (lines : List ObjectLine) (i : ℕ) (builder : TableBuilder) → length lines ≤ i → TracksLines (take i lines) builder → TracksLines lines builder
+tracks_all lines i builder le tracks = subst (λ (ls : List ObjectLine). TracksLines ls builder) (take_all i lines le) tracks
+
 no_fault_past : (lines : List ObjectLine) (i : ℕ) → length lines ≤ i → fault_at lines i ≡ None
 no_fault_past lines i le = ap (line_fault_at lines i) (slice_get_past lines i le)
 
 pub index_of_all : (lines : List ObjectLine) (i : ℕ) (builder : TableBuilder) → length lines ≤ 16384 → length lines ≤ i → FaultlessBelow lines i → TracksLines (take i lines) builder → IsIndex lines builder.keys
 index_of_all lines i builder few le before tracks =
-    let all : take i lines ≡ lines = take_all i lines le in
-    let known : TracksLines lines builder = subst (λ (ls : List ObjectLine). TracksLines ls builder) all tracks in
+    let known = tracks_all lines i builder le tracks in
     record {
       keys_are = known.keys_are;
       short = known.short;

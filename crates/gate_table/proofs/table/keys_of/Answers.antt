@@ -1,5 +1,5 @@
-use Rattle.std.proofs.Common.{arith}
-use Rattle.gate_table.proofs.Faults.{first_fault, index_of_all}
+use Rattle.std.proofs.Common.{arith, refl, inl}
+use Rattle.gate_table.proofs.Faults.{first_fault, faulty, faultless_next, tracks_all, index_of_all}
 use Rattle.gate_table.proofs.table.keys_of.Goals as goal
 
 pub returns-in-Err-clause-fault : goal.returns-in-Err-clause-fault
@@ -8,3 +8,18 @@ returns-in-Err-clause-fault c = first_fault c.args.lines.now c.loop-i.i c.in-Err
 pub returns-clause-index : goal.returns-clause-index
 returns-clause-index c =
     rw c.into_keys.ensures (index_of_all c.args.lines.now c.loop-i.i c.loop-i.builder c.if-lines-gt-LINES.false (omega arith) c.loop-i.invariant.1 c.loop-i.invariant.0)
+
+pub returns-then-lines-gt-LINES-clause-fault : goal.returns-then-lines-gt-LINES-clause-fault
+returns-then-lines-gt-LINES-clause-fault c = inl (record { many = c.if-lines-gt-LINES.true; line_0 = refl })
+
+pub returns-then-lines-gt-LINES-clause-faulty : goal.returns-then-lines-gt-LINES-clause-faulty
+returns-then-lines-gt-LINES-clause-faulty c other faultless = omega (arith, c.if-lines-gt-LINES.true, faultless.few)
+
+pub returns-in-Err-clause-faulty : goal.returns-in-Err-clause-faulty
+returns-in-Err-clause-faulty c = faulty c.args.lines.now c.loop-i.i c.in-Err.fault c.add_line.new.self c.in-Err.ensures
+
+pub loop-i-preserved : goal.loop-i-preserved
+loop-i-preserved c = (c.in_default.ensures.tracks, faultless_next c.args.lines.now c.loop-i.i c.loop-i.invariant.1 c.in_default.ensures.faultless)
+
+pub most_services-most-requires : goal.most_services-most-requires
+most_services-most-requires c = tracks_all c.args.lines.now c.loop-i.i c.loop-i.builder (omega arith) c.loop-i.invariant.0
