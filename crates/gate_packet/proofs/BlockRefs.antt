@@ -1,5 +1,5 @@
 -- What is known of a whole block where it stands.
-use Rattle.std.proofs.Common.{◌≡◌, ℕ, ◌+◌, ◌-◌, ◌<◌, ◌≤◌, Bool, true, false, cond, eqb, not, ◌&&◌, inl, subst, length-append, Some, None, List, ◌++◌, length, take, drop, refl, sym, ap, ◌∙◌, append_assoc, arith}
+use Rattle.std.proofs.Common.{◌≡◌, ℕ, ◌-◌, ◌<◌, ◌≤◌, Bool, true, false, cond, eqb, not, ◌&&◌, inl, Some, None, List, ◌++◌, length, take, drop, refl, sym, ap, ◌∙◌, append_assoc, arith}
 use Rattle.std.specs.Prelude.{nat_le}
 use Rattle.std.proofs.lemmas.List.{take-take, take_all, take-append-le, take-append-drop, drop-append-le, length-take-le}
 use Rattle.std.proofs.lemmas.Slice.{between_to_end}
@@ -13,7 +13,7 @@ use Rattle.gate_packet.specs.Decoding.{is_sound}
 use Rattle.gate_packet.proofs.CheckWordBlocks.{after_bytes-append}
 use Rattle.gate_packet.specs.Stream.{begins_short, Begins, IsRest}
 use Rattle.gate_packet.specs.inner.BlockRefs.{integrity_fault, IsBlockRef}
-use Rattle.gate_packet.proofs.Cuts.{rest_of_few, enough_decide, long_begins, begins_drop, size_at_most}
+use Rattle.gate_packet.proofs.Cuts.{rest_of_few, enough_decide, long_begins, size_at_most}
 
 complement : (bytes : List ℕ) (word : ℕ) → word ≡ after_bytes 0xFFFFFFFF (without_check_word bytes) → 0xFFFFFFFF - word ≡ check_word (without_check_word bytes)
 unfolding check_word
@@ -49,6 +49,11 @@ faultless_sound false word e = absurd cc
 -- bytes whose version and check word have no fault are sound, and no others
 pub faultless_sound_bytes : (bytes : List ℕ) → integrity_fault bytes ≡ None → is_sound bytes ≡ true
 faultless_sound_bytes bytes e = faultless_sound _ _ e
+
+faulty_unsound : (version word : Bool) (fault : PacketFault) → cond (not version) (Some BadVersion) (cond (not word) (Some BadCheckWord) None) ≡ Some fault → (version && word) ≡ false
+faulty_unsound true true fault e = absurd cc
+faulty_unsound true false fault e = refl
+faulty_unsound false word fault e = refl
 
 -- the word of 4304 bytes, from that of the first 720
 pub word_of_long : (bytes long : List ℕ) (word result : ℕ) → long ≡ take 4304 bytes → length long ≡ 4304 → word ≡ after_bytes 0xFFFFFFFF (without_check_word (take 720 bytes)) → result ≡ after_bytes word (take (length long - 720) (drop 720 long)) → result ≡ after_bytes 0xFFFFFFFF (without_check_word long)
@@ -88,6 +93,10 @@ unread_begins bytes long more other = long_begins bytes long more (unread_long b
 -- 720 bytes without a fault are a short block
 pub short_found : (bytes short : List ℕ) → short ≡ take 720 bytes → 720 ≤ length bytes → integrity_fault short ≡ None → begins_short bytes ≡ true
 short_found bytes short same enough none = enough_decide bytes enough ∙ ap is_sound (sym same) ∙ faultless_sound_bytes short none
+
+-- 720 bytes with a fault are none
+pub long_found : (bytes short : List ℕ) (fault : PacketFault) → short ≡ take 720 bytes → 720 ≤ length bytes → integrity_fault short ≡ Some fault → begins_short bytes ≡ false
+long_found bytes short fault same enough found = enough_decide bytes enough ∙ ap is_sound (sym same) ∙ faulty_unsound _ _ fault found
 
 -- ---- copies
 

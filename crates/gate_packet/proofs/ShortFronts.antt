@@ -1,12 +1,12 @@
 -- Packets at the front of a stream: those of 720 bytes, and those of 4304 that begin with one.
-use Rattle.std.proofs.Common.{◌≡◌, ℕ, zero, suc, ◌+◌, ◌-◌, ◌≤◌, Bool, true, false, cond, not, ◌&&◌, List, [], ◌∷◌, length, take, drop, inl, inr, refl, sym, ap, ◌∙◌, arith}
+use Rattle.std.proofs.Common.{◌≡◌, ℕ, zero, suc, ◌+◌, ◌-◌, ◌≤◌, Bool, true, false, cond, not, ◌&&◌, List, [], ◌∷◌, length, take, drop, inr, refl, sym, ap, ◌∙◌, arith}
 use Rattle.std.specs.List.{prefix_len, before_first}
 use Rattle.std.specs.Int.{w16, cast_signed}
 use Rattle.std.proofs.lemmas.Bool.{eqb-true, eq-eqb}
 use Rattle.std.proofs.lemmas.List.{take-take, take_all, drop-take, drop_all, length-take-le}
 use Rattle.std.specs.Prelude.{◌==◌}
 use Rattle.byteorder.specs.Endian.{big_number}
-use Rattle.gate_packet.specs.Layout.{slice_of, text_at, output_size, IsPacketSize, plugin_output}
+use Rattle.gate_packet.specs.Layout.{slice_of, text_at, output_size, plugin_output}
 use Rattle.gate_packet.specs.Packet.{Content}
 use Rattle.gate_packet.specs.Decoding.{IsPacket, is_sound}
 use Rattle.gate_packet.specs.Stream.{begins_short, Begins, IsReadAsShort}

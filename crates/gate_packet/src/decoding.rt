@@ -14,27 +14,37 @@ use crate::packet::{
 use byteorder::{BigEndian, ByteOrder};
 use gate_model::{Moment, Text};
 use std::alloc::{AllocError, Global};
-use thiserror::Error;
+use std::error::Error;
+use std::fmt;
 
 /// Why bytes are not read as a packet. The first that applies is reported, in this order.
-#[derive(Clone, Copy, Debug, Error, PartialEq)]
+#[derive(Clone, Copy, Debug, PartialEq)]
 pub enum PacketFault {
     /// The version is not 3.
-    #[error("the packet's version is not 3")]
     BadVersion,
     /// The check word is not that of the bytes.
-    #[error("the check word is not that of the packet's bytes")]
     BadCheckWord,
     /// The packet is older than the greatest age.
-    #[error("the packet is older than the greatest age")]
     Stale,
     /// The packet names no host.
-    #[error("the packet names no host")]
     EmptyHost,
     /// The bytes have no fault, but no memory is left for the texts.
-    #[error("out of memory")]
     OutOfMemory,
 }
+
+impl fmt::Display for PacketFault {
+    fn fmt<W: fmt::Write>(&self, f: &mut fmt::Formatter<W>) -> fmt::Result {
+        f.write_str(match self {
+            PacketFault::BadVersion => "the packet's version is not 3",
+            PacketFault::BadCheckWord => "the check word is not that of the packet's bytes",
+            PacketFault::Stale => "the packet is older than the greatest age",
+            PacketFault::EmptyHost => "the packet names no host",
+            PacketFault::OutOfMemory => "out of memory",
+        })
+    }
+}
+
+impl Error for PacketFault {}
 
 pub(crate) fn u16_at(bytes: &[u8], offset: usize) -> u16
     requires { offset + 2 ≤ length bytes.now }
