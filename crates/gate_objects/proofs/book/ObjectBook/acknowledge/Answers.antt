@@ -34,3 +34,18 @@ returns-clause-ok c =
     (sym c.if-not-is_problem.false ∙ c.is_problem.ensures
     ∙ ap is_problem (c.state.ensures ∙ ap state_left_by
     (sym (ap last_of_status (status_at c.self.inside.statuses.items c.args.object.place c.index-status.result.now (rw (← c.self.view_is) at c.requires) c.index-status.ensures)))))
+
+pub returns-then-not-is_problem-clause-accepted : goal.returns-then-not-is_problem-clause-accepted
+returns-then-not-is_problem-clause-accepted c =
+    rw (← c.self.view_is)
+    (λ history stands. sym c.if-not-is_problem.true ∙ c.is_problem.ensures
+    ∙ ap is_problem (c.state.ensures ∙ ap state_left_by
+    (last_of_read c.self.inside.opening c.self.inside.statuses.items c.args.object.place c.index-status.result.now history
+    (rw (← c.self.view_is) at c.requires) c.index-status.ensures stands)))
+
+pub returns-then-not-is_problem-clause-ok : goal.returns-then-not-is_problem-clause-ok
+returns-then-not-is_problem-clause-ok c =
+    rw (← c.self.view_is)
+    (sym c.if-not-is_problem.true ∙ c.is_problem.ensures
+    ∙ ap is_problem (c.state.ensures ∙ ap state_left_by
+    (sym (ap last_of_status (status_at c.self.inside.statuses.items c.args.object.place c.index-status.result.now (rw (← c.self.view_is) at c.requires) c.index-status.ensures)))))

@@ -32,3 +32,18 @@ returns-clause-ok c =
     (sym (c.is_none.ensures ∙ ap not c.if-is_none.false)
     ∙ ap is_some
     (sym (ap acknowledgement_of_status (status_at c.self.inside.statuses.items c.args.object.place c.index.result.now (rw (← c.self.view_is) at c.requires) c.index.ensures))))
+
+pub returns-then-is_none-clause-accepted : goal.returns-then-is_none-clause-accepted
+returns-then-is_none-clause-accepted c =
+    rw (← c.self.view_is)
+    (λ history stands. sym (c.is_none.ensures ∙ ap not c.if-is_none.true)
+    ∙ ap is_some
+    (acknowledgement_of_read c.self.inside.opening c.self.inside.statuses.items c.args.object.place c.index.result.now history
+    (rw (← c.self.view_is) at c.requires) c.index.ensures stands))
+
+pub returns-then-is_none-clause-ok : goal.returns-then-is_none-clause-ok
+returns-then-is_none-clause-ok c =
+    rw (← c.self.view_is)
+    (sym (c.is_none.ensures ∙ ap not c.if-is_none.true)
+    ∙ ap is_some
+    (sym (ap acknowledgement_of_status (status_at c.self.inside.statuses.items c.args.object.place c.index.result.now (rw (← c.self.view_is) at c.requires) c.index.ensures))))
