@@ -12,7 +12,7 @@ use Rattle.std.proofs.lemmas.List.Elements.{All-set, All-cons, All-push, Contain
 use Rattle.std.proofs.lemmas.List.Sorted.{Contains-permutation, All-permutation}
 use Rattle.std.proofs.Math.Seq.{map-set_same}
 use Rattle.gate_downtime.specs.declared.row.Row.{Row}
-use Rattle.gate_downtime.specs.inner.Rows.{active_at, with_active, here, Counted, Wakes, Deadlines, Sound, SameButMarks, deadline_cmp, Nearly, Adds, Follows, Local}
+use Rattle.gate_downtime.specs.inner.Rows.{active_at, with_active, here, Counted, CanCount, Fits, Wakes, Deadlines, Sound, SameButMarks, deadline_cmp, Nearly, Adds, Follows, Local}
 
 pub adds-push : (k m : ℕ) (old new : Deadlines) → KeepsHeap deadline_cmp old new → IsPermutation (record { 0 = (m, k) } ∷ old) new → Adds k old new
 adds-push k m old new heap perm = record {
@@ -38,6 +38,16 @@ counted-push : (rows : List Row) (depths : List ℕ) (r : Row) → r.active ≡ 
 counted-push rows depths r off counted p lt =
     let none : cond (here p r) 1 0 ≡ 0 = ap (λ b. cond (eqb r.entry.scheduled.object.place p && b) 1 0) off ∙ and-false (eqb r.entry.scheduled.object.place p) in
     omega (arith, counted p lt, none, sum_by_push (λ x. cond (here p x) 1 0) rows r)
+
+-- the counters can count one more row, which isn't marked
+pub counters-push : (rows pushed : List Row) (depths : List ℕ) (deadlines : Deadlines) (r : Row) → pushed ≡ rows ++ r ∷ [] → r.active ≡ false → r.entry.scheduled.object.place < length depths → length rows + 1 < 2 ^ 32 → Fits rows depths deadlines → CanCount pushed depths
+counters-push rows pushed depths deadlines r is off placed few fits =
+    let P : List Row → Type 0 = λ xs. CanCount xs depths in
+    subst P (sym is) (record {
+      counted = counted-push rows depths r off fits.counted;
+      placed = All-push (λ (r : Row). r.entry.scheduled.object.place < length depths) rows r fits.placed placed;
+      few = omega (arith, length_push rows r, few);
+    })
 
 -- an element of a list with one more at its end
 pub push-cases : (rows : List Row) (r : Row) (P : ℕ → Row → Type 0) → ((k : ℕ) (d : Row) → k < length rows → P k (get_or rows k d)) → P (length rows) r

@@ -17,7 +17,7 @@ use Rattle.gate_downtime.specs.declared.gone.Gone.{Gone}
 use Rattle.gate_downtime.specs.inner.Rows.{live_at, with_active, Deadlines, IsDue, Sound, deadline_cmp}
 use Rattle.gate_downtime.proofs.Fresh.{set-cases}
 use Rattle.gate_downtime.proofs.Settling.{not-first}
-use Rattle.gate_downtime.specs.inner.Gone.{gone_cmp, Listed, is_free, is_returned, IsKept, Awaits, AllGone, GoneOrDue, Lists, SameGone, Pops, Returns, AllPassed, TakesGone}
+use Rattle.gate_downtime.specs.inner.Gone.{gone_cmp, Listed, is_free, is_returned, IsKept, FitsMarks, Awaits, AllGone, GoneOrDue, Lists, SameGone, Pops, Returns, AllPassed, TakesGone}
 use Rattle.std.specs.Global.{Vec}
 use Rattle.gate_downtime.specs.declared.tally.Tally.{Tally}
 use Rattle.gate_downtime.specs.inner.Tally.{KeepsSize, AddsForSettled}
@@ -167,6 +167,13 @@ kept-more n marks listed k = record {
   where
     off : ◌≡◌ {A = Bool} false true → ⊥
     off e = cc
+
+pub fits-more : (n : ℕ) (old new : Gone) → new.marks.items ≡ old.marks.items ++ some-mark ∷ [] → new.heap ≡ old.heap → IsKept n old.marks.items (heap_items old.heap) → FitsMarks new
+fits-more n old new marks heap kept =
+    let P : List Mark → Type 0 = λ ms. IsKept (length ms) ms (heap_items new.heap) in
+    let Q : ℕ → Type 0 = λ len. IsKept len (old.marks.items ++ some-mark ∷ []) (heap_items new.heap) in
+    let R : Listed → Type 0 = λ xs. IsKept (n + 1) (old.marks.items ++ some-mark ∷ []) xs in
+    subst P (sym marks) (subst Q (sym (length_push old.marks.items some-mark ∙ ap (λ n. n + 1) kept.len)) (subst R (sym (ap (λ h. heap_items h) heap)) (kept-more n _ _ kept)))
 
 pub free-more : (marks : List Mark) → count_by is_free (marks ++ some-mark ∷ []) ≡ count_by is_free marks + 1
 free-more marks = sum_by_push (λ x. cond (is_free x) 1 0) marks some-mark
