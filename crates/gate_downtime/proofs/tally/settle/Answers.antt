@@ -1,5 +1,7 @@
-use Rattle.std.proofs.Common.{◌≡◌, ◌∙◌, ◌&&◌, not, ap, subst, get_or, length, arith}
+use Rattle.std.proofs.Common.{◌≡◌, ◌∙◌, ◌&&◌, ℕ, not, ap, sym, subst, get_or, length, arith}
+use Rattle.std.specs.BinaryHeap.{heap_items}
 use Rattle.gate_downtime.specs.declared.row.Row.{Row}
+use Rattle.gate_downtime.specs.inner.Gone.{IsKept}
 use Rattle.gate_downtime.specs.inner.Live.{Notes}
 use Rattle.gate_downtime.specs.inner.Rows.{active_at, live_at}
 use Rattle.gate_downtime.proofs.Settling.{due-within, settling-more}
@@ -13,8 +15,23 @@ row_at-row-requires c = omega (arith, ap length c.deref.ensures.value, due-withi
 pub mark_row-requires-clause-within : goal.mark_row-requires-clause-within
 mark_row-requires-clause-within c = due-within _ _ _ _ _ _ _ _ c.due.invariant.settling c.in-Some.ensures.some.2
 
+pub mark_row-requires-clause-counters : goal.mark_row-requires-clause-counters
+mark_row-requires-clause-counters c = record {
+  counted = c.due.invariant.settling.fits.counted;
+  placed = c.due.invariant.settling.fits.placed;
+  few = c.due.invariant.settling.fits.few;
+}
+
 pub list_gone-requires-clause-within : goal.list_gone-requires-clause-within
 list_gone-requires-clause-within c = omega (arith, c.due.invariant.gone.kept.len, due-within _ _ _ _ _ _ _ _ c.due.invariant.settling c.in-Some.ensures.some.2)
+
+pub list_gone-requires-clause-room : goal.list_gone-requires-clause-room
+list_gone-requires-clause-room c = omega (arith, c.due.invariant.gone.few, c.due.invariant.gone.room)
+
+pub list_gone-requires-clause-kept : goal.list_gone-requires-clause-kept
+list_gone-requires-clause-kept c =
+    let P : ℕ → Type 0 = λ n. IsKept n c.due.tally.gone.marks.items (heap_items c.due.tally.gone.heap) in
+    subst P (sym c.due.invariant.gone.kept.len) c.due.invariant.gone.kept
 
 pub due-preserved : goal.due-preserved
 due-preserved c =
