@@ -1,4 +1,5 @@
-use Rattle.std.proofs.Common.{◌<◌, ℕ, List, ap, sym, subst, length, arith}
+use Rattle.std.proofs.Common.{◌≡◌, ◌<◌, ℕ, List, [], ap, sym, subst, length, arith}
+use Rattle.std.proofs.lemmas.List.{nil_from_length}
 use Rattle.gate_downtime.specs.inner.Chains.{Walks, Keeps, left_of}
 use Rattle.gate_downtime.proofs.StackSteps.{walks-trans, keep-trans}
 use Rattle.gate_downtime.proofs.chains.Chains.walk.Goals as goal
@@ -36,3 +37,9 @@ pub pending-smaller : goal.pending-smaller
 pending-smaller c =
     let P : List ℕ → Type 0 = λ before. left_of c.args.change c.visit.new.self c.visit.new.self.pending.items < left_of c.args.change c.pending.self before in
     subst P (sym c.in-Some.ensures.items) c.visit.ensures.less
+
+pub returns-clause-walks : goal.returns-clause-walks
+returns-clause-walks c =
+    let none : c.pending.self.pending.items ≡ [] = nil_from_length c.pending.self.pending.items (omega (arith, c.in_default.ensures.cases, c.pending.self.pending.ok.0)) in
+    let w : Walks c.args.change c.args.self.now c.args.self.now.pending.items c.pending.self [] = rw (← none) c.pending.invariant.walks in
+    record { entries = w.entries; begins = w.begins; deletes = w.deletes }
