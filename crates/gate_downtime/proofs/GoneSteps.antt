@@ -14,9 +14,9 @@ use Rattle.std.proofs.Math.Seq.{map-set_same}
 use Rattle.gate_downtime.specs.declared.row.Row.{Row}
 use Rattle.gate_downtime.specs.declared.gone.Mark.{Mark}
 use Rattle.gate_downtime.specs.declared.gone.Gone.{Gone}
-use Rattle.gate_downtime.specs.inner.Rows.{live_at, with_active, Deadlines, IsDue, Sound, deadline_cmp}
+use Rattle.gate_downtime.specs.inner.Rows.{live_at, with_active, Deadlines, Awake, IsDue, Sound, deadline_cmp}
 use Rattle.gate_downtime.proofs.Fresh.{set-cases}
-use Rattle.gate_downtime.proofs.Settling.{not-first}
+use Rattle.gate_downtime.proofs.Settling.{not-first, live-or-due, never-due}
 use Rattle.gate_downtime.specs.inner.Gone.{gone_cmp, Listed, is_free, is_returned, IsKept, FitsMarks, Awaits, AllGone, GoneOrDue, Lists, SameGone, Pops, Returns, AllPassed, TakesGone}
 use Rattle.std.specs.Global.{Vec}
 use Rattle.gate_downtime.specs.declared.tally.Tally.{Tally}
@@ -91,6 +91,9 @@ lists-one at live old new m in' is off fresh perm heap len cap long mcap = recor
 
 -- ---- rows and their list
 
+pub gone-same : (a : Gone) → SameGone a a
+gone-same a = record { same = refl; capacity = omega arith; marks_len = refl; marks_capacity = omega arith }
+
 pub gone-trans : (a b c : Gone) → SameGone a b → SameGone b c → SameGone a c
 gone-trans a b c x y = record { same = y.same ∙ x.same; capacity = omega (arith, x.capacity, y.capacity); marks_len = y.marks_len ∙ x.marks_len; marks_capacity = omega (arith, x.marks_capacity, y.marks_capacity) }
 
@@ -151,6 +154,29 @@ gone-step now m k d a live rows rows' deadlines deadlines' old new in' perm is d
           ])
           (inl (awaits-listed now k live v old new (omega (arith, in', s.kept.len)) lists dead));
     })
+
+-- on the way to a later moment
+pub gone-start : (t now : ℕ) (rows : List Row) (deadlines : Deadlines) (gone : Gone) → t ≤ now → Awake t rows deadlines → AllGone t rows gone → GoneOrDue now rows deadlines gone
+gone-start t now rows deadlines gone le awake s = record {
+  kept = s.kept;
+  few = s.few;
+  room = s.room;
+  awaits = λ k d lt. elim (live-or-due t now rows deadlines k d le awake lt) [
+    | inl same ↦ inl (λ off fresh. s.awaits k d lt (same ∙ off) fresh)
+    | inr due ↦ inr due
+  ];
+}
+
+pub gone-end : (now : ℕ) (rows : List Row) (deadlines : Deadlines) (gone : Gone) → GoneOrDue now rows deadlines gone → All (λ (x : Reverse (ℕ × ℕ)). now < x.0.0) deadlines → AllGone now rows gone
+gone-end now rows deadlines gone s none = record {
+  kept = s.kept;
+  few = s.few;
+  room = s.room;
+  awaits = λ k d lt. elim (s.awaits k d lt) [
+    | inl w ↦ w
+    | inr due ↦ absurd (never-due now deadlines k none due)
+  ];
+}
 
 -- one more row
 pub kept-more : (n : ℕ) (marks : List Mark) (listed : Listed) → IsKept n marks listed → IsKept (n + 1) (marks ++ some-mark ∷ []) listed

@@ -1,6 +1,6 @@
 -- The rows that a call has ended are noted, and their ids removed.
-use Rattle.std.proofs.Common.{◌≡◌, ◌≢◌, ℕ, zero, suc, ◌+◌, ◌-◌, ◌<◌, Bool, true, false, not, ◌&&◌, List, [], ◌∷◌, ◌++◌, get_or, set, length, refl, sym, ap, ◌∙◌, subst, arith, ◌⊎◌, inl, inr}
-use Rattle.std.specs.Prelude.{Contains, filter}
+use Rattle.std.proofs.Common.{◌≡◌, ◌≢◌, ℕ, zero, suc, ◌+◌, ◌-◌, ◌<◌, ◌≤◌, Bool, true, false, not, ◌&&◌, List, [], ◌∷◌, ◌++◌, get_or, set, length, refl, sym, ap, ◌∙◌, subst, arith, ◌⊎◌, inl, inr}
+use Rattle.std.specs.Prelude.{All, Contains, filter}
 use Rattle.std.specs.List.Sorted.{IsPermutation}
 use Rattle.std.specs.declared.cmp.Reverse.{Reverse}
 use Rattle.std.proofs.lemmas.Bool.{true≢false}
@@ -9,10 +9,10 @@ use Rattle.std.proofs.lemmas.List.Elements.{Contains-append_cases}
 use Rattle.std.proofs.lemmas.List.Sorted.{Contains-permutation}
 use Rattle.gate_downtime.specs.declared.row.Row.{Row}
 use Rattle.gate_downtime.specs.declared.live.LiveIds.{LiveIds}
-use Rattle.gate_downtime.specs.inner.Rows.{live_at, is_live_row, some-row, with_active, Deadlines, IsDue}
+use Rattle.gate_downtime.specs.inner.Rows.{live_at, is_live_row, some-row, with_active, Deadlines, Awake, IsDue}
 use Rattle.gate_downtime.specs.inner.Live.{IsNoted, Notes, IsRowNoted, AllNoted, NotedOrDue, AreNoted, IsFresh, live_ids}
 use Rattle.gate_downtime.proofs.Fresh.{set-cases}
-use Rattle.gate_downtime.proofs.Settling.{not-first}
+use Rattle.gate_downtime.proofs.Settling.{not-first, live-or-due, never-due}
 use Rattle.gate_downtime.proofs.IdSteps.{filter-all, live-of, live-in, live-id}
 
 -- ---- removing
@@ -71,6 +71,18 @@ noted-write t at d v ended rows rows' old new in' is same end notes noted =
         notes.keeps v.entry.scheduled.id (subst S (sym same) (noted at d in' gone (subst R same (subst Q (ap (λ ids. ids.items) notes.ids) has))))
 
 -- ---- on the way to a later moment
+
+pub noted-start : (t now : ℕ) (rows : List Row) (deadlines : Deadlines) (live : LiveIds) → t ≤ now → Awake t rows deadlines → AllNoted t rows live → NotedOrDue now rows deadlines live
+noted-start t now rows deadlines live le awake noted k d lt = elim (live-or-due t now rows deadlines k d le awake lt) [
+  | inl same ↦ inl (λ off has. noted k d lt (same ∙ off) has)
+  | inr due ↦ inr due
+]
+
+pub noted-end : (now : ℕ) (rows : List Row) (deadlines : Deadlines) (live : LiveIds) → NotedOrDue now rows deadlines live → All (λ (x : Reverse (ℕ × ℕ)). now < x.0.0) deadlines → AllNoted now rows live
+noted-end now rows deadlines live noted none k d lt = elim (noted k d lt) [
+  | inl w ↦ w
+  | inr due ↦ absurd (never-due now deadlines k none due)
+]
 
 pub noted-step : (now before m k : ℕ) (d : Row) (a ended : Bool) (rows rows' : List Row) (deadlines deadlines' : Deadlines) (old new : LiveIds) → k < length rows → IsPermutation deadlines (record { 0 = (m, k) } ∷ deadlines')
     → ((e : Row) → rows' ≡ set rows k (with_active a (get_or rows k e))) → ended ≡ (live_at before (get_or rows k d) && not (live_at now (get_or rows k d))) → Notes (get_or rows k d).entry.scheduled.id ended old new

@@ -1,5 +1,5 @@
 -- The deadlines up to a moment are taken, in any order: each row is marked anew when one of its deadlines is met.
-use Rattle.std.proofs.Common.{◌≡◌, ℕ, zero, suc, ◌≤◌, ◌<◌, Bool, true, List, [], ◌∷◌, set, get_or, length, refl, sym, ap, ◌∙◌, subst, arith, ◌⊎◌, inl, inr, length-set, get_or-set_same, get_or-set_other}
+use Rattle.std.proofs.Common.{◌≡◌, ℕ, zero, suc, ◌≤◌, ◌<◌, Bool, true, not, ◌&&◌, List, [], ◌∷◌, set, get_or, length, refl, sym, ap, ◌∙◌, subst, arith, ◌⊎◌, inl, inr, length-set, get_or-set_same, get_or-set_other}
 use Rattle.std.specs.Prelude.{All, Contains}
 use Rattle.std.specs.List.Sorted.{IsPermutation}
 use Rattle.std.specs.BinaryHeap.{IsHeap}
@@ -9,7 +9,8 @@ use Rattle.std.proofs.lemmas.List.Elements.{All-set, All-head, All-tail, Contain
 use Rattle.std.proofs.lemmas.List.Sorted.{Contains-permutation, All-permutation}
 use Rattle.std.proofs.Math.Seq.{map-set_same}
 use Rattle.gate_downtime.specs.declared.row.Row.{Row}
-use Rattle.gate_downtime.specs.inner.Rows.{active_at, with_active, Counted, Wakes, Deadlines, IsDue, Settling, deadline_cmp}
+use Rattle.gate_downtime.specs.inner.Rows.{active_at, live_at, with_active, Counted, Wakes, Deadlines, Awake, Sound, IsDue, Settling, deadline_cmp}
+use Rattle.gate_downtime.proofs.Marks.{ltb-same, between, active-same}
 
 -- an element of a list that isn't its first is among the others
 pub not-first : (x : Reverse (ℕ × ℕ)) (xs : Deadlines) (y : Reverse (ℕ × ℕ)) → (x ≡ y → ⊥) → Contains (x ∷ xs) y → Contains xs y
@@ -96,3 +97,46 @@ pub settling-more : (now : ℕ) (first rows rows' : List Row) (depths depths' : 
 settling-more now first rows rows' depths depths' deadlines deadlines' m k d a s past perm heap mark is counted size =
     settling-step now first rows rows' depths depths' deadlines deadlines' m k d s past perm heap
     (is d ∙ ap (λ b. set rows k (with_active b (get_or rows k d))) mark) counted size (due-within now first rows depths deadlines deadlines' m k s perm)
+
+-- on the way to a later moment
+pub settling-start : (t now : ℕ) (rows : List Row) (depths : List ℕ) (deadlines : Deadlines) → t ≤ now → Sound t rows depths deadlines → Settling now rows rows depths deadlines
+settling-start t now rows depths deadlines le sound = record {
+  fits = sound.fits;
+  awake = λ k d lt. record {
+    end = λ before. (sound.awake k d lt).end (omega arith);
+    beginning = λ b is before. (sound.awake k d lt).beginning b is (omega arith);
+  };
+  pending = λ k d lt. elim (active-same t now (get_or rows k d) le) [
+    | inl turns ↦ inr (elim turns [
+      | inl end ↦ record { moment = (get_or rows k d).over; past = end.1; there = (sound.awake k d lt).end end.0 }
+      | inr begins ↦ record { moment = begins.0; past = begins.3; there = (sound.awake k d lt).beginning begins.0 begins.1 begins.2 }
+    ])
+    | inr same ↦ inl (sound.marked k d lt ∙ same)
+  ];
+  same = refl;
+}
+
+-- a row is as live as before, or it has a deadline on the way
+pub live-or-due : (t now : ℕ) (rows : List Row) (deadlines : Deadlines) (k : ℕ) (d : Row) → t ≤ now → Awake t rows deadlines → k < length rows
+    → (live_at t (get_or rows k d) ≡ live_at now (get_or rows k d)) ⊎ IsDue now deadlines k
+live-or-due t now rows deadlines k d le awake lt = elim (between t now (get_or rows k d).over) [
+  | inl h ↦ inr (record { moment = (get_or rows k d).over; past = h.1; there = (awake k d lt).end h.0 })
+  | inr h ↦ inl (ap (λ b. not (get_or rows k d).entry.deleted && b) (ltb-same t now (get_or rows k d).over le h))
+]
+
+-- no deadline is left on the way
+pub never-due : (now : ℕ) (deadlines : Deadlines) (k : ℕ) → All (λ (x : Reverse (ℕ × ℕ)). now < x.0.0) deadlines → IsDue now deadlines k → ⊥
+never-due now deadlines k none due =
+    let d : Reverse (ℕ × ℕ) = record { 0 = (due.moment, k) } in
+    omega (arith, none due.there.0 d due.there.1, ap (λ (x : Reverse (ℕ × ℕ)). x.0.0) due.there.2, due.past)
+
+pub settling-end : (now : ℕ) (first rows : List Row) (depths : List ℕ) (deadlines : Deadlines) → Settling now first rows depths deadlines
+    → All (λ (x : Reverse (ℕ × ℕ)). now < x.0.0) deadlines → Sound now rows depths deadlines
+settling-end now first rows depths deadlines s none = record {
+  fits = s.fits;
+  awake = s.awake;
+  marked = λ k d lt. elim (s.pending k d lt) [
+    | inl is ↦ is
+    | inr due ↦ absurd (never-due now deadlines k none due)
+  ];
+}

@@ -8,6 +8,9 @@ use Rattle.gate_downtime.proofs.NotedSteps.{noted-add}
 use Rattle.gate_downtime.proofs.Fresh.{counters-push, add-sound, added-rows}
 use Rattle.gate_downtime.proofs.scheduling.add_row.Goals as goal
 
+pub mark_row-requires-clause-within : goal.mark_row-requires-clause-within
+mark_row-requires-clause-within c = omega (arith, ap length c.push_within.ensures.items, length_push c.args.rows.now.items c.args.row, c.len-at.ensures, c.args.rows.now.ok.0)
+
 pub mark_row-requires-clause-counters : goal.mark_row-requires-clause-counters
 mark_row-requires-clause-counters c = counters-push _ _ _ _ c.args.row c.push_within.ensures.items c.requires.mark c.requires.object c.requires.few c.requires.sound.sound.fits
 

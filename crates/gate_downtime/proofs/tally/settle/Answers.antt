@@ -1,13 +1,30 @@
-use Rattle.std.proofs.Common.{◌≡◌, ◌∙◌, ◌&&◌, ℕ, not, ap, sym, subst, get_or, length, arith}
+use Rattle.std.proofs.Common.{◌≡◌, ◌∙◌, ◌&&◌, ℕ, not, refl, ap, sym, subst, get_or, length, arith}
 use Rattle.std.specs.BinaryHeap.{heap_items}
 use Rattle.gate_downtime.specs.declared.row.Row.{Row}
 use Rattle.gate_downtime.specs.inner.Gone.{IsKept}
 use Rattle.gate_downtime.specs.inner.Live.{Notes}
-use Rattle.gate_downtime.specs.inner.Rows.{active_at, live_at}
-use Rattle.gate_downtime.proofs.Settling.{due-within, settling-more}
-use Rattle.gate_downtime.proofs.GoneSteps.{gone-step, gone-lists, gone-trans}
-use Rattle.gate_downtime.proofs.NotedSteps.{noted-step, noted-mark}
+use Rattle.gate_downtime.specs.inner.Rows.{active_at, live_at, Deadlines, Sound}
+use Rattle.gate_downtime.proofs.Settling.{due-within, settling-start, settling-more, settling-end}
+use Rattle.gate_downtime.proofs.GoneSteps.{gone-start, gone-step, gone-end, gone-lists, gone-same, gone-trans}
+use Rattle.gate_downtime.proofs.NotedSteps.{noted-start, noted-step, noted-end, noted-mark}
 use Rattle.gate_downtime.proofs.tally.settle.Goals as goal
+
+pub due-init : goal.due-init
+due-init c =
+    let s = c.requires.sound in
+    record {
+      settling = settling-start _ _ _ _ _ c.requires.order s.sound;
+      gone = gone-start _ _ _ _ c.args.tally.now.gone c.requires.order s.sound.awake s.gone;
+      noted = noted-start _ _ _ _ c.args.tally.now.live c.requires.order s.sound.awake s.noted;
+      early = s.noted;
+      objects = refl;
+      gone_same = gone-same c.args.tally.now.gone;
+      ids_same = refl;
+      rows = refl;
+      rows_capacity = refl;
+      capacity = refl;
+      fewer = omega arith;
+    }
 
 pub row_at-row-requires : goal.row_at-row-requires
 row_at-row-requires c = omega (arith, ap length c.deref.ensures.value, due-within _ _ _ _ _ _ _ _ c.due.invariant.settling c.in-Some.ensures.some.2)
@@ -55,4 +72,13 @@ due-preserved c =
       rows_capacity = c.mark_row.ensures.size.capacity ∙ c.due.invariant.rows_capacity;
       capacity = omega (arith, c.in-Some.ensures.capacity, c.due.invariant.capacity);
       fewer = omega (arith, c.in-Some.ensures.fewer, c.due.invariant.fewer);
+    }
+
+pub returns-clause-sound : goal.returns-clause-sound
+returns-clause-sound c =
+    let P : Deadlines → Type 0 = λ deadlines. Sound c.args.now c.due.rows.items c.due.tally.depths.items deadlines in
+    record {
+      sound = subst P (sym c.in_default.ensures.none_same) (settling-end _ _ _ _ _ c.due.invariant.settling c.in_default.ensures.none);
+      gone = gone-end _ _ _ c.due.tally.gone c.due.invariant.gone c.in_default.ensures.none;
+      noted = noted-end _ _ _ c.due.tally.live c.due.invariant.noted c.in_default.ensures.none;
     }
