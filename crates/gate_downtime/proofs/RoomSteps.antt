@@ -1,17 +1,22 @@
 -- A book after more memory was taken: it keeps all that it keeps, and has more room.
-use Rattle.std.proofs.Common.{◌≡◌, ℕ, ◌≤◌, List, [], Option, get_or, inl, inr, length, sym, ap, ◌∙◌, subst, arith}
+use Rattle.std.proofs.Common.{◌≡◌, ℕ, ◌≤◌, ◌<◌, ◌^◌, List, [], get_or, inl, inr, length, sym, ap, ◌∙◌, subst, arith, vec_len}
 use Rattle.std.specs.Prelude.{count_by, Contains}
 use Rattle.std.specs.BinaryHeap.{heap_items, heap_len, heap_capacity}
+use Rattle.std.proofs.lemmas.List.Sums.{count_by-le-length}
 use Rattle.gate_downtime.specs.declared.row.Row.{Row}
 use Rattle.gate_downtime.specs.declared.links.Link.{Link}
 use Rattle.gate_downtime.specs.declared.gone.Mark.{Mark}
 use Rattle.gate_downtime.specs.declared.gone.Gone.{Gone}
 use Rattle.gate_downtime.specs.declared.live.LiveIds.{LiveIds}
 use Rattle.gate_downtime.specs.declared.tally.Tally.{Tally}
-use Rattle.gate_downtime.specs.inner.Rows.{Sound, Deadlines}
+use Rattle.gate_downtime.specs.declared.chains.Chains.{Chains}
+use Rattle.gate_downtime.specs.declared.book.DowntimeBook.TheInside.{Inside}
+use Rattle.gate_downtime.specs.inner.Rows.{Sound, Deadlines, is_unsettled}
 use Rattle.gate_downtime.specs.inner.Gone.{Listed, IsKept, Awaits, AllGone, is_free}
 use Rattle.gate_downtime.specs.inner.Live.{AllNoted}
-use Rattle.gate_downtime.specs.inner.Tally.{IsSound}
+use Rattle.gate_downtime.specs.inner.Tally.{IsSound, KeepsTally}
+use Rattle.gate_downtime.specs.inner.Chains.{KeepsRows, HasChainRoom}
+use Rattle.gate_downtime.specs.inner.Inside.{BookInvariant}
 use Rattle.gate_downtime.specs.inner.Links.{Spreading}
 use Rattle.gate_downtime.specs.inner.Walk.{AllFlexLinked}
 
@@ -39,29 +44,63 @@ noted-kept t rows old new ids ended many noted k d lt off has =
       | inr w ↦ inr (subst Q (sym (ap (λ v. v.items) ended)) w)
     ]
 
-pub sound-kept : (t : ℕ) (rows : List Row) (old new : Tally) → new.depths ≡ old.depths → heap_items new.deadlines ≡ heap_items old.deadlines → new.gone.marks.items ≡ old.gone.marks.items
-    → heap_items new.gone.heap ≡ heap_items old.gone.heap → heap_len new.gone.heap ≡ heap_len old.gone.heap → heap_capacity old.gone.heap ≤ heap_capacity new.gone.heap
-    → new.live.ids.items ≡ old.live.ids.items → new.live.ended ≡ old.live.ended → new.live.many ≡ old.live.many → IsSound t rows old → IsSound t rows new
-sound-kept t rows old new depths deadlines marks heap len room ids ended many s =
+sound-kept : (t : ℕ) (rows : List Row) (old new : Tally) → KeepsTally old new → IsSound t rows old → IsSound t rows new
+sound-kept t rows old new k s =
     let P : List ℕ → Type 0 = λ ds. Sound t rows ds (heap_items new.deadlines) in
     let Q : Deadlines → Type 0 = λ xs. Sound t rows old.depths.items xs in
     record {
-      sound = subst P (sym (ap (λ v. v.items) depths)) (subst Q (sym deadlines) s.sound);
-      gone = gone-kept t rows old.gone new.gone marks heap len room s.gone;
-      noted = noted-kept t rows old.live new.live ids ended many s.noted;
+      sound = subst P (sym (ap (λ v. v.items) k.depths)) (subst Q (sym k.deadlines.items) s.sound);
+      gone = gone-kept t rows old.gone new.gone k.marks.items k.heap.items k.heap.len k.heap.capacity s.gone;
+      noted = noted-kept t rows old.live new.live k.ids k.ended k.many s.noted;
     }
 
-pub spreading-kept : (first : ℕ) (rows rows' : List Row) (links links' : List Link) → rows' ≡ rows → links' ≡ links → Spreading first rows links [] → Spreading first rows' links' []
-spreading-kept first rows rows' links links' is same s =
-    let P : List Row → Type 0 = λ xs. Spreading first xs links' [] in
-    let Q : List Link → Type 0 = λ xs. Spreading first rows xs [] in
-    subst P (sym is) (subst Q (sym same) s)
+-- the book after its memory was taken, in whole or in part
+pub book-kept : (b : Inside) (chains : Chains) → KeepsRows b.chains chains → BookInvariant b → BookInvariant (record { chains = chains; heads = b.heads; room = b.room })
+book-kept b chains k s =
+    let t : ℕ = b.chains.moment.0 in
+    let P : List Row → Type 0 = λ xs. IsSound t xs chains.tally in
+    let Q : List Row → Type 0 = λ xs. Spreading b.chains.first xs chains.links.items [] in
+    let R : List Link → Type 0 = λ xs. Spreading b.chains.first b.chains.rows.items xs [] in
+    let S : List Row → Type 0 = λ xs. AllFlexLinked t xs chains.links.items b.heads.items in
+    let T : List Link → Type 0 = λ xs. AllFlexLinked t b.chains.rows.items xs b.heads.items in
+    record {
+      sound = rw k.moment (subst P (sym k.rows.items) (sound-kept t _ b.chains.tally chains.tally k.tally s.sound));
+      spreading = rw k.first (subst Q (sym k.rows.items) (subst R (sym k.links.items) s.spreading));
+      waiting = rw k.moment (subst S (sym k.rows.items) (subst T (sym k.links.items) s.waiting));
+      idle = k.pending.items ∙ s.idle;
+      objects = s.objects ∙ sym (ap vec_len k.tally.depths);
+      ids = omega (arith, s.ids, k.first, ap length k.rows.items);
+      small = s.small;
+      room_rows = omega (arith, s.room_rows, k.rows.len, k.rows.capacity);
+      room_links = omega (arith, s.room_links, k.links.len, k.links.capacity);
+      room_deadlines = omega (arith, s.room_deadlines, ap (count_by is_unsettled) k.rows.items, k.tally.deadlines.len, k.tally.deadlines.capacity);
+      room_pending = omega (arith, s.room_pending, k.rows.len, k.pending.capacity);
+      room_marks = omega (arith, s.room_marks, k.tally.marks.len, k.tally.marks.capacity);
+      live_is = rw (k.first, k.moment, k.rows.items) (k.tally.ids ∙ s.live_is);
+      live_idle = record { none = ap (λ v. v.items) k.tally.ended ∙ s.live_idle.none; few = k.tally.many ∙ s.live_idle.few };
+      room_live = omega (arith, s.room_live, k.tally.ids_room);
+      room_gone = omega (arith, s.room_gone, k.rows.len, k.tally.heap.capacity);
+    }
 
-pub waiting-kept : (t : ℕ) (rows rows' : List Row) (links links' : List Link) (heads : List (Option ℕ)) → rows' ≡ rows → links' ≡ links → AllFlexLinked t rows links heads → AllFlexLinked t rows' links' heads
-waiting-kept t rows rows' links links' heads is same s =
-    let P : List Row → Type 0 = λ xs. AllFlexLinked t xs links' heads in
-    let Q : List Link → Type 0 = λ xs. AllFlexLinked t rows xs heads in
-    subst P (sym is) (subst Q (sym same) s)
-
-pub sound-rows : (t : ℕ) (rows rows' : List Row) (tally : Tally) → rows' ≡ rows → IsSound t rows tally → IsSound t rows' tally
-sound-rows t rows rows' tally is s = let P : List Row → Type 0 = λ xs. IsSound t xs tally in subst P (sym is) s
+-- the book after the memory for so many more rows was taken
+pub book-roomier : (b : Inside) (chains : Chains) (room : ℕ) → KeepsRows b.chains chains → room < 2 ^ 32 → HasChainRoom room chains → BookInvariant b → BookInvariant (record { chains = chains; heads = b.heads; room = room })
+book-roomier b chains room k small has s =
+    let kept : BookInvariant (record { chains = chains; heads = b.heads; room = b.room }) = book-kept b chains k s in
+    record {
+      sound = kept.sound;
+      spreading = kept.spreading;
+      waiting = kept.waiting;
+      idle = kept.idle;
+      objects = kept.objects;
+      ids = kept.ids;
+      small = small;
+      room_rows = has.rows;
+      room_links = has.links;
+      room_deadlines = omega (arith, has.tally.deadlines, count_by-le-length is_unsettled chains.rows.items, chains.rows.ok.0);
+      room_pending = has.pending;
+      room_marks = has.tally.marks;
+      live_is = kept.live_is;
+      live_idle = kept.live_idle;
+      room_live = has.tally.ids;
+      room_gone = has.tally.heap;
+    }

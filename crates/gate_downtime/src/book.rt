@@ -83,14 +83,7 @@ impl DowntimeBook {
         ensures err { OnErr result (self.new ≡ self.old) }
     {
         let room = self.room.max(more as usize);
-        let rows = self.chains.rows.len();
-        self.chains.rows.reserve(room)?;
-        self.chains.links.reserve(room)?;
-        self.chains.tally.deadlines.reserve(2 * rows + 4 * room)?;
-        self.chains.tally.gone.marks.reserve(room)?;
-        self.chains.tally.gone.heap.reserve(rows + room)?;
-        self.chains.tally.live.ids.reserve(room)?;
-        self.chains.pending.reserve(rows + room)?;
+        self.chains.reserve(room)?;
         self.room = room;
         Ok(())
     }

@@ -1,11 +1,11 @@
-ghost use Rattle.std.specs.Prelude.{◌≡◌, ◌<◌, ◌≤◌, ◌+◌, ◌++◌, [], ◌∷◌, length, true, vec_len, vec_capacity, count_by, map, slice_index_or, slice_set, option_to_list, IfNone, IfSome};
+ghost use Rattle.std.specs.Prelude.{◌≡◌, ◌<◌, ◌≤◌, ◌+◌, ◌^◌, ◌++◌, [], ◌∷◌, length, true, vec_len, vec_capacity, count_by, map, slice_index_or, slice_set, option_to_list, IfNone, IfSome, OnOk};
 ghost use Rattle.gate_model.specs.Downtime.{is_chained, is_live_in};
 ghost use Rattle.gate_downtime.specs.Book.{after_deletion};
 ghost use Rattle.gate_downtime.specs.declared.row.Row.{Row};
 ghost use Rattle.gate_downtime.specs.inner.Rows.{active_at, with_active, row_entries, live_at, CanReplace};
 ghost use Rattle.gate_downtime.specs.inner.Cancel.{HasStruck};
 ghost use Rattle.gate_downtime.specs.declared.chains.Change.TheVariants.{Begin, Delete};
-ghost use Rattle.gate_downtime.specs.inner.Chains.{IsCurrent, IsReady, IsWalking, IsTriggered, IsPassed, IsChanged, Walks, Keeps, left_of};
+ghost use Rattle.gate_downtime.specs.inner.Chains.{IsCurrent, IsReady, IsWalking, IsTriggered, IsPassed, IsChanged, Walks, Keeps, left_of, KeepsRows, HasChainRoom};
 
 use crate::gone::list_gone;
 use crate::links::{Link, push_pending};
@@ -13,6 +13,7 @@ use crate::live::note_ended;
 use crate::row::{Row, deleted_row, has_ended, is_active_at, is_live_at, settled_row, write_row};
 use crate::tally::{Tally, mark_row, wake_settled};
 use gate_model::Moment;
+use std::alloc::AllocError;
 
 /// What a walk along the chains of triggers makes of the rows that it visits.
 #[derive(Clone, Copy)]
@@ -37,6 +38,21 @@ pub struct Chains {
 }
 
 impl Chains {
+    /// Takes the memory that this many more rows need.
+    pub fn reserve(&mut self, more: usize) -> Result<(), AllocError>
+        requires rows { vec_len self.old.rows ≤ 2 ^ 32 }
+        requires more { more < 2 ^ 32 }
+        ensures same { KeepsRows self.old self.new }
+        ensures room { OnOk result (HasChainRoom more self.new) }
+    {
+        let rows = self.rows.len();
+        self.rows.reserve(more)?;
+        self.links.reserve(more)?;
+        self.tally.reserve(rows, more)?;
+        self.pending.reserve(rows + more)?;
+        Ok(())
+    }
+
     /// The row at this index.
     pub fn row_at(&self, at: usize) -> Row
         requires { at < length self.now.rows.items }

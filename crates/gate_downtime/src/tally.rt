@@ -1,10 +1,10 @@
-ghost use Rattle.std.specs.Prelude.{◌≡◌, ◌<◌, ◌≤◌, ◌^◌, ◌+◌, ◌*◌, ℕ, [], ◌∷◌, length, vec_len, vec_capacity, All, Contains, IfNone, IfSome, IfOk, replicate, slice_index_or, slice_set};
+ghost use Rattle.std.specs.Prelude.{◌≡◌, ◌<◌, ◌≤◌, ◌^◌, ◌+◌, ◌*◌, ℕ, [], ◌∷◌, length, vec_len, vec_capacity, All, Contains, IfNone, IfSome, IfOk, replicate, slice_index_or, slice_set, OnOk};
 ghost use Rattle.std.specs.BinaryHeap.{heap_items, heap_len, heap_capacity, IsHeap};
 ghost use Rattle.std.specs.List.Sorted.{IsPermutation};
 ghost use Rattle.gate_downtime.specs.declared.row.Row.{Row};
 ghost use Rattle.gate_downtime.specs.inner.Rows.{active_at, with_active, Counted, CanCount, deadline_cmp, Sound, SameButMarks, AddsAt, Wakes, CanReplace, unsettled_one};
 ghost use Rattle.gate_downtime.specs.inner.Sizes.{SameSize};
-ghost use Rattle.gate_downtime.specs.inner.Tally.{IsSound, KeepsSize};
+ghost use Rattle.gate_downtime.specs.inner.Tally.{IsSound, KeepsSize, KeepsTally, HasRowRoom};
 ghost use Rattle.gate_downtime.specs.inner.Live.{IsIdle};
 
 use crate::gone::{Gone, list_gone, no_gone};
@@ -22,6 +22,22 @@ pub struct Tally {
     pub deadlines: BinaryHeap<Reverse<(u64, usize)>>,
     pub gone: Gone,
     pub live: LiveIds,
+}
+
+impl Tally {
+    /// Takes the memory that this many more rows need, beside this many.
+    pub fn reserve(&mut self, rows: usize, more: usize) -> Result<(), AllocError>
+        requires rows { rows ≤ 2 ^ 32 }
+        requires more { more < 2 ^ 32 }
+        ensures same { KeepsTally self.old self.new }
+        ensures room { OnOk result (HasRowRoom rows more self.new) }
+    {
+        self.deadlines.reserve(2 * rows + 4 * more)?;
+        self.gone.marks.reserve(more)?;
+        self.gone.heap.reserve(rows + more)?;
+        self.live.ids.reserve(more)?;
+        Ok(())
+    }
 }
 
 fn zeros(alloc: Global, count: usize) -> Result<Vec<u32>, AllocError>

@@ -6,7 +6,8 @@ use Rattle.gate_downtime.specs.declared.chains.Chains.{Chains}
 use Rattle.gate_downtime.specs.declared.chains.Change.{Change}
 use Rattle.gate_downtime.specs.declared.chains.Change.TheVariants.{Begin, Delete}
 use Rattle.gate_downtime.specs.inner.Rows.{is_unsettled, row_entries, live_at, with_active}
-use Rattle.gate_downtime.specs.inner.Tally.{IsSound, HasRoom, KeepsSize, AddsForSettled}
+use Rattle.gate_downtime.specs.inner.Tally.{IsSound, HasRoom, KeepsSize, AddsForSettled, KeepsTally, HasRowRoom}
+use Rattle.gate_downtime.specs.inner.Sizes.{KeepsItems}
 use Rattle.gate_downtime.specs.inner.Links.{trig, Linked, PlacedAt, FollowsAt, Spreading, load}
 use Rattle.gate_downtime.specs.inner.Cancel.{deleted_row, is_kept, Deletes}
 
@@ -97,3 +98,19 @@ pub record Walks (change : Change) (old : Chains) (before : List ℕ) (new : Cha
 abbrev pub left_of : Change → Chains → List ℕ → ℕ
 left_of change chains pending =
     count_by (is_open change) chains.rows.items * (length chains.rows.items + 1) + load pending
+
+-- the same rows and all beside them, and no memory is lost
+pub record KeepsRows (old new : Chains) : Type 0 where
+  pub rows : KeepsItems old.rows new.rows
+  pub links : KeepsItems old.links new.links
+  pub tally : KeepsTally old.tally new.tally
+  pub pending : KeepsItems old.pending new.pending
+  pub moment : new.moment ≡ old.moment
+  pub first : new.first ≡ old.first
+
+-- there is room for this many more rows, and for what they need
+pub record HasChainRoom (more : ℕ) (chains : Chains) : Type 0 where
+  pub rows : vec_len chains.rows + more ≤ vec_capacity chains.rows
+  pub links : vec_len chains.links + more ≤ vec_capacity chains.links
+  pub tally : HasRowRoom (vec_len chains.rows) more chains.tally
+  pub pending : vec_len chains.rows + more ≤ vec_capacity chains.pending

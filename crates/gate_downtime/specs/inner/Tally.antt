@@ -7,6 +7,7 @@ use Rattle.gate_downtime.specs.declared.tally.Tally.{Tally}
 use Rattle.gate_downtime.specs.inner.Rows.{Sound, is_unsettled}
 use Rattle.gate_downtime.specs.inner.Gone.{AllGone, SameGone}
 use Rattle.gate_downtime.specs.inner.Live.{AllNoted}
+use Rattle.gate_downtime.specs.inner.Sizes.{KeepsItems, KeepsHeapItems}
 
 -- counters, deadlines, marks and the lists of what is live and what no more are those of this moment
 pub record IsSound (now : ℕ) (rows : List Row) (tally : Tally) : Type 0 where
@@ -37,3 +38,21 @@ pub record AddsForSettled (rows rows' : List Row) (tally tally' : Tally) : Type 
       heap_len tally'.deadlines + 2 * count_by is_unsettled rows'
       ≤ heap_len tally.deadlines + 2 * count_by is_unsettled rows
   pub capacity : heap_capacity tally.deadlines ≤ heap_capacity tally'.deadlines
+
+-- the same tally, and no memory is lost
+pub record KeepsTally (old new : Tally) : Type 0 where
+  pub depths : new.depths ≡ old.depths
+  pub deadlines : KeepsHeapItems old.deadlines new.deadlines
+  pub marks : KeepsItems old.gone.marks new.gone.marks
+  pub heap : KeepsHeapItems old.gone.heap new.gone.heap
+  pub ids : new.live.ids.items ≡ old.live.ids.items
+  pub ids_room : old.live.ids.room ≤ new.live.ids.room
+  pub ended : new.live.ended ≡ old.live.ended
+  pub many : new.live.many ≡ old.live.many
+
+-- there is room for what this many more rows need, beside this many
+pub record HasRowRoom (rows more : ℕ) (tally : Tally) : Type 0 where
+  pub deadlines : heap_len tally.deadlines + (2 * rows + 4 * more) ≤ heap_capacity tally.deadlines
+  pub marks : vec_len tally.gone.marks + more ≤ vec_capacity tally.gone.marks
+  pub heap : rows + more ≤ heap_capacity tally.gone.heap
+  pub ids : more ≤ tally.live.ids.room
