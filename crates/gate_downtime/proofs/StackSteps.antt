@@ -175,17 +175,20 @@ walks-trans change a b c p q r x y = record {
   deletes = λ is rows id w. y.deletes is rows id (x.deletes is rows id w);
 }
 
+not-both : ◌≡◌ {A = Change} Begin Delete → ⊥
+not-both is = cc
+
 -- a row that the walk passes by
 pub walks-pass : (change : Change) (a : Chains) (pending next : List ℕ) (c : ℕ) (old : Row) (l : Link) → next ≡ pending ++ option_to_list (get_or a.links.items c l).sibling
     → IsStack a.first a.rows.items a.links.items (pending ++ c ∷ []) → ((d : Row) → old ≡ get_or a.rows.items c d) → IsPassed change a.moment.0 old → Walks change a (pending ++ c ∷ []) a next
 walks-pass Begin a pending next c old l is s row passed = record {
   entries = λ is. refl;
   begins = λ _ w. rw is (skip-step _ _ _ pending c old l w (stack-within _ _ _ pending c s) (ap (λ (r : Row). r.settled) (sym (row old)) ∙ passed));
-  deletes = λ is. cc;
+  deletes = λ is. absurd (not-both is);
 }
 walks-pass Delete a pending next c old l is s row passed = record {
-  entries = λ is. cc;
-  begins = λ is. cc;
+  entries = λ is. absurd (not-both (sym is));
+  begins = λ is. absurd (not-both (sym is));
   deletes = λ _ rows id w. rw is (deletes-pass _ _ id rows _ _ pending c old l (ap (live_at a.moment.0) (sym (row old)) ∙ passed) w);
 }
 
@@ -209,11 +212,11 @@ walks-change Begin a b pending next c old new l l' rest row w keeps is =
     record {
       entries = λ is. entries-refreshes _ _ _ _ refreshes;
       begins = λ is spreading. rw (rest, keeps.first, keeps.links) (spread-step _ _ _ _ pending c old l l' spreading (ap (λ (r : Row). r.settled) (sym (row old)) ∙ w.before) refreshes);
-      deletes = λ is. cc;
+      deletes = λ is. absurd (not-both is);
     }
 walks-change Delete a b pending next c old new l l' rest row w keeps is = record {
-  entries = λ is. cc;
-  begins = λ is. cc;
+  entries = λ is. absurd (not-both (sym is));
+  begins = λ is. absurd (not-both (sym is));
   deletes = λ _ rows id deletes. rw (rest, keeps.first, keeps.moment, keeps.links)
       (deletes-hit _ _ id rows _ _ _ pending c old l l' (ap (live_at a.moment.0) (sym (row old)) ∙ w.before) (written-deleted a b c old new row w.is is) deletes);
 }
