@@ -31,6 +31,12 @@ returns-in_default-clause-walks c =
 pub returns-in_default-clause-less : goal.returns-in_default-clause-less
 returns-in_default-clause-less c = rw (c.push_pending.ensures.items, c.link_at-link.ensures lone_link) (pass-less _ _ _ _ _ c.args.at lone_link c.requires.stack)
 
+pub write-requires-clause-current : goal.write-requires-clause-current
+write-requires-clause-current c = record { sound = c.requires.current.sound; room = c.requires.current.room }
+
+pub write-requires-clause-within : goal.write-requires-clause-within
+write-requires-clause-within c = stack-within _ _ _ _ _ c.requires.stack
+
 pub write-requires-clause-row : goal.write-requires-clause-row
 write-requires-clause-row c = λ d.
     let P : Row → Type 0 = λ r. CanReplace r c.in-Some.row in
