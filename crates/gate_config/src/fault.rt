@@ -3,8 +3,9 @@ ghost use Rattle.std.specs.Prelude.{◌≡◌, IfOk};
 use crate::key::Key;
 use gate_table::TableFault;
 use std::alloc::{AllocError, AllocFailed, Global};
+use std::error::Error;
+use std::fmt;
 use std::marker::Model;
-use thiserror::Error;
 
 /// A key that stands in a document, whatever its text is.
 #[derive(Debug, Drop)]
@@ -43,31 +44,43 @@ impl KeyText {
 /// of objects. Own rule.
 ///
 /// It is shown as a short phrase; `text` has the line by which a program reports it.
-#[derive(Debug, Drop, Error)]
+#[derive(Debug, Drop)]
 pub enum ConfigFault {
     /// The text has more than 1,048,576 bytes.
-    #[error("the configuration has more than 1048576 bytes")]
     TooLarge,
     /// It isn't a document of TOML in UTF-8.
-    #[error("the configuration is no document of TOML in UTF-8")]
     NotToml,
     /// A table has a key that no such table has. Of several it is the least by its bytes.
-    #[error("a table has a key that no such table has")]
     UnknownKey(KeyText),
     /// The key's value has another type, or is out of range.
-    #[error("the value of {0} has another type, or is out of range")]
     BadValue(Key),
     /// A host or a service has no name.
-    #[error("a host or a service has no name")]
     MissingName,
     /// The objects are no table: the line of the fault counts each host, and after it its services.
     /// The cause isn't memory.
-    #[error("{0}")]
     Object(TableFault),
     /// Memory ran out. It may stand in the place of any fault but the first.
-    #[error("out of memory")]
     OutOfMemory,
 }
+
+impl fmt::Display for ConfigFault {
+    fn fmt<W: fmt::Write>(&self, f: &mut fmt::Formatter<W>) -> fmt::Result {
+        let phrase = match self {
+            ConfigFault::BadValue(key) => {
+                return write!(f, "the value of {key} has another type, or is out of range");
+            }
+            ConfigFault::Object(cause) => return write!(f, "{cause}"),
+            ConfigFault::TooLarge => "the configuration has more than 1048576 bytes",
+            ConfigFault::NotToml => "the configuration is no document of TOML in UTF-8",
+            ConfigFault::UnknownKey(_) => "a table has a key that no such table has",
+            ConfigFault::MissingName => "a host or a service has no name",
+            ConfigFault::OutOfMemory => "out of memory",
+        };
+        f.write_str(phrase)
+    }
+}
+
+impl Error for ConfigFault {}
 
 impl From<AllocError> for ConfigFault {
     ghost use Rattle.gate_config.specs.declared.fault.ConfigFault.TheVariants.{OutOfMemory};
