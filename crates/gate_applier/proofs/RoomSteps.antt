@@ -1,5 +1,5 @@
 -- What the memory for a list is after it is taken, and after one more element; records at a later moment.
-use Rattle.std.proofs.Common.{ℕ, ◌+◌, List, arith}
+use Rattle.std.proofs.Common.{◌≡◌, ℕ, ◌+◌, ◌-◌, ◌≤◌, List, min, arith}
 use Rattle.gate_model.specs.declared.record.Moment.{Moment}
 use Rattle.gate_model.specs.declared.record.Record.{Record}
 use Rattle.gate_model.specs.Record.{later, AreInOrder}
@@ -21,6 +21,10 @@ in_order-later opening records moment now order = record {
   never_decreasing = order.never_decreasing;
   come = λ index applied within. omega (arith, order.come index applied within);
 }
+
+-- a list that is full leaves no room
+pub no-room : (count capacity outcomes books room : ℕ) → capacity ≤ count → min (min (capacity - count) outcomes) books ≡ room → 1 ≤ room → ⊥
+no-room count capacity outcomes books room full is some = omega arith
 
 -- what holds at all holds on a fault
 pub on-err : {T E P : Type 0} (result : Result T E) → P → OnErr result P
