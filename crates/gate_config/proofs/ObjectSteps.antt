@@ -1,5 +1,5 @@
 -- The tests of a host's or a service's table, one by one, and the lines that it gives.
-use Rattle.std.proofs.Common.{◌≡◌, ℕ, List, [], ◌∷◌, ◌++◌, Option, Some, None, map, option_map, unwrap_or, subst, ap, ◌∙◌, sym, inl, inr}
+use Rattle.std.proofs.Common.{◌≡◌, ℕ, List, [], ◌∷◌, ◌++◌, Option, Some, None, map, option_map, unwrap_or, subst, ap, ◌∙◌, sym}
 use Rattle.std.specs.Option.{option_and_then}
 use Rattle.std.specs.List.{flat_map}
 use Rattle.toml.specs.Data.{Data, Members, as_str, as_table}
@@ -9,8 +9,8 @@ use Rattle.gate_model.specs.declared.object.ObjectLine.{ObjectLine}
 use Rattle.gate_config.specs.declared.key.Key.{Key}
 use Rattle.gate_config.specs.declared.key.Key.TheVariants.{Name, Freshness, Service}
 use Rattle.gate_config.specs.declared.fault.ConfigFault.{ConfigFault}
-use Rattle.gate_config.specs.declared.fault.ConfigFault.TheVariants.{UnknownKey, BadValue}
-use Rattle.gate_config.specs.Keys.{host_keys, service_keys}
+use Rattle.gate_config.specs.declared.fault.ConfigFault.TheVariants.{UnknownKey}
+use Rattle.gate_config.specs.Keys.{host_keys}
 use Rattle.gate_config.specs.Check.{Check, AllPass, FirstFails}
 use Rattle.gate_config.specs.Values.{value_at, tables_or_none}
 use Rattle.gate_config.specs.Document.{least_unknown, name_fault, bad_unless, number_at, table_checks, rows_at, host_checks, service_checks, host_lines, service_lines, line_of}

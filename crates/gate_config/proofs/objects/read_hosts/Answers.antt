@@ -1,4 +1,4 @@
-use Rattle.std.proofs.Common.{[]}
+use Rattle.std.proofs.Common.{[], take_all}
 use Rattle.std.proofs.lemmas.Result.{err_from_is_err_and}
 use Rattle.toml.specs.Data.{as_table}
 use Rattle.toml.specs.View.{view}
@@ -19,3 +19,9 @@ loop-row-preserved c = record {
   passed = pass_more (λ row. host_checks (as_table (view row))) c.args.rows.now c.loop-row.row-index c.row-item.result
       c.loop-row-test.true c.row-item.is c.loop-row.invariant.passed c.in_ok-push_host.ensures.passed;
 }
+
+pub returns-clause-lines : goal.returns-clause-lines
+returns-clause-lines c = rw (take_all c.loop-row.row-index c.args.rows.now c.loop-row-test.false) at c.loop-row.invariant.lines
+
+pub returns-clause-passed : goal.returns-clause-passed
+returns-clause-passed c = rw (take_all c.loop-row.row-index c.args.rows.now c.loop-row-test.false) at c.loop-row.invariant.passed
