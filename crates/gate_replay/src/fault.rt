@@ -1,4 +1,5 @@
-ghost use Rattle.std.specs.Prelude.{◌≡◌, ◌≢◌, OnOk, OnErr};
+ghost use Rattle.std.specs.Prelude.{◌≡◌, ◌≢◌, ◌++◌, codes, IfNone, IfSome, OnOk, OnErr};
+ghost use Rattle.std.specs.Fmt.{decimal};
 ghost use Rattle.std.specs.IoError.{error_kind};
 ghost use Rattle.gate_replay.specs.Fault.{message_of};
 ghost use Rattle.gate_reader.specs.Sink.{Delivers, FailsOnce};
@@ -6,31 +7,61 @@ ghost use Rattle.gate_reader.specs.Sink.{Delivers, FailsOnce};
 use crate::script::ScriptFault;
 use gate_reader::{Fault, Sink, put_last, put_numbered};
 use std::alloc::AllocError;
-use std::io;
+use std::error::Error;
 use std::io::ErrorKind;
-use thiserror::Error;
+use std::{fmt, io};
 
 /// Why a replay stops.
-#[derive(Clone, Copy, Debug, PartialEq, Error)]
+#[derive(Clone, Copy, Debug, PartialEq)]
 pub enum ReplayFault {
     /// The input has more than 1,048,576 bytes.
-    #[error("the script is longer than 1048576 bytes")]
     TooLong,
     /// The input's line of this number, from 1, is the first that is faulty.
-    #[error("line {0} of the script is its first faulty line")]
     Line(usize),
     /// An item is left, and the log holds as many records as it may.
-    #[error("the log is full")]
     LogFull,
     /// Memory ran out.
-    #[error("out of memory")]
     OutOfMemory,
     /// The input can't be read.
-    #[error("the script can't be read")]
     ReadFault,
     /// The output can't be written or flushed.
-    #[error("the output can't be written")]
     WriteFault,
+}
+
+impl fmt::Display for ReplayFault {
+    fn fmt<W: fmt::Write>(&self, f: &mut fmt::Formatter<W>) -> fmt::Result {
+        let phrase = match self {
+            ReplayFault::Line(number) => {
+                return write!(f, "line {number} of the script is its first faulty line");
+            }
+            ReplayFault::TooLong => "the script is longer than 1048576 bytes",
+            ReplayFault::LogFull => "the log is full",
+            ReplayFault::OutOfMemory => "out of memory",
+            ReplayFault::ReadFault => "the script can't be read",
+            ReplayFault::WriteFault => "the output can't be written",
+        };
+        f.write_str(phrase)
+    }
+}
+
+impl Error for ReplayFault {}
+
+impl ReplayFault {
+    // The line that reports the fault. Where a number ends it, that number, and what is before it.
+    fn message(self) -> (&'static str, Option<usize>)
+        ensures line { IfNone result.1 (result.0.now ≡ message_of self) }
+        ensures numbered { IfSome result.1 (λ number.
+            result.0.now ++ decimal number ++ codes "\n" ≡ message_of self) }
+    {
+        match self {
+            ReplayFault::TooLong => ("nscagate: script too long\n", None),
+            ReplayFault::Line(number) => ("nscagate: script line ", Some(number)),
+            ReplayFault::LogFull => ("nscagate: LogFull\n", None),
+            ReplayFault::OutOfMemory => ("nscagate: OutOfMemory\n", None),
+            ReplayFault::ReadFault => ("nscagate: ReadFault\n", None),
+            ReplayFault::WriteFault => ("nscagate: WriteFault\n", None),
+        }
+    }
 }
 
 impl From<AllocError> for ReplayFault {
@@ -69,12 +100,13 @@ pub(crate) fn io_fault(error: &io::Error, other: ReplayFault) -> ReplayFault
     }
 }
 
-fn report_numbered<E: Sink>(errors: &mut E, number: usize) -> io::Result<()>
+// Writes a text, a number and the end of the line, and flushes.
+fn report_numbered<E: Sink>(errors: &mut E, text: &str, number: usize) -> io::Result<()>
     ensures ok { OnOk result (Delivers (E.state errors.old) (E.state errors.new)
-        (message_of (ReplayFault.Line number))) }
+        (text.now ++ decimal number ++ codes "\n")) }
     ensures err { OnErr result (FailsOnce (E.state errors.old) (E.state errors.new)) }
 {
-    put_numbered(errors, b"nscagate: script line ", number as u64)?;
+    put_numbered(errors, text.as_bytes(), number as u64)?;
     errors.deliver()
 }
 
@@ -98,13 +130,9 @@ impl Fault for ReplayFault {
 
     /// Own rule: the text of the line.
     fn report<E: Sink>(&self, errors: &mut E) -> io::Result<()> {
-        match self {
-            ReplayFault::TooLong => put_last(errors, b"nscagate: script too long\n"),
-            ReplayFault::Line(number) => report_numbered(errors, *number),
-            ReplayFault::LogFull => put_last(errors, b"nscagate: LogFull\n"),
-            ReplayFault::OutOfMemory => put_last(errors, b"nscagate: OutOfMemory\n"),
-            ReplayFault::ReadFault => put_last(errors, b"nscagate: ReadFault\n"),
-            ReplayFault::WriteFault => put_last(errors, b"nscagate: WriteFault\n"),
+        match self.message() {
+            (text, Some(number)) => report_numbered(errors, text, number),
+            (line, None) => put_last(errors, line.as_bytes()),
         }
     }
 }
