@@ -1,4 +1,4 @@
-ghost use Rattle.std.specs.Prelude.{◌≡◌, ◌≢◌, ◌++◌, codes, IfNone, IfSome, OnOk, OnErr};
+ghost use Rattle.std.specs.Prelude.{◌≡◌, ◌≢◌, ◌++◌, ◌⊎◌, codes, IfNone, IfSome, OnOk, OnErr};
 ghost use Rattle.std.specs.Fmt.{decimal};
 ghost use Rattle.std.specs.IoError.{error_kind};
 ghost use Rattle.gate_replay.specs.Fault.{message_of};
@@ -93,6 +93,7 @@ pub(crate) fn io_fault(error: &io::Error, other: ReplayFault) -> ReplayFault
     ensures memory { error_kind error.now ≡ ErrorKind.OutOfMemory
         → result ≡ ReplayFault.OutOfMemory }
     ensures other { error_kind error.now ≢ ErrorKind.OutOfMemory → result ≡ other }
+    ensures either { (result ≡ ReplayFault.OutOfMemory) ⊎ (result ≡ other) }
 {
     match error.kind() {
         ErrorKind::OutOfMemory => ReplayFault::OutOfMemory,
