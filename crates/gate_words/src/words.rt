@@ -70,10 +70,7 @@ pub fn read_words<'a>(alloc: Global, words: &'a [String]) -> Result<Request<'a>,
         return Err(WordsFault::OutOfMemory);
     };
     match command.try_get_matches_from(words) {
-        Ok(matches) => match request_in(&matches) {
-            Some(request) => Ok(request),
-            None => Err(WordsFault::BadArguments),
-        },
+        Ok(matches) => request_in(&matches).ok_or(WordsFault::BadArguments),
         Err(error) => match error.kind() {
             ErrorKind::OutOfMemory => Err(WordsFault::OutOfMemory),
             _ => Err(WordsFault::BadArguments),
