@@ -1,5 +1,5 @@
 -- The steps of a daemon before it serves: how they end, and what they print.
-use Rattle.std.proofs.Common.{◌≡◌, ℕ, List, [], refl, sym, subst}
+use Rattle.std.proofs.Common.{◌≡◌, ◌⊎◌, inl, inr, ℕ, List, [], refl, sym, subst}
 use Rattle.std.specs.Prelude.{Result, Ok, Err, IfOk, IsOkAnd, Vec}
 use Rattle.std.specs.declared.alloc.AllocError.{AllocError}
 use Rattle.std.specs.declared.net.socket_addr.SocketAddr.{SocketAddr}
@@ -8,7 +8,7 @@ use Rattle.gate_config.specs.declared.config.Config.{Config}
 use Rattle.gate_reader.specs.Sink.{SinkState, Delivers}
 use Rattle.gate_start.specs.declared.fault.ServeFault.{ServeFault}
 use Rattle.gate_start.specs.declared.fault.ServeFault.TheVariants as fault
-use Rattle.gate_start.specs.BeforeServing.{Configures, AreBoundAs, EndsBefore, FollowsAddresses, IsAddressIn, IsBindEnd, IsConfigEnd, IsStarted, IsWriteEnd, address_lines}
+use Rattle.gate_start.specs.BeforeServing.{Configures, AreBoundAs, EndsBefore, FollowsAddresses, IsAddressIn, IsBindEnd, IsConfigEnd, IsWriteEnd, address_lines}
 
 -- the addresses were printed, and nothing else
 announced : (config : Config) (agents operators pages : SocketAddr) (before after : SinkState) → AreBoundAs config agents operators pages
@@ -21,15 +21,11 @@ announced config a o p before after bound printed = record {
   printed = subst (λ (t : List ℕ). Delivers before after t) (sym (append-nil (address_lines a o p))) printed;
 }
 
--- a daemon of this configuration has started, whose addresses were printed if there was memory for them
-pub started : {Allocator : Type 0} (lines : Result (Vec ℕ Allocator) AllocError) (text : List ℕ) (config : Config) (agents operators pages : SocketAddr) (before after : SinkState) → Configures text config → AreBoundAs config agents operators pages
-    → IfOk lines (λ made. made.items ≡ address_lines agents operators pages) → IsOkAnd lines (λ made. Delivers before after made.items) → IsStarted config before after
-started (Ok made) text config a o p before after configured bound are printed = record {
-  text = text;
-  configured = configured;
-  printed = announced config a o p before after bound (subst (λ (t : List ℕ). Delivers before after t) are printed);
-}
-started (Err why) text config a o p before after configured bound are printed = absurd printed
+-- the same, if there was memory for them
+pub opened : {Allocator : Type 0} (lines : Result (Vec ℕ Allocator) AllocError) (config : Config) (agents operators pages : SocketAddr) (before after : SinkState) → AreBoundAs config agents operators pages
+    → IfOk lines (λ made. made.items ≡ address_lines agents operators pages) → IsOkAnd lines (λ made. Delivers before after made.items) → FollowsAddresses config before after []
+opened (Ok made) config a o p before after bound are printed = announced config a o p before after bound (subst (λ (t : List ℕ). Delivers before after t) are printed)
+opened (Err why) config a o p before after bound are printed = absurd printed
 
 -- without a configuration nothing is served
 pub unconfigured : (state : SinkState) (found : ServeFault) → IsConfigEnd found → EndsBefore state state found
@@ -42,7 +38,7 @@ unconfigured state fault.Spawn k = absurd k
 unconfigured state fault.WriteFault k = absurd k
 
 -- without an address nothing is served
-pub unbound : (text : List ℕ) (config : Config) (state : SinkState) (found : ServeFault) → Configures text config → IsBindEnd (IsAddressIn config) found → EndsBefore state state found
+unbound : (text : List ℕ) (config : Config) (state : SinkState) (found : ServeFault) → Configures text config → IsBindEnd (IsAddressIn config) found → EndsBefore state state found
 unbound text config state fault.Unreadable is k = absurd k
 unbound text config state (fault.Config reported) is k = absurd k
 unbound text config state (fault.Bind address) is k = ((text, config, is, k), refl)
@@ -52,7 +48,7 @@ unbound text config state fault.Spawn is k = absurd k
 unbound text config state fault.WriteFault is k = absurd k
 
 -- without what is to be printed first nothing is served
-pub unprinted : (before after : SinkState) (found : ServeFault) → IsWriteEnd before after found → EndsBefore before after found
+unprinted : (before after : SinkState) (found : ServeFault) → IsWriteEnd before after found → EndsBefore before after found
 unprinted before after fault.Unreadable k = absurd k
 unprinted before after (fault.Config reported) k = absurd k
 unprinted before after (fault.Bind address) k = absurd k
@@ -60,3 +56,9 @@ unprinted before after fault.LogFull k = absurd k
 unprinted before after fault.OutOfMemory k = k
 unprinted before after fault.Spawn k = absurd k
 unprinted before after fault.WriteFault k = k
+
+-- without its ports nothing is served
+pub unopened : (text : List ℕ) (config : Config) (before after : SinkState) (found : ServeFault) → Configures text config
+    → (IsBindEnd (IsAddressIn config) found × (after ≡ before)) ⊎ IsWriteEnd before after found → EndsBefore before after found
+unopened text config before after found is (inl k) = rw (k.1) (unbound text config before found is k.0)
+unopened text config before after found is (inr k) = unprinted before after found k

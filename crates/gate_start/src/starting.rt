@@ -1,9 +1,9 @@
-ghost use Rattle.std.specs.Prelude.{IfErr, IfOk};
-ghost use Rattle.gate_start.specs.BeforeServing.{EndsBefore, IsStarted};
+ghost use Rattle.std.specs.Prelude.{◌≡◌, ◌⊎◌, [], IfErr, IfOk};
+ghost use Rattle.gate_start.specs.BeforeServing.{EndsBefore, FollowsAddresses, IsAddressIn, IsBindEnd, IsStarted, IsWriteEnd};
 
 use crate::configuring::configuration;
 use crate::fault::ServeFault;
-use crate::listening::{Listening, listen};
+use crate::listening::listen;
 use crate::printing::{address_lines, print};
 use gate_config::Config;
 use gate_ports::Ports;
@@ -12,6 +12,30 @@ use std::alloc::Global;
 use std::fs::Files;
 use std::net::{Net, TcpListener, TcpStream};
 use std::time::Clock;
+
+// Binds the addresses of a configuration, and prints them as they are bound: the ports.
+fn open_ports<R: Net<Listener = TcpListener, Stream = TcpStream> + Clock, W: Sink>(
+    rt: &R,
+    alloc: Global,
+    config: &Config,
+    output: &mut W,
+) -> Result<Ports, ServeFault>
+    ensures ok { IfOk result (λ _.
+        FollowsAddresses config.now (W.state output.old) (W.state output.new) []) }
+    ensures err { IfErr result (λ fault. (IsBindEnd (IsAddressIn config.now) fault
+        × (W.state output.new ≡ W.state output.old))
+        ⊎ IsWriteEnd (W.state output.old) (W.state output.new) fault) }
+{
+    let listening = listen(rt, alloc, config)?;
+    let lines = address_lines(
+        alloc,
+        listening.agents,
+        listening.operators,
+        listening.pages,
+    );
+    print(output, lines)?;
+    Ok(listening.ports)
+}
 
 /// Reads the configuration in the file of this path, binds the addresses of agents, operators and
 /// pages, in this order, and prints them as they are bound, each on a line: the configuration, and the
@@ -31,12 +55,6 @@ pub fn start<R: Files + Net<Listener = TcpListener, Stream = TcpStream> + Clock,
     ensures err { IfErr result (EndsBefore (W.state output.old) (W.state output.new)) }
 {
     let config = configuration(rt, alloc, path)?;
-    let Listening {
-        ports,
-        agents,
-        operators,
-        pages,
-    } = listen(rt, alloc, &config)?;
-    print(output, address_lines(alloc, agents, operators, pages))?;
+    let ports = open_ports(rt, alloc, &config, output)?;
     Ok((config, ports))
 }
