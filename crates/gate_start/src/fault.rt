@@ -4,35 +4,44 @@ ghost use Rattle.gate_start.specs.inner.Reading.{IsFaultOf};
 use gate_model::Text;
 use gate_reader::{Fault, Sink, put_last, put_line};
 use std::alloc::AllocError;
-use std::io;
+use std::error::Error;
 use std::io::ErrorKind;
-use thiserror::Error;
+use std::{fmt, io};
 
 /// Why the daemon doesn't run, or how it ended before it had applied all.
-#[derive(Debug, Drop, Error)]
+#[derive(Debug, Drop)]
 pub enum ServeFault {
     /// The file of the configuration can't be read.
-    #[error("the configuration can't be read")]
     Unreadable,
     /// The file configures nothing, for a cause that is reported by this text.
-    #[error("the configuration is faulty")]
     Config(Text),
     /// This address, as the configuration writes it, can't be bound.
-    #[error("an address can't be bound")]
     Bind(Text),
     /// The log is full, with an item left.
-    #[error("the log is full")]
     LogFull,
     /// Memory ran out.
-    #[error("out of memory")]
     OutOfMemory,
     /// A thread can't be started.
-    #[error("a thread can't be started")]
     Spawn,
     /// The output can't be written or flushed.
-    #[error("the output can't be written")]
     WriteFault,
 }
+
+impl fmt::Display for ServeFault {
+    fn fmt<W: fmt::Write>(&self, f: &mut fmt::Formatter<W>) -> fmt::Result {
+        f.write_str(match self {
+            ServeFault::Unreadable => "the configuration can't be read",
+            ServeFault::Config(_) => "the configuration is faulty",
+            ServeFault::Bind(_) => "an address can't be bound",
+            ServeFault::LogFull => "the log is full",
+            ServeFault::OutOfMemory => "out of memory",
+            ServeFault::Spawn => "a thread can't be started",
+            ServeFault::WriteFault => "the output can't be written",
+        })
+    }
+}
+
+impl Error for ServeFault {}
 
 impl From<AllocError> for ServeFault {
     ghost use Rattle.gate_start.specs.declared.fault.ServeFault.TheVariants.{OutOfMemory};
