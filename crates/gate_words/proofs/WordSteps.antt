@@ -1,9 +1,9 @@
 -- What a subcommand asks for, and what faulty words do not.
-use Rattle.std.proofs.Common.{◌≡◌, ◌⊎◌, ℕ, false, List, [], ◌∷◌, Option, Some, None, option_map, unwrap_or, Result, Ok, Err, IfOk, codes, refl, ap, ◌∙◌, sym, inl, inr, is_some}
+use Rattle.std.proofs.Common.{◌≡◌, ◌⊎◌, ℕ, false, List, [], ◌∷◌, Option, Some, None, option_map, unwrap_or, Result, Ok, Err, IfOk, codes, refl, ap, sym, inl, inr, is_some}
 use Rattle.std.proofs.lemmas.Bool.{false≢true}
 use Rattle.std.specs.Result.{result_ok}
 use Rattle.std.specs.Str.{bytes_eq}
-use Rattle.clap.specs.Words.{Row, Text, Kinds, IsAmong, fault_of, first_of, subcommand_of}
+use Rattle.clap.specs.Words.{Row, Text, Kinds, IsAmong, fault_of, first_of}
 use Rattle.clap.specs.declared.error.kind.ErrorKind.{ErrorKind}
 use Rattle.gate_words.specs.declared.words.Request.{Request}
 use Rattle.gate_words.specs.Words.{Asked, serve, asked_by, asked_with, asked_of, program, unless_faulty}
