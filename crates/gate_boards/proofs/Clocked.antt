@@ -28,6 +28,13 @@ records_append moment (x ∷ xs) ys =
     ap (λ l. record_at now x.item ++ l) (records_append now xs ys)
     ∙ sym (append_assoc (record_at now x.item) (records_by now xs) (records_by (latest_of now xs) ys))
 
+pub same_both : (old middle new : ApplierView) → IsSameLog old middle → IsSameLog middle new → IsSameLog old new
+same_both old middle new first second = record {
+  table = second.table ∙ first.table;
+  opening = second.opening ∙ first.opening;
+  limit = second.limit ∙ first.limit;
+}
+
 -- the clock wasn't read
 pub kept : (clock : ClockState) (old new : ApplierView) → new.records ≡ old.records → new.moment ≡ old.moment → GoesByClock clock clock old new
 kept clock old new records moment = record {

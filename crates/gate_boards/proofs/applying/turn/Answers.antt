@@ -1,10 +1,15 @@
-use Rattle.std.proofs.Common.{[], ◌∷◌, ◌++◌, ap, ◌∙◌, rules}
+use Rattle.std.proofs.Common.{◌≡◌, [], ◌∷◌, ◌++◌, length, sym, ap, ◌∙◌, subst, rules}
 use Rattle.std.proofs.lemmas.List.{map-append}
 use Rattle.gate_model.specs.declared.record.Record.{Record}
 use Rattle.gate_model.specs.Record.{later, items_of_records}
 use Rattle.gate_applier.specs.Applier.{ApplierView}
+use Rattle.gate_boards.specs.declared.applying.Attempt.TheVariants.{Took, LogFull}
+use Rattle.gate_boards.specs.declared.boards.Found.{Found}
 use Rattle.gate_boards.proofs.Clocked.{applied_one, kept}
 use Rattle.gate_boards.proofs.applying.turn.Goals as goal
+
+took_is_not_full : (found : Found) (P : Type 0) → Took found ≡ LogFull → P
+took_is_not_full found P same = cc
 
 pub returns-in-Err-clause-clock : goal.returns-in-Err-clause-clock
 returns-in-Err-clause-clock g c =
@@ -27,3 +32,14 @@ returns-in-Some-clause-applied g c =
     ap items_of_records c.apply-applier.ensures.records ∙ map-append (λ (applied : Record). applied.item) c.in-Ok.ready.records (record { moment = later c.in-Ok.ready.moment c.now.result; item = c.in-Some.item } ∷ [])
     ∙ ap (λ l. l ++ c.in-Some.item ∷ []) (ap (λ (view : ApplierView). items_of_records view.records) c.in-Ok.ensures.ready ∙ c.requires.applied)
     ∙ search rules
+
+pub returns-in-Err-clause-log_full : goal.returns-in-Err-clause-log_full
+returns-in-Err-clause-log_full g c = λ full.
+    subst (λ (view : ApplierView). length view.records ≡ view.limit) (sym c.in-Err.ensures.kept)
+    (c.in-Err.ensures.only_log_full (c.refused_attempt.ensures full))
+
+pub returns-in-Some-clause-log_full : goal.returns-in-Some-clause-log_full
+returns-in-Some-clause-log_full g c = λ same. took_is_not_full _ _ same
+
+pub returns-in-None-clause-log_full : goal.returns-in-None-clause-log_full
+returns-in-None-clause-log_full g c = λ same. took_is_not_full _ _ same
