@@ -1,8 +1,9 @@
 -- What was queued for all clients taken in, and that nothing is left where as much was taken.
 use Rattle.std.specs.List.{list_any}
-use Rattle.std.proofs.Common.{Bool, true, false, true≢false, cond, eqb, ◌||◌, IsTrue, ◌≡◌, ℕ, zero, suc, ◌+◌, ◌<◌, ◌≤◌, List, [], ◌∷◌, ◌++◌, length, get_or, Option, Some, None, refl, sym, ap, ◌∙◌, subst, arith, append_assoc, length-append}
+use Rattle.std.proofs.Common.{Bool, true, false, true≢false, cond, eqb, ◌||◌, IsTrue, ◌≡◌, ℕ, zero, suc, ◌+◌, ◌<◌, ◌≤◌, List, [], ◌∷◌, ◌++◌, length, get_or, Option, Some, None, refl, sym, ap, ◌∙◌, subst, arith, inl, inr, append_assoc, length-append}
 use Rattle.std.specs.Prelude.{is_some, IsSome, IfSome, unwrap_or, max, All}
-use Rattle.std.proofs.lemmas.List.{append-nil, map-append}
+use Rattle.std.proofs.lemmas.Bool.{cases_lt}
+use Rattle.std.proofs.lemmas.List.{append-nil, map-append, length-map}
 use Rattle.std.proofs.lemmas.List.Elements.{All-push}
 use Rattle.gate_model.specs.declared.record.Moment.{Moment}
 use Rattle.gate_model.specs.declared.record.Record.{Record}
@@ -16,8 +17,8 @@ use Rattle.gate_applier.specs.Applier.{ApplierView}
 use Rattle.gate_queue.specs.declared.rule.EndedList.{EndedList}
 use Rattle.gate_queue.specs.Knowledge.{Learns}
 use Rattle.gate_queue.specs.Client.{ClientState}
-use Rattle.gate_queue.specs.Taker.{TakerState, ended_list, queued_of, list_of, total_queued, AllowsAfter, HasAll, TakesIn}
-use Rattle.gate_close.specs.DrainedClose.{is_present, lists_with, records_at, moment_after, AppliesMore, LeavesSome, AreAllPresent, CloseParts, IsStopped, IsCloseAllFault}
+use Rattle.gate_queue.specs.Taker.{TakerState, taker_state, ended_list, queued_of, list_of, total_queued, AllowsAfter, HasAll, TakesIn}
+use Rattle.gate_close.specs.DrainedClose.{is_present, lists_with, records_at, moment_after, AppliesMore, LeavesSome, AreAllPresent, IsLeastMissing, CloseParts, IsStopped, IsCloseAllFault}
 use Rattle.gate_close.specs.inner.Draining.{AllTakenIn, TakesInAll, is_known, close_cause}
 
 known_list : (sent : ℕ → List Numbered) (ended : List EndedList) (c : ℕ) → ((queued : List Numbered) → queued_of c ended ≡ Some queued → sent c ≡ queued) → IsSome (queued_of c ended) → sent c ≡ list_of ended c
@@ -169,6 +170,17 @@ moment_after-snoc old now (x ∷ xs) item = refl
 pub applies_none : (now : Moment) (old : ApplierView) → AppliesMore now old old
 applies_none now old = record { items = []; records = sym (append-nil old.records); moment = refl; table = refl; opening = refl; limit = refl }
 
+-- the room is no part of what was applied
+pub applies_with_room : (now : Moment) (old new : ApplierView) (room : ℕ) → AppliesMore now old new → AppliesMore now old (record new { room = room })
+applies_with_room now old new room a = record {
+  items = a.items;
+  records = a.records;
+  moment = a.moment;
+  table = a.table;
+  opening = a.opening;
+  limit = a.limit;
+}
+
 -- one more item is applied
 pub applies_next : (now : Moment) (old middle new : ApplierView) (item : Numbered) → AppliesMore now old middle
     → new.records ≡ middle.records ++ record { moment = later middle.moment now; item = item } ∷ [] → new.moment ≡ later middle.moment now
@@ -188,10 +200,35 @@ applies_next now old middle new item a records moment table opening limit =
 pub items_next : (old : List Record) (moment : Moment) (item : Numbered) → items_of_records (old ++ record { moment = moment; item = item } ∷ []) ≡ items_of_records old ++ item ∷ []
 items_next old moment item = map-append (λ (applied : Record). applied.item) old (record { moment = moment; item = item } ∷ [])
 
+-- as many records as items were queued
+pub enough_taken : (old new : TakerState) (records shown : List Record) (queued : ℕ) → new ≡ taker_state old.gate (items_of_records records) old.ended old.known_close
+    → shown ≡ records → queued ≡ total_queued old.ended old.gate.limits.clients → queued ≤ length shown → total_queued new.ended new.gate.limits.clients ≤ length new.taken
+enough_taken old new records shown queued same is count enough =
+    subst (λ (t : TakerState). total_queued t.ended t.gate.limits.clients ≤ length t.taken) (sym same)
+    (omega (arith, ap length is, length-map records (λ (applied : Record). applied.item)))
+
+-- fewer records than items were queued
+pub few_taken : (old new : TakerState) (records shown : List Record) (queued : ℕ) → new ≡ taker_state old.gate (items_of_records records) old.ended old.known_close
+    → shown ≡ records → queued ≡ total_queued old.ended old.gate.limits.clients → length shown < queued → length new.taken < total_queued new.ended new.gate.limits.clients
+few_taken old new records shown queued same is count few =
+    subst (λ (t : TakerState). length t.taken < total_queued t.ended t.gate.limits.clients) (sym same)
+    (omega (arith, ap length is, length-map records (λ (applied : Record). applied.item)))
+
+-- a full log is reported before memory that is missing
+pub room_left : (applier : ApplierView) (cause : PrepareCause) → (length applier.records ≡ applier.limit → cause ≡ prepare.LogFull) → length applier.records ≤ applier.limit
+    → cause ≡ prepare.OutOfMemory → length applier.records < applier.limit
+room_left applier cause full few missing = elim (cases_lt (length applier.records) applier.limit) [
+  | inl less ↦ less
+  | inr more ↦ let same : cause ≡ prepare.LogFull = full (omega (arith, few, more)) in absurd (cc)
+]
+
 -- ---- the close
 
 pub present_at : (m n : ℕ) (xs ys : List ClientState) (ended : List EndedList) → m ≡ n → xs ≡ ys → AreAllPresent m xs ended → AreAllPresent n ys ended
 present_at m n xs ys ended is same all = subst (λ (y : ℕ × List ClientState). AreAllPresent y.0 y.1 ended) (λ i. (is i, same i)) all
+
+pub missing_at : (m n : ℕ) (xs ys : List ClientState) (ended : List EndedList) (c : ℕ) → m ≡ n → xs ≡ ys → IsLeastMissing m xs ended c → IsLeastMissing n ys ended c
+missing_at m n xs ys ended c is same least = subst (λ (y : ℕ × List ClientState). IsLeastMissing y.0 y.1 ended c) (λ i. (is i, same i)) least
 
 -- neither the taker nor a client knows of a close
 pub unknown : (known new : Option Moment) (clients : List ClientState) → IfSome known (λ first. new ≡ Some first) → is_known new clients ≡ false → (new ≡ None) × (known ≡ None) × All (λ (e : ClientState). e.known_close ≡ None) clients

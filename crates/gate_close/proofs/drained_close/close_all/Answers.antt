@@ -1,4 +1,4 @@
-use Rattle.std.proofs.Common.{◌≡◌, List, true, false, sym, ap, ◌∙◌, subst, rules}
+use Rattle.std.proofs.Common.{◌≡◌, List, true, false, refl, sym, ap, ◌∙◌, subst, rules}
 use Rattle.std.specs.Prelude.{IsSome}
 use Rattle.gate_model.specs.Record.{items_of_records}
 use Rattle.gate_core.specs.Merge.{IsClient, IsMerge}
@@ -8,7 +8,7 @@ use Rattle.gate_queue.specs.Client.{ClientState}
 use Rattle.gate_queue.specs.Taker.{queued_of, list_of, TakerState, taker_state}
 use Rattle.gate_close.specs.DrainedClose.{close_parts, lists_with, KnowsAsAll, LeavesSome, IsStopped, IsCloseAllFault}
 use Rattle.gate_close.specs.inner.Draining.{is_known}
-use Rattle.gate_close.proofs.DrainingSteps.{present_at, present_in, unknown, some_knows, same_moment, stopped_fault}
+use Rattle.gate_close.proofs.DrainingSteps.{present_at, missing_at, present_in, unknown, some_knows, same_moment, stopped_fault}
 use Rattle.gate_close.proofs.drained_close.close_all.Goals as goal
 
 pub returns-then-not-is_closing-clause-fault : goal.returns-then-not-is_closing-clause-fault
@@ -75,3 +75,39 @@ returns-in-Err-clause-again g c =
       clients = search rules;
       applied = sym (ap (λ (s : TakerState). s.taken) left);
     }
+
+pub is_closing-requires : goal.is_closing-requires
+is_closing-requires g c = c.requires.taker
+
+pub take_in_all-requires-clause-gate : goal.take_in_all-requires-clause-gate
+take_in_all-requires-clause-gate g c = ap (λ (s : TakerState). s.gate) c.is_closing.ensures.taker ∙ c.requires.taker
+
+pub take_in_all-requires-clause-given : goal.take_in_all-requires-clause-given
+take_in_all-requires-clause-given g c = c.requires.clients
+
+pub drain-requires-clause-gate : goal.drain-requires-clause-gate
+drain-requires-clause-gate g c = c.take_in_all.ensures.gate ∙ ap (λ (s : TakerState). s.gate) c.is_closing.ensures.taker ∙ c.requires.taker
+
+pub drain-requires-clause-applied : goal.drain-requires-clause-applied
+drain-requires-clause-applied g c = c.requires.applied ∙ sym (c.take_in_all.ensures.taken ∙ ap (λ (s : TakerState). s.taken) c.is_closing.ensures.taker)
+
+pub returns-in-Some-clause-fault : goal.returns-in-Some-clause-fault
+returns-in-Some-clause-fault g c = (
+  missing_at _ _ _ _ c.args.taker.ended c.in-Some.client c.clients.ensures c.as_slice.ensures.value c.in-Some.ensures.least,
+  refl,
+)
+
+pub returns-in-Some-clause-again : goal.returns-in-Some-clause-again
+returns-in-Some-clause-again g c = c.requires
+
+pub returns-then-not-is_closing-clause-again : goal.returns-then-not-is_closing-clause-again
+returns-then-not-is_closing-clause-again g c =
+    let known = c.is_closing.ensures.taker in
+    record {
+      taker = ap (λ (s : TakerState). s.gate) known ∙ c.requires.taker;
+      clients = c.requires.clients;
+      applied = c.requires.applied ∙ sym (ap (λ (s : TakerState). s.taken) known);
+    }
+
+pub returns-in-Ok-clause-applied : goal.returns-in-Ok-clause-applied
+returns-in-Ok-clause-applied g c = c.in-Ok.ensures.applied
