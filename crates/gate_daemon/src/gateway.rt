@@ -114,7 +114,7 @@ pub fn run_gateway<
     P: Connections + Send + Drop,
     H: Hold + Send + Drop,
     K: Watch + Sync,
-    W: Wake + Sync,
+    W: Wake,
 >(
     rt: &R,
     alloc: Global,

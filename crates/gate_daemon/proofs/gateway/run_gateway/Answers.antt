@@ -28,7 +28,6 @@ scoped-joined-requires g c =
           record { owned = c.type_bounds.send-P-Out.owned; leaving = λ k. search (Quiet-if) },
           record { shared = c.type_bounds.sync-R.shared },
           record { shared = c.type_bounds.sync-K.shared },
-          record { shared = c.type_bounds.sync-W.shared },
         ),
       );
     }
