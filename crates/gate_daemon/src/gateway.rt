@@ -14,29 +14,16 @@ use crate::endpoints::Endpoints;
 use crate::joined::Joined;
 use crate::settings::GatewaySettings;
 use crate::threads::{run_threads, start_on};
-use gate_close::{Closed, close_all};
-use gate_opening::{GatewayFault, open_parts};
+use gate_close::close_all;
+use gate_opening::{Finished, GatewayFault, open_parts};
 use gate_pool::{Collected, Shared, Unstarted};
 use gate_queue::Gate;
-use gate_reader::Report;
-use gate_worker::{Cause, Connections, Hold, Wake, Watch};
+use gate_worker::{Connections, Hold, Wake, Watch};
 use std::alloc::Global;
 use std::sync::Wait;
 use std::thread;
 use std::thread::Threads;
 use std::time::Clock;
-
-/// All that was queued, applied; and what each client was answered.
-#[derive(Drop)]
-pub struct Finished {
-    pub closed: Closed,
-    /// Each client's number with the reports of its connections: the operator's first, and then
-    /// those of the agents' workers, from 1.
-    pub reports: Vec<(u32, Vec<Report>)>,
-    /// Why the operator's worker ended. At OutOfMemory no operator could close the gate any more, so
-    /// the gateway closed it.
-    pub operator: Cause,
-}
 
 // Drains the gate of so many agents' workers, once all threads are joined.
 fn finish<R: Wait, K: Watch>(

@@ -12,6 +12,6 @@ mod starting;
 mod threads;
 
 pub use endpoints::Endpoints;
-pub use gate_opening::GatewayFault;
-pub use gateway::{Finished, run_gateway};
+pub use gate_opening::{Finished, GatewayFault};
+pub use gateway::run_gateway;
 pub use settings::GatewaySettings;

@@ -1,3 +1,4 @@
+pub mod AfterServing
 pub mod BeforeServing
 pub mod Fault
 pub mod inner

@@ -1,13 +1,16 @@
-//! The daemon before it serves: it reads its configuration, binds its addresses and prints them; why it
-//! doesn't run, or how it ended early; and how it prints a text.
+//! The daemon before and after it serves: it reads its configuration, binds its addresses and prints
+//! them; it prints the log page in the end; why it doesn't run, or how it ended early.
 #![tactic(auto)]
 
 mod configuring;
+mod ending;
 mod fault;
 mod listening;
 mod printing;
+mod served;
 mod starting;
 
+pub use ending::end;
 pub use fault::ServeFault;
-pub use printing::print;
+pub use served::{Served, without_reports};
 pub use starting::start;

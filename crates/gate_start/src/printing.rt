@@ -7,9 +7,12 @@ use gate_reader::{Sink, put_last};
 use std::alloc::{AllocError, Global};
 use std::net::SocketAddr;
 
-/// Prints a text, if there was memory for it, and flushes. OutOfMemory: there was none, and nothing is
-/// printed. WriteFault: a call of the output failed, after which no other is made.
-pub fn print<W: Sink>(output: &mut W, text: Result<Vec<u8>, AllocError>) -> Result<(), ServeFault>
+// Prints a text, if there was memory for it, and flushes. OutOfMemory: there was none, and nothing is
+// printed. WriteFault: a call of the output failed, after which no other is made.
+pub(crate) fn print<W: Sink>(
+    output: &mut W,
+    text: Result<Vec<u8>, AllocError>,
+) -> Result<(), ServeFault>
     ensures ok { OnOk result (IsOkAnd text (λ made.
         Delivers (W.state output.old) (W.state output.new) made.items)) }
     ensures err { IfErr result (IsWriteEnd (W.state output.old) (W.state output.new)) }

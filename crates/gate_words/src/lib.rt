@@ -1,6 +1,8 @@
-//! The words after the program's name, and what they ask for, as clap reads them.
+//! The words after the program's name, what they ask for, as clap reads them, and what is reported where that is nothing.
 #![tactic(auto)]
 
+mod fault;
 mod words;
 
-pub use words::{Request, WordsFault, read_words};
+pub use fault::WordsFault;
+pub use words::{Request, read_words};

@@ -1,12 +1,12 @@
 ghost use Rattle.std.specs.Prelude.{◌≡◌, map, string_bytes, IfOk, Err, Some, None, option_map};
 ghost use Rattle.clap.specs.Words.{app_of, subcommand_rows_of};
-ghost use Rattle.gate_words.specs.declared.words.WordsFault.TheVariants.{BadArguments};
+ghost use Rattle.gate_words.specs.declared.fault.WordsFault.TheVariants.{BadArguments};
 ghost use Rattle.gate_words.specs.Words.{program, asked_by, asked_with, asked_of};
 
+use crate::fault::WordsFault;
 use clap::error::ErrorKind;
 use clap::{Arg, ArgAction, ArgMatches, Command};
 use std::alloc::{AllocError, Global};
-use thiserror::Error;
 
 /// What the words ask for.
 #[derive(Clone, Copy)]
@@ -15,18 +15,6 @@ pub enum Request<'a> {
     Replay,
     /// `serve --config PATH`: run the daemon as the file of this path configures it.
     Serve(&'a str),
-}
-
-/// Why the words ask for nothing.
-#[derive(Clone, Copy, Debug, Error)]
-pub enum WordsFault {
-    /// The words are neither `replay` nor `serve` with `--config` and a path. A word that asks for
-    /// help is among them. Own rule.
-    #[error("bad arguments")]
-    BadArguments,
-    /// Memory ran out.
-    #[error("out of memory")]
-    OutOfMemory,
 }
 
 fn command_line<'a>(alloc: Global) -> Result<Command<'a>, AllocError>

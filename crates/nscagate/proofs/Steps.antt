@@ -18,14 +18,15 @@ use Rattle.gate_pool.specs.Answered.{reports_of_each, queued_by_each, HoldsAll}
 use Rattle.gate_pool.specs.Served.{AllServed}
 use Rattle.gate_daemon.specs.declared.settings.GatewaySettings.{GatewaySettings}
 use Rattle.gate_opening.specs.Faults.{IsDrainFault, IsGatewayFault}
-use Rattle.gate_daemon.specs.declared.gateway.Finished.{Finished}
+use Rattle.gate_opening.specs.declared.finished.Finished.{Finished}
 use Rattle.gate_opening.specs.declared.fault.GatewayFault.{GatewayFault}
 use Rattle.gate_opening.specs.declared.fault.GatewayFault.TheVariants as gateway_fault
 use Rattle.gate_start.specs.declared.fault.ServeFault.{ServeFault}
 use Rattle.gate_start.specs.declared.fault.ServeFault.TheVariants as fault
 use Rattle.gate_start.specs.BeforeServing.{EndsBefore, FollowsAddresses, IsStarted, IsWriteEnd, address_lines}
-use Rattle.nscagate.specs.Serve.{ServeEnds, IsServed, IsRun, IsFull, IsStarved, page_of, worker_limits, addresses_alone, log_so_far, log_whole}
-use Rattle.nscagate.specs.inner.Serving.{HasRun, IsPageGiven, EndsWith, operator_fault, close_fault, fault_after, reports_after, applier_after}
+use Rattle.gate_start.specs.AfterServing.{IsPageGiven, EndsWith, page_of, operator_fault, close_fault, fault_after, reports_after, applier_after}
+use Rattle.nscagate.specs.Serve.{ServeEnds, IsServed, IsRun, IsFull, IsStarved, worker_limits, addresses_alone, log_so_far, log_whole}
+use Rattle.nscagate.specs.inner.Serving.{HasRun}
 
 -- nothing was printed before what comes after the addresses
 delivers_after : (before middle after : SinkState) (x y : List ℕ) → Delivers before middle x → Delivers middle after y → Delivers before after (x ++ y)

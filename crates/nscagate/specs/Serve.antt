@@ -1,12 +1,9 @@
 -- What the daemon prints, and how it ends: `ServeEnds`. Of its file and of its
 -- sockets nothing is known: a file holds some bytes, and a socket reports an address of its own.
 use Rattle.std.specs.Prelude.{◌≡◌, ◌⊎◌, ◌<◌, ◌≤◌, ℕ, List, [], length, replicate, Option, Some, None, ⊤}
-use Rattle.gate_model.specs.declared.object.ObjectLine.{ObjectLine}
 use Rattle.gate_model.specs.declared.record.Record.{Record}
-use Rattle.gate_model.specs.Meaning.{outcomes_of}
 use Rattle.gate_model.specs.Record.{items_of_records}
 use Rattle.gate_reader.specs.Sink.{SinkState, FailsOnce}
-use Rattle.gate_lines.specs.LogPage.{log_text}
 use Rattle.gate_reader.specs.declared.report.Report.{Report}
 use Rattle.gate_worker.specs.declared.limits.WorkerLimits.{WorkerLimits}
 use Rattle.gate_worker.specs.declared.worker.Cause.{Cause}
@@ -17,11 +14,8 @@ use Rattle.gate_config.specs.declared.config.Config.{Config}
 use Rattle.gate_config.specs.declared.limits.Limits.{Limits}
 use Rattle.gate_start.specs.declared.fault.ServeFault.{ServeFault}
 use Rattle.gate_start.specs.declared.fault.ServeFault.TheVariants as fault
+use Rattle.gate_start.specs.AfterServing.{page_of}
 use Rattle.gate_start.specs.BeforeServing.{Configures, FollowsAddresses, IsAddress, IsFaulty}
-
--- the log page of these records, on these objects
-abbrev pub page_of : List ObjectLine → List Record → List ℕ
-page_of table records = log_text records (outcomes_of table records)
 
 -- the limits of a worker, as they are configured
 abbrev pub worker_limits : Limits → WorkerLimits

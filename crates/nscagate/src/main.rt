@@ -3,21 +3,18 @@
 //! it down. Each ends with an exit status, and with one line on standard error where it isn't 0.
 #![tactic(auto)]
 
-mod ending;
-mod fault;
 mod program;
-mod served;
 mod serving;
 
-use crate::fault::ProgramFault;
 use crate::program::run_program;
 use gate_reader::end_with;
+use gate_words::WordsFault;
 use std::env;
 use std::io::BufWriter;
 use std::process::ExitCode;
 use std::rt::Env;
 
-fn arguments(rt: &(impl Env + AllocGlobal)) -> Result<Vec<String>, ProgramFault> {
+fn arguments(rt: &(impl Env + AllocGlobal)) -> Result<Vec<String>, WordsFault> {
     let mut words = env::args(rt)?;
     let _name = words.next();
     Ok(words.collect(rt.alloc())?)
@@ -35,7 +32,7 @@ fn main(rt: HostRuntime) -> ExitCode {
                 let _unwritten = output.into_parts();
                 status
             }
-            Err(_) => end_with(&Some(ProgramFault::OutOfMemory), &mut errors),
+            Err(_) => end_with(&Some(WordsFault::OutOfMemory), &mut errors),
         },
         Err(fault) => end_with(&Some(fault), &mut errors),
     };

@@ -4,7 +4,6 @@ ghost use Rattle.gate_words.specs.Words.{asked_of, replay, serve};
 ghost use Rattle.gate_replay.specs.Replay.{IsReplayRun};
 ghost use Rattle.nscagate.specs.Program.{IsRefused, IsServeRun};
 
-use crate::fault::ProgramFault;
 use crate::serving::serve;
 use gate_reader::{Sink, end_with};
 use gate_replay::run_replay;
@@ -46,6 +45,6 @@ pub fn run_program<
     match read_words(alloc, words) {
         Ok(Request::Replay) => run_replay(rt, alloc, input, output, errors),
         Ok(Request::Serve(path)) => end_with(&serve(rt, alloc, path, output).fault, errors),
-        Err(fault) => end_with(&Some(ProgramFault::from(fault)), errors),
+        Err(fault) => end_with(&Some(fault), errors),
     }
 }

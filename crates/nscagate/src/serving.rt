@@ -4,8 +4,6 @@ ghost use Rattle.gate_opening.specs.Faults.{IsGatewayFault};
 ghost use Rattle.nscagate.specs.Serve.{ServeEnds, worker_limits};
 ghost use Rattle.nscagate.specs.inner.Serving.{HasRun};
 
-use crate::ending::end;
-use crate::served::{Served, without_reports};
 use gate_config::{Config, Limits};
 use gate_daemon::{Endpoints, Finished, GatewayFault, GatewaySettings, run_gateway};
 use gate_pool::Endpoint;
@@ -13,7 +11,7 @@ use gate_ports::{
     AgentConnections, AgentsPort, OperatorConnections, Ports, ReaderConnections, SystemWatch,
 };
 use gate_reader::{SessionLimits, Sink};
-use gate_start::start;
+use gate_start::{Served, end, start, without_reports};
 use gate_table::ObjectTable;
 use gate_worker::{NoHold, WorkerLimits};
 use std::alloc::{AllocError, Global};

@@ -1,23 +1,11 @@
--- Only proofs and private functions use this: how a daemon starts, and what its gateway leaves.
-use Rattle.std.specs.Prelude.{◌≡◌, ◌⊎◌, ◌≤◌, ℕ, List, [], length, replicate, Option, Some, None, IsSome, IsSomeAnd, MatchOption, IfErr, Result, Ok, Err, ⊤}
+-- Only proofs and private functions use this: what the gateway of a daemon leaves.
+use Rattle.std.specs.Prelude.{◌≡◌, List, replicate, None, ⊤}
 use Rattle.gate_model.specs.Record.{items_of_records}
-use Rattle.gate_reader.specs.Sink.{SinkState, Delivers}
-use Rattle.gate_applier.specs.Applier.{ApplierView}
-use Rattle.gate_close.specs.declared.drained_close.CloseAllCause.{CloseAllCause}
-use Rattle.gate_close.specs.declared.drained_close.CloseAllCause.TheVariants as cause
-use Rattle.gate_worker.specs.declared.worker.Cause.{Cause}
-use Rattle.gate_worker.specs.declared.worker.Cause.TheVariants as worker
-use Rattle.gate_reader.specs.declared.report.Report.{Report}
 use Rattle.gate_pool.specs.Answered.{reports_of_each, queued_by_each, HoldsAll}
 use Rattle.gate_pool.specs.Served.{AllServed}
-use Rattle.gate_daemon.specs.declared.gateway.Finished.{Finished}
-use Rattle.gate_opening.specs.declared.fault.GatewayFault.{GatewayFault}
-use Rattle.gate_opening.specs.declared.fault.GatewayFault.TheVariants as gateway_fault
+use Rattle.gate_opening.specs.declared.finished.Finished.{Finished}
 use Rattle.gate_config.specs.declared.config.Config.{Config}
-use Rattle.gate_start.specs.declared.fault.ServeFault.{ServeFault}
-use Rattle.gate_start.specs.declared.fault.ServeFault.TheVariants.{LogFull, OutOfMemory, Spawn}
-use Rattle.gate_start.specs.BeforeServing.{IsWriteEnd}
-use Rattle.nscagate.specs.Serve.{page_of, worker_limits}
+use Rattle.nscagate.specs.Serve.{worker_limits}
 
 -- a gateway of this configuration applied all that was queued
 pub record HasRun (config : Config) (finished : Finished) : Type 0 where
@@ -27,54 +15,3 @@ pub record HasRun (config : Config) (finished : Finished) : Type 0 where
       (reports_of_each finished.reports.items) finished.operator (items_of_records finished.closed.applier.records)
   pub table : finished.closed.applier.table ≡ config.table
   pub limit : finished.closed.applier.limit ≡ config.limits.limit
-
--- the fault of a daemon that applied all, by why its operator's worker ended
-abbrev pub operator_fault : Cause → Option ServeFault
-operator_fault worker.OutOfMemory = Some OutOfMemory
-operator_fault worker.Closing = None
-operator_fault worker.TooManySessions = None
-operator_fault worker.NoMoreConnections = None
-
--- the fault of a daemon that did not apply all; a gateway has no other cause
-abbrev pub close_fault : CloseAllCause → Option ServeFault
-close_fault cause.LogFull = Some LogFull
-close_fault cause.OutOfMemory = Some OutOfMemory
-close_fault (cause.Missing client) = None
-close_fault cause.NotClosing = None
-
--- the fault of a daemon whose gateway ended so, once its log page is printed
-abbrev pub fault_after : Result Finished GatewayFault → Option ServeFault
-fault_after (Ok finished) = operator_fault finished.operator
-fault_after (Err (gateway_fault.CloseAll gate drain reports)) = close_fault drain.cause
-fault_after (Err (gateway_fault.Queue why)) = Some OutOfMemory
-fault_after (Err (gateway_fault.Applier why)) = Some OutOfMemory
-fault_after (Err gateway_fault.OutOfMemory) = Some OutOfMemory
-fault_after (Err gateway_fault.Spawn) = Some Spawn
-
--- where a gateway ended with a fault, that is a daemon's too
-abbrev pub IsNamed : Result Finished GatewayFault → Type 0
-IsNamed ran = IfErr ran (λ fault. IsSome (fault_after (Err fault)))
-
--- the reports of the clients of a gateway that has ended, as far as they are known
-abbrev pub reports_after : Result Finished GatewayFault → List (ℕ × List Report)
-reports_after (Ok finished) = reports_of_each finished.reports.items
-reports_after (Err (gateway_fault.CloseAll gate drain reports)) = reports_of_each reports.items
-reports_after (Err _) = []
-
--- its applier, if it has one
-abbrev pub applier_after : Result Finished GatewayFault → Option ApplierView
-applier_after (Ok finished) = Some finished.closed.applier
-applier_after (Err (gateway_fault.CloseAll gate drain reports)) = Some drain.applier
-applier_after (Err _) = None
-
--- the log page of this applier was printed
-pub record IsPageGiven (before after : SinkState) (applier : ApplierView) : Type 0 where
-  pub few : length applier.records ≤ applier.limit
-  pub printed : Delivers before after (page_of applier.table applier.records)
-
--- a daemon whose gateway ended so ends without a fault or with this one: the log page was printed, if there is a log,
--- or can't be written
-abbrev pub EndsWith : Result Finished GatewayFault → SinkState → SinkState → Option ServeFault → Type 0
-EndsWith ran before after found =
-    ((found ≡ fault_after ran) × MatchOption (applier_after ran) (after ≡ before) (IsPageGiven before after))
-    ⊎ IsSomeAnd found (IsWriteEnd before after)

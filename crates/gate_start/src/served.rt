@@ -1,7 +1,7 @@
 ghost use Rattle.std.specs.Prelude.{◌≡◌, [], Some};
 
+use crate::fault::ServeFault;
 use gate_reader::Report;
-use gate_start::ServeFault;
 use std::alloc::Global;
 
 /// How a daemon ended.
@@ -15,8 +15,8 @@ pub struct Served {
     pub fault: Option<ServeFault>,
 }
 
-// A daemon that ended without reports.
-pub(crate) fn without_reports(alloc: Global, fault: ServeFault) -> Served
+/// A daemon that ended without reports.
+pub fn without_reports(alloc: Global, fault: ServeFault) -> Served
     ensures reports { result.reports.items ≡ [] }
     ensures fault { result.fault ≡ Some fault }
 {

@@ -1,14 +1,15 @@
 ghost use Rattle.std.specs.Prelude.{◌≡◌, IsSome, Some};
 ghost use Rattle.gate_pool.specs.Answered.{reports_of_each};
-ghost use Rattle.nscagate.specs.inner.Serving.{EndsWith, IsNamed, applier_after, close_fault, fault_after, operator_fault, reports_after};
+ghost use Rattle.gate_start.specs.AfterServing.{EndsWith, IsNamed, applier_after, close_fault, fault_after, operator_fault, reports_after};
 
+use crate::fault::ServeFault;
+use crate::printing::print;
 use crate::served::{Served, without_reports};
 use gate_applier::Applier;
 use gate_close::{CloseAllCause, CloseAllFault};
-use gate_daemon::{Finished, GatewayFault};
 use gate_lines::log_page;
+use gate_opening::{Finished, GatewayFault};
 use gate_reader::Sink;
-use gate_start::{ServeFault, print};
 use gate_worker::Cause;
 use std::alloc::Global;
 
@@ -86,11 +87,7 @@ fn with_fault(served: Served, fault: ServeFault) -> Served
 }
 
 /// Prints the log page of a gateway that has ended, if it has one.
-pub(crate) fn end<W: Sink>(
-    alloc: Global,
-    ran: Result<Finished, GatewayFault>,
-    output: &mut W,
-) -> Served
+pub fn end<W: Sink>(alloc: Global, ran: Result<Finished, GatewayFault>, output: &mut W) -> Served
     requires { IsNamed ran }
     ensures reports { reports_of_each result.reports.items ≡ reports_after ran }
     ensures ended { EndsWith ran (W.state output.old) (W.state output.new) result.fault }
