@@ -3,8 +3,10 @@ use Rattle.std.specs.Prelude.{◌≡◌, List, [], ◌∷◌, ◌++◌, All, map
 use Rattle.gate_model.specs.declared.record.Moment.{Moment}
 use Rattle.gate_model.specs.declared.record.Record.{Record}
 use Rattle.gate_model.specs.declared.submission.Numbered.{Numbered}
-use Rattle.gate_model.specs.Record.{later}
+use Rattle.gate_model.specs.Record.{items_of_records, later}
 use Rattle.gate_applier.specs.Applier.{ApplierView}
+use Rattle.gate_queue.specs.Gate.{GateId}
+use Rattle.gate_queue.specs.Taker.{TakerState}
 use Rattle.gate_reader.specs.Clock.{Takes, ClockState}
 
 -- it is a log of the same table and limit, opened at the same moment
@@ -52,3 +54,9 @@ pub record AreShown (shows : Moment → Type 0) (applier : ApplierView) : Type 0
   pub opening : shows applier.opening
   pub records : All (λ (applied : Record). shows applied.moment) applier.records
   pub moment : shows applier.moment
+
+-- the taker of this gate took what was applied, and no client in
+pub record IsApplied (gate : GateId) (taker : TakerState) (applier : ApplierView) : Type 0 where
+  pub of_gate : taker.gate ≡ gate
+  pub none_in : taker.ended ≡ []
+  pub applied : items_of_records applier.records ≡ taker.taken

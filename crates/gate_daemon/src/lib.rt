@@ -6,9 +6,7 @@
 mod endpoints;
 mod gateway;
 mod joined;
-mod last_board;
 mod settings;
-mod starting;
 mod threads;
 
 pub use endpoints::Endpoints;

@@ -4,17 +4,16 @@ ghost use Rattle.gate_opening.specs.Opening.{AreParts};
 
 use crate::endpoints::Endpoints;
 use crate::joined::Joined;
-use crate::last_board::{show_close, wake_pages};
-use crate::starting::start_applier;
 use gate_applier::Applier;
+use gate_boards::start_applier;
 use gate_opening::{Opening, Parts};
 use gate_pages::Board;
 use gate_pool::{Closable, Shared, Unstarted, Workers, close_gate, run_workers};
 use gate_queue::{Closer, Gate, Taker};
-use gate_showing::run_pages;
+use gate_showing::{end_pages, start_pages};
 use gate_worker::{Connections, Hold, Wake, Watch};
 use std::sync::{Mutex, Wait};
-use std::thread::{JoinHandle, Scope, Threads};
+use std::thread::{Scope, Threads};
 use std::time::Clock;
 
 // What the threads of a gateway begin with, but for their gate and board.
@@ -78,23 +77,6 @@ pub(crate) fn start_on<A, O, P, H>(
     (gate, board, start)
 }
 
-// Starts the thread that shows pages.
-fn start_pages<'s, E, R: Threads + Wait + Clock + Sync, P: Connections + Send + Drop + 's, K, W>(
-    shared: &Shared<'s, R, K, W>,
-    scope: &Scope<'s, E>,
-    pages: P,
-    board: &'s Mutex<Board>,
-) -> Result<JoinHandle<()>, Unstarted> {
-    let Shared { rt, alloc, .. } = *shared;
-    match scope.spawn(move || run_pages(rt, alloc, pages, board)) {
-        Ok(handle) => Ok(handle),
-        Err(failed) => {
-            drop(failed);
-            Err(Unstarted)
-        }
-    }
-}
-
 // Starts all threads and joins them. The gate is closed then.
 pub(crate) fn run_threads<
     's,
@@ -144,9 +126,8 @@ pub(crate) fn run_threads<
     let notice = close_gate(closable);
     let (mut taker, applier, _) = applies.join(rt);
     taker.learn(&notice);
-    let last = show_close(rt, alloc, &applier, board, notice.moment());
+    end_pages(rt, alloc, &applier, board, notice.moment(), shared.wake);
     drop(notice);
-    wake_pages(shared.wake, last);
     shows.join(rt);
     match cause {
         Some(operator) => Ok(Joined {

@@ -1,12 +1,9 @@
--- Only proofs and private functions use this: workers before they start, and what all threads returned.
+-- Only proofs and private functions use this: threads before they start, and what all of them returned.
 use Rattle.std.specs.Prelude.{◌≡◌, ℕ, ◌+◌, Option, None, IsSome, List, [], ◌∷◌, length}
 use Rattle.gate_model.specs.declared.record.Moment.{Moment}
-use Rattle.gate_model.specs.Record.{items_of_records}
 use Rattle.gate_queue.specs.Gate.{GateId}
 use Rattle.gate_queue.specs.Client.{client_state}
-use Rattle.gate_queue.specs.Taker.{TakerState}
 use Rattle.gate_queue.specs.Opening.{new_clients}
-use Rattle.gate_applier.specs.Applier.{ApplierView}
 use Rattle.gate_worker.specs.Numbers.{numbers_after}
 use Rattle.gate_worker.specs.declared.limits.WorkerLimits.{WorkerLimits}
 use Rattle.gate_daemon.specs.declared.joined.Joined.{Joined}
@@ -14,13 +11,7 @@ use Rattle.gate_daemon.specs.declared.threads.Start.{Start}
 use Rattle.gate_pool.specs.Answered.{reports_of_each}
 use Rattle.gate_pool.specs.Collecting.{numbers_of, AreOf, AllEnded}
 use Rattle.gate_pool.specs.Joining.{HasRoom}
-use Rattle.gate_boards.specs.Applying.{AreShown, IsSameLog}
-
--- the taker of this gate took what was applied, and no client in
-pub record IsApplied (gate : GateId) (taker : TakerState) (applier : ApplierView) : Type 0 where
-  pub of_gate : taker.gate ≡ gate
-  pub none_in : taker.ended ≡ []
-  pub applied : items_of_records applier.records ≡ taker.taken
+use Rattle.gate_boards.specs.Applying.{AreShown, IsApplied, IsSameLog}
 
 -- the threads of a gate with so many agents' workers are joined, and its taker knows of the close
 pub record AreJoined (gate : GateId) (workers : ℕ) (joined : Joined) : Type 0 where

@@ -11,7 +11,7 @@ use std::time::Clock;
 
 // A board that is marked closing was published, or there was no memory for it.
 #[derive(Clone, Copy)]
-pub(crate) struct LastShown(());
+struct LastShown(());
 
 // Publishes a board that is marked closing.
 fn publish_last(board: &mut Board, next: Board) -> LastShown
@@ -24,7 +24,7 @@ fn publish_last(board: &mut Board, next: Board) -> LastShown
 
 // Publishes a board that is marked closing, so that the pages end with it. Where there is no memory for
 // it, it is tried for a second.
-pub(crate) fn show_close<R: Wait + Clock>(
+fn show_close<R: Wait + Clock>(
     rt: &R,
     alloc: Global,
     applier: &Applier,
@@ -42,6 +42,19 @@ pub(crate) fn show_close<R: Wait + Clock>(
 
 // Wakes the thread that serves pages. Woken before the last board is published, it would end with
 // an earlier one.
-pub(crate) fn wake_pages<W: Wake>(wake: &W, _last: LastShown) {
+fn wake_pages<W: Wake>(wake: &W, _last: LastShown) {
     wake.pages();
+}
+
+/// Ends the server of the status page: publishes a board that is marked closing, at this moment, and
+/// wakes the server. Where there is no memory for the board, it is tried for a second. Own rule.
+pub fn end_pages<R: Wait + Clock, W: Wake>(
+    rt: &R,
+    alloc: Global,
+    applier: &Applier,
+    board: &Mutex<Board>,
+    moment: Moment,
+    wake: &W,
+) {
+    wake_pages(wake, show_close(rt, alloc, applier, board, moment));
 }

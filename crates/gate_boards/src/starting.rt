@@ -1,9 +1,8 @@
 ghost use Rattle.std.specs.Prelude.{◌≡◌, IfOk};
-ghost use Rattle.gate_boards.specs.Applying.{AreShown, IsSameLog};
-ghost use Rattle.gate_daemon.specs.inner.Joining.{IsApplied};
+ghost use Rattle.gate_boards.specs.Applying.{AreShown, IsApplied, IsSameLog};
 
+use crate::applying::{ApplierStop, run_applier};
 use gate_applier::Applier;
-use gate_boards::{ApplierStop, run_applier};
 use gate_pages::Board;
 use gate_pool::{Shared, Unstarted};
 use gate_queue::{Gate, Taker};
@@ -13,18 +12,18 @@ use std::sync::{Mutex, Wait};
 use std::thread::{Promise, PromisedHandle, Scope, Threads};
 use std::time::Clock;
 
-// The applier returns what it took from this gate, in a log of the same table, opening and limit,
-// at moments that the clock may show, and took no client in.
+/// The applier returns what it took from this gate, in a log of the same table, opening and limit,
+/// at moments that the clock may show, and took no client in.
 #[derive(Drop)]
-pub(crate) struct KeepsLog<'a, K> {
-    gate: &'a Gate,
-    clock: &'a K,
-    before: Snapshot<Applier>,
+pub struct KeepsLog<'a, K> {
+    pub gate: &'a Gate,
+    pub clock: &'a K,
+    /// The applier as it was started.
+    pub before: Snapshot<Applier>,
 }
 
 impl<'a, K: Watch> Promise<(Taker, Applier, ApplierStop)> for KeepsLog<'a, K> {
-    ghost use Rattle.gate_boards.specs.Applying.{AreShown, IsSameLog};
-    ghost use Rattle.gate_daemon.specs.inner.Joining.{IsApplied};
+    ghost use Rattle.gate_boards.specs.Applying.{AreShown, IsApplied, IsSameLog};
 
     ghost kept_by = { λ promise end. IsApplied promise.gate.now end.0 end.1
         × IsSameLog promise.before.value end.1
@@ -32,8 +31,9 @@ impl<'a, K: Watch> Promise<(Taker, Applier, ApplierStop)> for KeepsLog<'a, K> {
         → AreShown (K.shows promise.clock.now) end.1) };
 }
 
-// Starts the applier.
-pub(crate) fn start_applier<
+/// Starts the applier on a thread of its own: `run_applier`. It fails where the thread can't be
+/// started. Own rule.
+pub fn start_applier<
     's,
     E,
     R: Threads + Wait + Clock + Sync,

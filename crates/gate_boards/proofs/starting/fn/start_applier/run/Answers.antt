@@ -1,6 +1,6 @@
 use Rattle.std.proofs.Common.{◌∙◌}
 use Rattle.gate_boards.proofs.Clocked.{goes_shown}
-use Rattle.gate_daemon.proofs.starting.fn.start_applier.run.Goals as goal
+use Rattle.gate_boards.proofs.starting.fn.start_applier.run.Goals as goal
 
 pub returns : goal.returns
 returns g c =
