@@ -12,13 +12,25 @@ use std::marker::Model;
 
 /// What a status page shows: the rows of one moment, and the moment of the close once the page is
 /// marked closing. It owns all of it, so that another thread can write the page.
-#[derive(Drop)]
 pub struct Board {
     moment: Moment,
     objects: Vec<ObjectRow>,
     comments: Vec<CommentRow>,
     downtimes: Vec<DowntimeRow>,
     closing: Option<Moment>,
+}
+
+// Who drops a board calls this, and knows nothing of its parts.
+impl Drop for Board {
+    fn drop(self) {
+        let Board {
+            moment: _,
+            objects: _objects,
+            comments: _comments,
+            downtimes: _downtimes,
+            closing: _,
+        } = self;
+    }
 }
 
 impl Model for Board {

@@ -15,12 +15,22 @@ use std::time::Duration;
 
 /// The taker, which empties a gate's queue. Contracts see its gate, what was taken, what was queued
 /// for the clients taken in, and the moment of the close, once the taker knows of it.
-#[derive(Drop)]
 pub struct Taker {
     pub(crate) pass: Pass<Numbered, View>,
     pub(crate) knowledge: Knowledge,
     // How many items were queued for each client that was taken in, client 1 first.
     pub(crate) counts: Vec<Option<u32>>,
+}
+
+// Who drops a taker calls this, and knows nothing of its parts.
+impl Drop for Taker {
+    fn drop(self) {
+        let Taker {
+            pass: _pass,
+            knowledge: _knowledge,
+            counts: _counts,
+        } = self;
+    }
 }
 
 impl Model for Taker {

@@ -98,13 +98,24 @@ impl fmt::Display for BuildFault {
 impl Error for BuildFault {}
 
 /// The monitored objects: hosts and their services. The index of an object, from 0, is its place.
-#[derive(Drop)]
 pub struct ObjectTable {
     lines: Vec<ObjectLine>,
     keys: Keys,
     services: ServiceLists,
     // How many services the host with the most of them has.
     most: usize,
+}
+
+// Who drops a table calls this, and knows nothing of its parts.
+impl Drop for ObjectTable {
+    fn drop(self) {
+        let ObjectTable {
+            lines: _lines,
+            keys: _keys,
+            services: _services,
+            most: _,
+        } = self;
+    }
 }
 
 impl Model for ObjectTable {
