@@ -2,10 +2,12 @@ ghost use Rattle.std.specs.Prelude.{◌≡◌, ◌+◌, ◌<◌, [], ◌∷◌, 
 ghost use Rattle.gate_core.specs.Merge.{numbered};
 ghost use Rattle.gate_queue.specs.Knowledge.{close_knowledge, Learns, StaysKnown};
 ghost use Rattle.gate_queue.specs.Client.{client_state};
+ghost use Rattle.gate_queue.specs.Taker.{BeginsEach, TakesIn};
 
 use crate::closer::Notice;
 use crate::gate::Gate;
-use crate::rule::{Knowledge, Push, View};
+use crate::rule::{Knowledge, Pop, Push, TakeIn, View};
+use crate::taker::Taker;
 use crossbeam_queue::Pass;
 use gate_core::{Refused, Submit};
 use gate_model::{Body, Moment, Numbered};
@@ -14,13 +16,25 @@ use std::sync::Wait;
 
 /// A client, which submits to a gate. Contracts see its gate, its number, what it was answered is
 /// queued, and the moment of the close, once it knows of it.
-#[derive(Drop)]
 pub struct Client {
     pub(crate) pass: Pass<Numbered, View>,
     pub(crate) knowledge: Knowledge,
     pub(crate) number: u32,
     pub(crate) count: u64,
     pub(crate) quota: u32,
+}
+
+// Who drops a client calls this, and knows nothing of its parts.
+impl Drop for Client {
+    fn drop(self) {
+        let Client {
+            pass: _pass,
+            knowledge: _knowledge,
+            number: _,
+            count: _,
+            quota: _,
+        } = self;
+    }
 }
 
 impl Model for Client {
@@ -85,6 +99,26 @@ impl Client {
                 Err(Refused::Full(body))
             }
         }
+    }
+
+    // The taker takes it in, and learns what it knew of the close.
+    pub(crate) fn go_in(self, gate: &Gate, taker: &mut Taker)
+        requires gate { taker.old.gate ≡ gate.now }
+        requires ended { self.gate ≡ gate.now }
+        ensures list { TakesIn self taker.old taker.new }
+        ensures begins { BeginsEach taker.new }
+    {
+        let Client {
+            pass,
+            knowledge,
+            number,
+            count,
+            quota: _,
+        } = self;
+        gate.ring.absorb::<TakeIn>(&mut taker.pass, pass);
+        gate.ring.learn_as::<Pop>(&mut taker.pass);
+        taker.knowledge.learn(knowledge);
+        taker.counts[number as usize - 1] = Some(count as u32);
     }
 
     /// Looks whether the gate is closing, and returns the moment of the close if it is.

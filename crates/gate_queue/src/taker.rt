@@ -3,10 +3,10 @@ ghost use Rattle.gate_queue.specs.Knowledge.{StaysKnown};
 ghost use Rattle.gate_queue.specs.Taker.{taker_state, queued_of, TakesOne, HasAll, BeginsEach, TakesIn, total_queued};
 ghost use Rattle.gate_queue.specs.inner.Passes.{total_counted};
 
-use crate::client::{Client, Ended};
+use crate::client::Ended;
 use crate::closer::Notice;
 use crate::gate::Gate;
-use crate::rule::{Knowledge, Pop, TakeIn, View};
+use crate::rule::{Knowledge, Pop, View};
 use crossbeam_queue::Pass;
 use gate_model::{Moment, Numbered};
 use std::marker::Model;
@@ -110,17 +110,7 @@ impl Taker {
         ensures list { TakesIn ended self.old self.new }
         ensures begins { BeginsEach self.new }
     {
-        let Client {
-            pass,
-            knowledge,
-            number,
-            count,
-            quota: _,
-        } = ended.into_client();
-        gate.ring.absorb::<TakeIn>(&mut self.pass, pass);
-        gate.ring.learn_as::<Pop>(&mut self.pass);
-        self.knowledge.learn(knowledge);
-        self.counts[number as usize - 1] = Some(count as u32);
+        ended.into_client().go_in(gate, self);
     }
 
     /// Whether the client with this number, from 1, was taken in.
