@@ -91,7 +91,8 @@ impl<'a> Arguments<'a> {
     /// These arguments, numbers, and a comment after its author.
     pub fn with_comment(self, numbers: &[u32], author: &'a Text, text: &'a Text) -> Self
         requires { length self + length numbers.now + 2 ≤ ARGUMENTS }
-        ensures { result ≡ self.entry ++ map value.Number numbers.now ++ value.Text author.now ∷ value.Text text.now ∷ [] }
+        ensures { result ≡ self.entry ++ map value.Number numbers.now
+            ++ value.Text author.now ∷ value.Text text.now ∷ [] }
     {
         self.with_numbers(numbers).with(&[
             Argument::Text(author.bytes()),

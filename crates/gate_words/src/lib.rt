@@ -1,4 +1,5 @@
-//! The words after the program's name, what they ask for, as clap reads them, and what is reported where that is nothing.
+//! The words after the program's name, what they ask for, as clap reads them, and what is reported
+//! where they ask for nothing.
 #![tactic(auto)]
 
 mod fault;
