@@ -1,10 +1,10 @@
 ghost use Rattle.std.specs.Prelude.{◌≡◌, IfOk, OnOk, count_by};
-ghost use Rattle.gate_reader.specs.Sink.{Delivers};
+ghost use Rattle.gate_streams.specs.Sink.{Delivers};
 ghost use Rattle.config_testing.specs.Tested.{IsTested, good_line, is_host, is_service};
 
 use gate_config::{Config, ConfigFault, Key, read_config};
 use gate_model::{Text, push_escaped, push_number};
-use gate_reader::Sink;
+use gate_streams::Sink;
 use gate_table::{ObjectTable, TableFault};
 use near_words::nearest;
 use operator_setup::{ControlFault, print, read_configuration};

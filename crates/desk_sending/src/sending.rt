@@ -8,7 +8,7 @@ ghost use Rattle.desk_sending.specs.Answers.{answer_text};
 use crate::audit::{Sent, audit_line};
 use crate::orders::Order;
 use gate_model::{Body, push_number};
-use gate_reader::Sink;
+use gate_streams::Sink;
 use operator_effects::{Ending, push_message};
 use operator_lines::{AskFault, Reply, ask};
 use std::alloc::{AllocError, Global};

@@ -8,8 +8,8 @@ use Rattle.gate_model.specs.declared.record.Record.{Record}
 use Rattle.gate_model.specs.declared.submission.Numbered.{Numbered}
 use Rattle.gate_model.specs.Record.{later}
 use Rattle.gate_applier.specs.Applier.{ApplierView}
-use Rattle.gate_reader.specs.Clock.{ClockState, Shows, Takes}
-use Rattle.gate_reader.proofs.Readings.{takes_none, takes_append}
+use Rattle.gate_environment.specs.Clock.{ClockState, Shows, Takes}
+use Rattle.gate_environment.proofs.Readings.{takes_none, takes_append}
 use Rattle.gate_boards.specs.Applying.{Reading, moments_of, latest_of, record_at, records_by, GoesByClock, IsSameLog, AreShown}
 
 moments_append : (xs ys : List Reading) → moments_of (xs ++ ys) ≡ moments_of xs ++ moments_of ys

@@ -7,7 +7,7 @@ use Rattle.gate_model.specs.Record.{items_of_records, later}
 use Rattle.gate_applier.specs.Applier.{ApplierView}
 use Rattle.gate_queue.specs.Gate.{GateId}
 use Rattle.gate_queue.specs.Taker.{TakerState}
-use Rattle.gate_reader.specs.Clock.{Takes, ClockState}
+use Rattle.gate_environment.specs.Clock.{Takes, ClockState}
 
 -- it is a log of the same table and limit, opened at the same moment
 pub record IsSameLog (old new : ApplierView) : Type 0 where

@@ -9,11 +9,10 @@ ghost use Rattle.gate_boards.specs.declared.boards.Found.TheVariants.{Nothing};
 
 use crate::boards::{Found, LastBoard, show, show_last};
 use gate_applier::{Applier, PrepareCause, PrepareFault};
+use gate_environment::times::PAUSE_MILLIS;
+use gate_environment::{Clock, Hold, Point, pause};
 use gate_pages::Board;
 use gate_queue::{Gate, Taker};
-use gate_reader::Clock;
-use gate_worker::times::PAUSE_MILLIS;
-use gate_worker::{Hold, Point, pause};
 use std::alloc::Global;
 use std::sync::{Mutex, Wait};
 use std::time;

@@ -3,10 +3,10 @@ ghost use Rattle.gate_boards.specs.Boards.{is_due, pauses_after, shows_all};
 ghost use Rattle.gate_boards.specs.inner.Publishing.{IsTried};
 
 use gate_applier::Applier;
+use gate_environment::pause;
+use gate_environment::times::{BOARD_PAUSES, MEMORY_TRIES, PAUSE_MILLIS, QUIET_PAUSES};
 use gate_model::Moment;
 use gate_pages::{Board, publish};
-use gate_worker::pause;
-use gate_worker::times::{BOARD_PAUSES, MEMORY_TRIES, PAUSE_MILLIS, QUIET_PAUSES};
 use std::alloc::{AllocError, Global};
 use std::sync::{Mutex, Wait};
 use std::time::{Clock, Duration};

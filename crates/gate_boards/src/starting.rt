@@ -3,10 +3,10 @@ ghost use Rattle.gate_boards.specs.Applying.{AreShown, IsApplied, IsSameLog};
 
 use crate::applying::{ApplierStop, run_applier};
 use gate_applier::Applier;
+use gate_environment::{Hold, SharedClock, Unstarted, Watch};
 use gate_pages::Board;
-use gate_pool::{Shared, Unstarted};
 use gate_queue::{Gate, Taker};
-use gate_worker::{Hold, SharedClock, Watch};
+use std::alloc::Global;
 use std::snapshot::Snapshot;
 use std::sync::{Mutex, Wait};
 use std::thread::{Promise, PromisedHandle, Scope, Threads};
@@ -39,28 +39,23 @@ pub fn start_applier<
     R: Threads + Wait + Clock + Sync,
     K: Watch + Sync,
     A: Hold + Send + Drop + 's,
-    W,
 >(
-    shared: &Shared<'s, R, K, W>,
+    rt: &'s R,
+    alloc: Global,
+    gate: &'s Gate,
+    clock: &'s K,
     scope: &Scope<'s, E>,
     taker: Taker,
     applier: Applier,
     hold: A,
     board: &'s Mutex<Board>,
 ) -> Result<PromisedHandle<(Taker, Applier, ApplierStop), KeepsLog<'s, K>>, Unstarted>
-    requires { IsApplied shared.now.gate.now taker applier }
-    ensures { IfOk result (λ handle. (handle.promise.gate.now ≡ shared.now.gate.now)
-        × (handle.promise.clock.now ≡ shared.now.clock.now)
+    requires { IsApplied gate.now taker applier }
+    ensures { IfOk result (λ handle. (handle.promise.gate.now ≡ gate.now)
+        × (handle.promise.clock.now ≡ clock.now)
         × (handle.promise.before.value ≡ applier)) }
 {
     let before = Snapshot::of(&applier);
-    let Shared {
-        rt,
-        alloc,
-        gate,
-        clock,
-        ..
-    } = *shared;
     let run = move || -> (Taker, Applier, ApplierStop)
         requires { IsApplied gate.now taker applier }
         ensures { IsApplied gate.entry.now result.0 result.1 × IsSameLog applier result.1

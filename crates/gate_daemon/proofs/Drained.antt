@@ -15,9 +15,9 @@ use Rattle.gate_queue.specs.Client.{ClientState}
 use Rattle.gate_queue.specs.Gate.{GateId}
 use Rattle.gate_close.specs.DrainedClose.{is_present, queued_by, CloseParts, AppliesMore, CanClose, IsCloseAllFault, IsLeastMissing, IsStopped, LeavesSome}
 use Rattle.gate_worker.specs.Numbers.{numbers_after}
-use Rattle.gate_pool.specs.Answered.{HoldsAll}
+use Rattle.gate_worker.specs.Answered.{HoldsAll}
 use Rattle.gate_opening.specs.Faults.{LosesNothing, IsUndrained}
-use Rattle.gate_pool.specs.Collecting.{numbers_of, queued_for_each}
+use Rattle.gate_worker.specs.Collecting.{numbers_of, queued_for_each}
 use Rattle.gate_daemon.proofs.Merged.{AreHeld, all_merged, holds_all}
 
 -- ---- no client is missing

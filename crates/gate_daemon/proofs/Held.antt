@@ -9,8 +9,8 @@ use Rattle.gate_queue.specs.Client.{ClientState, client_state}
 use Rattle.gate_reader.specs.declared.report.Report.{Report}
 use Rattle.gate_worker.specs.declared.limits.WorkerLimits.{WorkerLimits}
 use Rattle.gate_worker.specs.declared.worker.Cause.{Cause}
-use Rattle.gate_pool.specs.Served.{unlimited, EndsSo, EachServed, AllServed}
-use Rattle.gate_pool.specs.Collecting.{EachEnded, AllEnded}
+use Rattle.gate_worker.specs.Served.{unlimited, EndsSo, EachServed, AllServed}
+use Rattle.gate_worker.specs.Collecting.{EachEnded, AllEnded}
 use Rattle.gate_daemon.proofs.Merged.{AreHeld}
 
 each_held : (limits : WorkerLimits) (shows : Moment → Type 0) (gate : GateId) (number : ℕ) (agents : List (Option (List (List ℕ)))) (clients : List ClientState) (reports : List (ℕ × List Report)) (log : List Numbered)

@@ -9,8 +9,8 @@ use Rattle.gate_queue.specs.Client.{ClientState}
 use Rattle.gate_queue.specs.Taker.{ended_list, queued_of}
 use Rattle.gate_close.specs.DrainedClose.{lists_with, queued_by}
 use Rattle.gate_worker.specs.Numbers.{item_numbers, numbers_after}
-use Rattle.gate_pool.specs.Answered.{HoldsAll}
-use Rattle.gate_pool.specs.Collecting.{numbers_of, queued_for_each}
+use Rattle.gate_worker.specs.Answered.{HoldsAll}
+use Rattle.gate_worker.specs.Collecting.{numbers_of, queued_for_each}
 
 -- ---- distinct numbers
 

@@ -15,7 +15,7 @@ use Rattle.gate_daemon.specs.Faults.{AreShownUntil}
 use Rattle.gate_opening.specs.Faults.{IsGatewayFault}
 use Rattle.gate_opening.specs.declared.fault.GatewayFault.{GatewayFault}
 use Rattle.gate_opening.specs.declared.fault.GatewayFault.TheVariants as fault
-use Rattle.gate_pool.specs.Collecting.{AllEnded}
+use Rattle.gate_worker.specs.Collecting.{AllEnded}
 use Rattle.gate_opening.specs.Opening.{IsUnopened}
 
 -- ---- it can't be opened

@@ -1,4 +1,4 @@
-use gate_pool::Endpoint;
+use gate_worker::Endpoint;
 
 /// What the threads of a gateway serve, and their holds.
 #[derive(Drop)]

@@ -2,12 +2,12 @@ ghost use Rattle.std.specs.Prelude.{◌≡◌, ◌+◌, ◌≤◌, ℕ, List, []
 ghost use Rattle.gate_model.specs.Record.{items_of_records};
 ghost use Rattle.gate_queue.specs.Client.{client_state};
 ghost use Rattle.gate_worker.specs.declared.limits.WorkerLimits.{WorkerLimits};
-ghost use Rattle.gate_pool.specs.Answered.{reports_of_each, queued_by_each, HoldsAll};
+ghost use Rattle.gate_worker.specs.Answered.{reports_of_each, queued_by_each, HoldsAll};
 ghost use Rattle.gate_boards.specs.Applying.{AreShown, IsSameLog};
 ghost use Rattle.gate_daemon.specs.Faults.{AreShownUntil};
 ghost use Rattle.gate_opening.specs.Faults.{IsGatewayFault};
-ghost use Rattle.gate_pool.specs.Served.{AllServed};
-ghost use Rattle.gate_pool.specs.Collecting.{AllEnded};
+ghost use Rattle.gate_worker.specs.Served.{AllServed};
+ghost use Rattle.gate_worker.specs.Collecting.{AllEnded};
 ghost use Rattle.gate_daemon.specs.inner.Joining.{AreJoined, HaveRun, IsStart};
 
 use crate::endpoints::Endpoints;
@@ -15,10 +15,10 @@ use crate::joined::Joined;
 use crate::settings::GatewaySettings;
 use crate::threads::{run_threads, start_on};
 use gate_close::close_all;
+use gate_environment::{Connections, Hold, Unstarted, Wake, Watch};
 use gate_opening::{Finished, GatewayFault, open_parts};
-use gate_pool::{Collected, Shared, Unstarted};
 use gate_queue::Gate;
-use gate_worker::{Connections, Hold, Wake, Watch};
+use gate_worker::{Collected, Shared};
 use std::alloc::Global;
 use std::sync::Wait;
 use std::thread;

@@ -1,7 +1,6 @@
 use gate_applier::Applier;
-use gate_pool::Collected;
 use gate_queue::Taker;
-use gate_worker::Cause;
+use gate_worker::{Cause, Collected};
 
 // What the threads of a gateway returned.
 #[derive(Drop)]

@@ -6,12 +6,12 @@ use crate::endpoints::Endpoints;
 use crate::joined::Joined;
 use gate_applier::Applier;
 use gate_boards::start_applier;
+use gate_environment::{Connections, Hold, Unstarted, Wake, Watch};
 use gate_opening::{Opening, Parts};
 use gate_pages::Board;
-use gate_pool::{Closable, Shared, Unstarted, Workers, close_gate, run_workers};
 use gate_queue::{Closer, Gate, Taker};
 use gate_showing::{end_pages, start_pages};
-use gate_worker::{Connections, Hold, Wake, Watch};
+use gate_worker::{Closable, Shared, Workers, close_gate, run_workers};
 use std::sync::{Mutex, Wait};
 use std::thread::{Scope, Threads};
 use std::time::Clock;
@@ -108,16 +108,23 @@ pub(crate) fn run_threads<
         pages,
         hold,
     } = start;
-    let Shared { rt, alloc, .. } = *shared;
+    let Shared {
+        rt,
+        alloc,
+        gate,
+        clock,
+        ..
+    } = *shared;
     let closable = &Closable {
         shared,
         closer: &closer,
     };
-    let Ok(applies) = start_applier(shared, scope, taker, applier, hold, board) else {
+    let Ok(applies) = start_applier(rt, alloc, gate, clock, scope, taker, applier, hold, board)
+    else {
         drop((workers, pages));
         return Err(Unstarted);
     };
-    let Ok(shows) = start_pages(shared, scope, pages, board) else {
+    let Ok(shows) = start_pages(rt, alloc, scope, pages, board) else {
         drop(close_gate(closable));
         drop((applies.join(rt), workers));
         return Err(Unstarted);

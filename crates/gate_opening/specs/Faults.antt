@@ -11,7 +11,7 @@ use Rattle.gate_queue.specs.Gate.{GateId}
 use Rattle.gate_close.specs.declared.drained_close.CloseAllCause.{CloseAllCause}
 use Rattle.gate_close.specs.declared.drained_close.CloseAllCause.TheVariants as cause
 use Rattle.gate_close.specs.DrainedClose.{queued_by, CloseParts, close_parts, CanClose, LeavesSome}
-use Rattle.gate_pool.specs.Answered.{reports_of_each, queued_by_each, HoldsAll}
+use Rattle.gate_worker.specs.Answered.{reports_of_each, queued_by_each, HoldsAll}
 use Rattle.gate_opening.specs.declared.fault.GatewayFault.{GatewayFault}
 use Rattle.gate_opening.specs.declared.fault.GatewayFault.TheVariants as fault
 

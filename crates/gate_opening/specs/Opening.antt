@@ -9,7 +9,7 @@ use Rattle.gate_opening.specs.declared.opening.Opening.{Opening}
 use Rattle.gate_opening.specs.declared.opening.Parts.{Parts}
 use Rattle.gate_opening.specs.declared.fault.GatewayFault.{GatewayFault}
 use Rattle.gate_opening.specs.declared.fault.GatewayFault.TheVariants as fault
-use Rattle.gate_pool.specs.Joining.{HasRoom}
+use Rattle.gate_worker.specs.Joining.{HasRoom}
 
 -- the parts of a new gate, with a client for each of so many agents' workers and one more, the operator's
 pub record IsOpening (workers : ℕ) (opening : Opening) : Type 0 where

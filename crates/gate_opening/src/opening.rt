@@ -6,9 +6,9 @@ use crate::fault::GatewayFault;
 use gate_applier::Applier;
 use gate_model::Moment;
 use gate_pages::Board;
-use gate_pool::Collected;
 use gate_queue::{Client, Closer, Gate, Taker, open};
 use gate_table::ObjectTable;
+use gate_worker::Collected;
 use std::alloc::Global;
 use std::sync::Mutex;
 

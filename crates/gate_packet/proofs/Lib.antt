@@ -1,7 +1,3 @@
-mod CheckWordBits
-mod CheckWordShares
-mod CheckWordBlocks
-mod CheckWordTables
 pub mod Texts
 pub mod ContentFaults
 pub mod PacketFaults

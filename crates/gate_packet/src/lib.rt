@@ -7,8 +7,6 @@
 
 mod block;
 mod block_ref;
-mod check_word;
-mod check_word_tables;
 mod decoding;
 mod encoding;
 mod laws;
@@ -17,9 +15,9 @@ mod stream;
 
 pub use block::Block;
 pub use block_ref::{BlockRef, split_block};
-pub use check_word::crc32;
 pub use decoding::{PacketFault, decode, decode_block, decode_short, one_reading};
 pub use encoding::{encode, encode_short, fits_short};
+pub use gate_check_word::crc32;
 pub use laws::{round_trip, round_trip_short};
 pub use packet::{ContentFault, Field, PACKET_SIZE, Packet, RefusedPacket, SHORT_PACKET_SIZE};
 pub use stream::{Cutter, one_cut};

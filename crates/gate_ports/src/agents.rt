@@ -1,12 +1,12 @@
 ghost use Rattle.std.specs.Prelude.{◌≡◌, ◌≤◌, length, IfOk, IfSome, ◌+◌, ◌-◌, ◌<◌, ◌↔◌, ◌⊎◌, true, IsTrue};
 ghost use Rattle.std.specs.Duration.{as_nanos};
 
-use gate_packet::SHORT_PACKET_SIZE;
-use gate_reader::{Sink, Source};
-use gate_worker::times::{
+use gate_environment::times::{
     CROWDED_MILLIS, FIRST_BYTES_MILLIS, GREETING_MILLIS, NEXT_BYTES_MILLIS, TURN_MILLIS,
 };
-use gate_worker::{Connections, pause};
+use gate_environment::{Connections, pause};
+use gate_packet::SHORT_PACKET_SIZE;
+use gate_streams::{Sink, Source};
 use libc::net::{POLLIN, SHUT_RDWR, poll, shutdown};
 use libc::types::pollfd;
 use std::alloc::Global;

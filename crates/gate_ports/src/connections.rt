@@ -1,9 +1,9 @@
 ghost use Rattle.std.specs.Prelude.{◌≡◌, length};
 
 use crate::port::Port;
-use gate_reader::{Sink, Source};
-use gate_worker::Connections;
-use gate_worker::times::LAST_READER_MILLIS;
+use gate_environment::Connections;
+use gate_environment::times::LAST_READER_MILLIS;
+use gate_streams::{Sink, Source};
 use std::io;
 use std::sync::Wait;
 use std::time::{Clock, Duration, Instant};

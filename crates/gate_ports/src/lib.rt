@@ -1,6 +1,6 @@
 //! The daemon's ports over real sockets: of agents, whom workers serve one at a time each, and of
 //! operators and readers of pages, for all of whom one thread waits at once. No peer keeps another one
-//! waiting, nor the daemon from ending, for longer than the times of `gate_worker::times` allow.
+//! waiting, nor the daemon from ending, for longer than the times of `gate_environment::times` allow.
 #![tactic(auto)]
 
 mod agents;

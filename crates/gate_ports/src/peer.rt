@@ -3,7 +3,9 @@ ghost use Rattle.gate_ports.specs.Waiting.{limit_of, since_after};
 
 use crate::lines::Lines;
 use bytes::BytesMut;
-use gate_worker::times::{ANSWER_MILLIS, LAST_MILLIS, LINE_MILLIS, PAGE_MILLIS, PARTING_MILLIS};
+use gate_environment::times::{
+    ANSWER_MILLIS, LAST_MILLIS, LINE_MILLIS, PAGE_MILLIS, PARTING_MILLIS,
+};
 use mio::net::TcpStream;
 use std::alloc::Global;
 use std::io;

@@ -1,7 +1,7 @@
 ghost use Rattle.std.specs.Prelude.{◌≡◌, ◌≤◌, length, IfOk, IfSome};
 
 use crate::peer::{Peer, Role, Stage};
-use gate_worker::times::ACCEPT_MILLIS;
+use gate_environment::times::ACCEPT_MILLIS;
 use libc::net::{SHUT_RDWR, shutdown};
 use mio::net::TcpListener;
 use mio::{Events, Interest, Poll, Token};

@@ -1,6 +1,6 @@
 use crate::agents::AgentsPort;
 use crate::port::{OperatorsPort, PagesPort};
-use gate_worker::Wake;
+use gate_environment::Wake;
 
 /// The ports of a daemon.
 #[derive(Drop)]

@@ -1,5 +1,5 @@
+use gate_environment::Watch;
 use gate_model::Moment;
-use gate_worker::Watch;
 use std::time::{Clock, SystemTime};
 
 /// The clock of the system, in whole seconds since 1970. One that can't be read stands at 0, where

@@ -1,18 +1,17 @@
 ghost use Rattle.std.specs.Prelude.{◌≡◌, ◌<◌, ◌≤◌, [], length, IfOk, IfErr, OnOk, OnErr, IfSome, Some, None, ⊤};
-ghost use Rattle.gate_reader.specs.Sink.{Delivers, FailsOnce};
+ghost use Rattle.gate_streams.specs.Sink.{Delivers, FailsOnce};
 ghost use Rattle.gate_reader.specs.Report.{AreOpen};
 ghost use Rattle.gate_reader.specs.Session.{client_view, parties, AnswersFront};
 ghost use Rattle.gate_reader.specs.Packets.{greeting, packets, IsPacketSession};
 ghost use Rattle.gate_reader.specs.inner.Progress.{AnswersOneBlock, IsLastBlock, stop_by, ServesFront, AreLast, Runs};
 
-use crate::clock::Clock;
 use crate::read_buffer::ReadBuffer;
 use crate::report::{Answer, Answers, Report, SessionLimits, Stop, is_open, submit_body};
-use crate::sink::{Sink, put_last};
-use crate::source::Source;
 use gate_core::Submit;
+use gate_environment::Clock;
 use gate_model::Moment;
 use gate_packet::{BlockRef, PacketFault, split_block};
+use gate_streams::{Sink, Source, put_last};
 use std::alloc::Global;
 use std::io;
 

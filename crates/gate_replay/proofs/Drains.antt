@@ -8,7 +8,7 @@ use Rattle.gate_model.specs.Record.{later}
 use Rattle.gate_core.specs.declared.event.Event.TheVariants.{Take}
 use Rattle.gate_core.specs.Legal.{take_reply}
 use Rattle.gate_applier.specs.Applier.{ApplierView}
-use Rattle.gate_reader.specs.Sink.{SinkState}
+use Rattle.gate_streams.specs.Sink.{SinkState}
 use Rattle.gate_replay.specs.declared.player.Player.{Player}
 use Rattle.gate_replay.specs.declared.player.Stopped.{Stopped}
 use Rattle.gate_replay.specs.declared.player.Stopped.TheVariants as stopped

@@ -8,3 +8,5 @@ pub mod PlaySteps
 pub mod ReplayTexts
 pub mod ReplayEnds
 pub mod OneReplay
+pub mod Numbers
+pub mod Looks

@@ -22,9 +22,9 @@ use Rattle.gate_core.specs.declared.submit.Refused.TheVariants as refused
 use Rattle.gate_core.specs.Limits.{Limits, limits_of, default_quota}
 use Rattle.gate_core.specs.Merge.{IsClient, of_client}
 use Rattle.gate_core.specs.Legal.{Run, queued, taken, has_joined, reply_after, close_reply, IsLegal}
-use Rattle.gate_solo.specs.Allowed.{IsAllowed}
-use Rattle.gate_solo.specs.Ending.{with_ends}
-use Rattle.gate_solo.specs.laws.Allowing.{legal_allowed}
+use Rattle.gate_replay.specs.Allowed.{IsAllowed}
+use Rattle.gate_replay.specs.Ending.{with_ends}
+use Rattle.gate_replay.specs.laws.Allowing.{legal_allowed}
 use Rattle.gate_reader.specs.declared.report.Answer.TheVariants as answer
 use Rattle.gate_reader.specs.Report.{answer_line}
 use Rattle.gate_replay.specs.declared.script.Step.{Step}

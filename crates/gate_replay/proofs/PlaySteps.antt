@@ -10,13 +10,13 @@ use Rattle.gate_grammar.specs.declared.faults.LineFault.{LineFault}
 use Rattle.gate_grammar.specs.Parsing.{text_before}
 use Rattle.gate_core.specs.Limits.{Limits}
 use Rattle.gate_core.specs.Legal.{Run}
-use Rattle.gate_solo.specs.Allowed.{IsAllowed}
+use Rattle.gate_replay.specs.Allowed.{IsAllowed}
 use Rattle.gate_applier.specs.Applier.{ApplierView}
 use Rattle.gate_pages.specs.StatusPage.{status_text_at}
 use Rattle.gate_reader.specs.declared.report.Answer.{Answer}
 use Rattle.gate_reader.specs.declared.report.Report.{Report}
 use Rattle.gate_reader.specs.Report.{answer_line}
-use Rattle.gate_reader.specs.Sink.{SinkState, Fails, Writes}
+use Rattle.gate_streams.specs.Sink.{SinkState, Fails, Writes}
 use Rattle.gate_replay.specs.declared.fault.ReplayFault.{ReplayFault}
 use Rattle.gate_replay.specs.declared.fault.ReplayFault.TheVariants as replay_fault
 use Rattle.gate_replay.specs.declared.player.Player.{Player}
@@ -28,7 +28,7 @@ use Rattle.gate_replay.specs.declared.setup.Setup.{Setup}
 use Rattle.gate_replay.specs.ReplayState.{ReplayState, Heard, prints, asks, body_of_line, carries_out, is_session, serves, drains, plays, state_after, steps_of, records_item, Finishes, IsWholeStep, IsWhole, BeginsDrain, IsBegunStep, IsWholeSoFar}
 use Rattle.gate_replay.specs.inner.Sessions.{queued_in, HasOnly, PrintsAnswer, Answers, AnswersStep}
 use Rattle.gate_replay.specs.inner.Playing.{SoloView, Setting, setting, Shows, IsNew, IsUnderWay, IsReady, Ends, Stays, DrainsTo, PlaysTo, PlayedTo, PlayedPart, IsWriteEnd, StopsBefore, PlaysFrom, StopsPlaying, StopsAll, DrainsFrom, StopsDraining}
-use Rattle.gate_reader.proofs.Outputs.{fails_then, writes_none, writes_on}
+use Rattle.gate_streams.proofs.Outputs.{fails_then, writes_none, writes_on}
 use Rattle.gate_replay.proofs.SoloSteps.{queued_few, records_on}
 
 abbrev nothing_heard : List (Option Numbered) → Heard

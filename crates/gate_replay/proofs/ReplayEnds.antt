@@ -7,19 +7,19 @@ use Rattle.gate_model.specs.declared.record.Record.{Record}
 use Rattle.gate_model.specs.Meaning.{outcomes_of}
 use Rattle.gate_core.specs.Limits.{Limits, limits_of, default_quota}
 use Rattle.gate_core.specs.Legal.{Run}
-use Rattle.gate_solo.specs.Ending.{with_ends}
+use Rattle.gate_replay.specs.Ending.{with_ends}
 use Rattle.gate_applier.specs.Applier.{ApplierView}
 use Rattle.gate_lines.specs.LogPage.{log_text}
-use Rattle.gate_reader.specs.Sink.{SinkState, Writes, Delivers, FailsOnce}
+use Rattle.gate_streams.specs.Sink.{SinkState, Writes, Delivers, FailsOnce}
 use Rattle.gate_replay.specs.declared.fault.ReplayFault.{ReplayFault}
 use Rattle.gate_replay.specs.declared.fault.ReplayFault.TheVariants.{TooLong, Line, LogFull, OutOfMemory, ReadFault, WriteFault}
 use Rattle.gate_replay.specs.declared.player.Player.{Player}
 use Rattle.gate_replay.specs.declared.script.Script.{Script}
 use Rattle.gate_replay.specs.Replay.{printed_by}
 use Rattle.gate_replay.specs.ReplayState.{ReplayState, state_after, IsWhole, IsPlayedSoFar}
-use Rattle.gate_reader.specs.Fault.{fault_in}
+use Rattle.gate_streams.specs.Fault.{fault_in}
 use Rattle.gate_replay.specs.inner.Playing.{SoloView, setting, ShowsRecords, Shows, Ends, IsShown, IsShownSoFar, IsEnded, PlayedTo, PlayedPart, IsLogEnd, IsPrinted, IsPrintedSoFar, EndsPlaying}
-use Rattle.gate_reader.proofs.Outputs.{fails_then, delivers_on}
+use Rattle.gate_streams.proofs.Outputs.{fails_then, delivers_on}
 use Rattle.gate_replay.proofs.PlaySteps.{whole_so_far}
 
 page_again : (table other : List ObjectLine) (records more : List Record) → records ≡ more → table ≡ other → log_text records (outcomes_of table records) ≡ log_text more (outcomes_of other more)

@@ -8,7 +8,7 @@ use Rattle.gate_replay.specs.declared.fault.ReplayFault.{ReplayFault}
 use Rattle.gate_replay.specs.declared.fault.ReplayFault.TheVariants.{TooLong, Line, LogFull, OutOfMemory, ReadFault, WriteFault}
 use Rattle.gate_replay.specs.declared.script.Script.{Script}
 use Rattle.gate_replay.specs.Script.{parsed_script_lines, IsScript}
-use Rattle.gate_reader.specs.Sink.{SinkState, FailsOnce}
+use Rattle.gate_streams.specs.Sink.{SinkState, FailsOnce}
 use Rattle.gate_replay.specs.Replay.{IsWholeInput, EndsWith}
 use Rattle.gate_replay.specs.inner.Playing.{IsPrintedSoFar, EndsPlaying}
 

@@ -22,8 +22,8 @@ use Rattle.gate_core.specs.Merge.{numbered, of_client}
 use Rattle.gate_core.specs.Legal.{Run, all_queued, queued, close_reply}
 use Rattle.gate_core.specs.LocalClient.{submitted, closed_by}
 use Rattle.gate_core.proofs.Merges.{of_client-append}
-use Rattle.gate_solo.specs.Allowed.{IsAllowed}
-use Rattle.gate_solo.proofs.Numbers.{allowed_numbers}
+use Rattle.gate_replay.specs.Allowed.{IsAllowed}
+use Rattle.gate_replay.proofs.Numbers.{allowed_numbers}
 use Rattle.gate_reader.specs.declared.report.Answer.{Answer}
 use Rattle.gate_reader.specs.declared.report.Answer.TheVariants as answer
 use Rattle.gate_reader.specs.Report.{answer_to, answer_line}

@@ -5,4 +5,9 @@ pub mod Script
 pub mod Fault
 pub mod ReplayState
 pub mod Replay
+pub mod Allowed
+pub mod SoloWorld
+pub mod SoloGate
+pub mod Ending
+pub mod laws
 pub mod inner

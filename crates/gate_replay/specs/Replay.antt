@@ -6,8 +6,8 @@ use Rattle.std.specs.Prelude.{◌≡◌, ℕ, ◌<◌, ◌≤◌, ◌⊎◌, Opt
 use Rattle.gate_model.specs.Meaning.{outcomes_of}
 use Rattle.gate_core.specs.Limits.{Limits}
 use Rattle.gate_core.specs.Legal.{Run}
-use Rattle.gate_reader.specs.Fault.{status_at_end, IsFaultReported}
-use Rattle.gate_reader.specs.Sink.{SinkState, Delivers, FailsOnce}
+use Rattle.gate_streams.specs.Fault.{status_at_end, IsFaultReported}
+use Rattle.gate_streams.specs.Sink.{SinkState, Delivers, FailsOnce}
 use Rattle.gate_lines.specs.LogPage.{log_text}
 use Rattle.gate_replay.specs.declared.script.Script.{Script}
 use Rattle.gate_replay.specs.declared.fault.ReplayFault.{ReplayFault}

@@ -21,7 +21,7 @@ use Rattle.gate_core.specs.declared.submit.Refused.{Refused}
 use Rattle.gate_core.specs.Limits.{Limits, limits_of, default_quota}
 use Rattle.gate_core.specs.Legal.{Run, queued, close_reply}
 use Rattle.gate_core.specs.LocalClient.{submitted}
-use Rattle.gate_solo.specs.Ending.{with_ends}
+use Rattle.gate_replay.specs.Ending.{with_ends}
 use Rattle.gate_reader.specs.declared.report.Answer.TheVariants.{Stale, Bad, Down}
 use Rattle.gate_reader.specs.Report.{answer_to, answer_line}
 use Rattle.gate_pages.specs.StatusPage.{status_text_at}

@@ -1,11 +1,11 @@
 ghost use Rattle.std.specs.Prelude.{◌≡◌, ◌≢◌, length, IfOk, IfErr, OnOk};
 ghost use Rattle.gate_core.specs.Legal.{Run};
-ghost use Rattle.gate_reader.specs.Sink.{SinkState};
+ghost use Rattle.gate_streams.specs.Sink.{SinkState};
 ghost use Rattle.gate_replay.specs.inner.Playing.{solo_view, IsUnderWay, Takes, DrainsFrom, StopsPreparing, StopsTaking, StopsDraining};
 
 use crate::player::{Player, Stopped};
+use crate::solo_queue::SoloQueue;
 use gate_applier::{Applier, PrepareCause, PrepareFault, Ready};
-use gate_solo::SoloQueue;
 
 // Makes room for a record, or stops.
 fn prepare(applier: Applier) -> Result<Ready, Stopped>

@@ -2,10 +2,10 @@ ghost use Rattle.std.specs.Prelude.{◌≡◌, ◌≢◌, ◌++◌, ◌⊎◌, c
 ghost use Rattle.std.specs.Fmt.{decimal};
 ghost use Rattle.std.specs.IoError.{error_kind};
 ghost use Rattle.gate_replay.specs.Fault.{message_of};
-ghost use Rattle.gate_reader.specs.Sink.{Delivers, FailsOnce};
+ghost use Rattle.gate_streams.specs.Sink.{Delivers, FailsOnce};
 
 use crate::script::ScriptFault;
-use gate_reader::{Fault, Sink, put_last, put_numbered};
+use gate_streams::{Fault, Sink, put_last, put_numbered};
 use std::alloc::AllocError;
 use std::error::Error;
 use std::io::ErrorKind;

@@ -3,7 +3,7 @@ ghost use Rattle.gate_model.specs.declared.record.Record.{Record};
 ghost use mathlib.Core.List.{IsPrefix};
 ghost use Rattle.gate_core.specs.Merge.{IsClient, of_client};
 ghost use Rattle.gate_core.specs.Legal.{taken, queued, IsLegal};
-ghost use Rattle.gate_solo.specs.Allowed.{IsAllowed};
+ghost use Rattle.gate_replay.specs.Allowed.{IsAllowed};
 ghost use Rattle.gate_replay.specs.declared.script.Step.{Step};
 ghost use Rattle.gate_replay.specs.declared.setup.Setup.{Setup};
 ghost use Rattle.gate_replay.specs.declared.script.Script.{Script};

@@ -1,7 +1,7 @@
 ghost use Rattle.std.specs.Prelude.{◌≡◌, ◌+◌, ◌<◌, ◌^◌, [], IfOk, IfErr, OnOk};
 ghost use Rattle.gate_core.specs.Limits.{limits_of, default_quota};
 ghost use Rattle.gate_core.specs.Legal.{Run};
-ghost use Rattle.gate_reader.specs.Sink.{Writes};
+ghost use Rattle.gate_streams.specs.Sink.{Writes};
 ghost use Rattle.gate_pages.specs.StatusPage.{status_text_at};
 ghost use Rattle.gate_replay.specs.declared.script.Step.TheVariants as step;
 ghost use Rattle.gate_replay.specs.declared.setup.Setup.{Setup};
@@ -12,11 +12,12 @@ use crate::fault::{ReplayFault, io_fault};
 use crate::script::Step;
 use crate::sessions::{only_answer, serve_line, serve_packet};
 use crate::setup::Setup;
+use crate::solo_queue::SoloQueue;
 use gate_applier::{Applier, OpenCause, OpenFault};
 use gate_model::Moment;
 use gate_pages::{Board, status_page};
-use gate_reader::{Answer, Report, Sink, answer_line};
-use gate_solo::SoloQueue;
+use gate_reader::{Answer, Report, answer_line};
+use gate_streams::Sink;
 use std::alloc::{AllocError, Global};
 
 /// A replay under way, over a queue that is this queue.

@@ -16,12 +16,13 @@ ghost use Rattle.gate_replay.specs.inner.Sessions.{HasOnly, BeginsWith, AnswersP
 
 use crate::script_line::PacketForm;
 use crate::sent_packet::SentPacket;
+use crate::solo_queue::SoloQueue;
 use gate_core::{Operator, Submit};
+use gate_environment::FixedClock;
 use gate_grammar::round_trip;
 use gate_model::{Moment, Text};
 use gate_packet::{encode, encode_short, one_reading};
-use gate_reader::{Answer, FixedClock, Report, SessionLimits, Stop, serve_lines, serve_packets};
-use gate_solo::SoloQueue;
+use gate_reader::{Answer, Report, SessionLimits, Stop, serve_lines, serve_packets};
 use std::alloc::{AllocError, Global};
 
 /// The client of every packet.

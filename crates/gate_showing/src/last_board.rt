@@ -1,10 +1,10 @@
 ghost use Rattle.std.specs.Prelude.{◌≡◌, IsSome};
 
 use gate_applier::Applier;
+use gate_environment::times::MEMORY_TRIES;
+use gate_environment::{Wake, pause};
 use gate_model::Moment;
 use gate_pages::{Board, publish};
-use gate_worker::times::MEMORY_TRIES;
-use gate_worker::{Wake, pause};
 use std::alloc::Global;
 use std::sync::{Mutex, Wait};
 use std::time::Clock;

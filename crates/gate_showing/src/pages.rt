@@ -1,10 +1,10 @@
 ghost use Rattle.gate_showing.specs.Showing.{ShowsBoard};
 ghost use Rattle.gate_showing.specs.inner.Making.{IsMadeOf};
 
+use gate_environment::times::MEMORY_TRIES;
+use gate_environment::{Connections, pause};
 use gate_pages::{Board, status_page};
-use gate_reader::{Sink, put_last};
-use gate_worker::times::MEMORY_TRIES;
-use gate_worker::{Connections, pause};
+use gate_streams::{Sink, put_last};
 use std::alloc::{AllocError, Global};
 use std::sync::{Mutex, Wait};
 use std::time::Clock;

@@ -5,7 +5,7 @@ use Rattle.std.specs.declared.alloc.AllocError.{AllocError}
 use Rattle.std.specs.declared.net.socket_addr.SocketAddr.{SocketAddr}
 use Rattle.std.proofs.lemmas.List.{append-nil}
 use Rattle.gate_config.specs.declared.config.Config.{Config}
-use Rattle.gate_reader.specs.Sink.{SinkState, Delivers}
+use Rattle.gate_streams.specs.Sink.{SinkState, Delivers}
 use Rattle.gate_start.specs.declared.fault.ServeFault.{ServeFault}
 use Rattle.gate_start.specs.declared.fault.ServeFault.TheVariants as fault
 use Rattle.gate_start.specs.BeforeServing.{Configures, AreBoundAs, EndsBefore, FollowsAddresses, IsAddressIn, IsBindEnd, IsConfigEnd, IsWriteEnd, address_lines}

@@ -3,7 +3,7 @@ use Rattle.std.specs.Prelude.{◌≡◌, ◌⊎◌, ◌≤◌, ℕ, List, [], le
 use Rattle.gate_model.specs.declared.object.ObjectLine.{ObjectLine}
 use Rattle.gate_model.specs.declared.record.Record.{Record}
 use Rattle.gate_model.specs.Meaning.{outcomes_of}
-use Rattle.gate_reader.specs.Sink.{SinkState, Delivers}
+use Rattle.gate_streams.specs.Sink.{SinkState, Delivers}
 use Rattle.gate_reader.specs.declared.report.Report.{Report}
 use Rattle.gate_applier.specs.Applier.{ApplierView}
 use Rattle.gate_lines.specs.LogPage.{log_text}
@@ -11,7 +11,7 @@ use Rattle.gate_close.specs.declared.drained_close.CloseAllCause.{CloseAllCause}
 use Rattle.gate_close.specs.declared.drained_close.CloseAllCause.TheVariants as cause
 use Rattle.gate_worker.specs.declared.worker.Cause.{Cause}
 use Rattle.gate_worker.specs.declared.worker.Cause.TheVariants as worker
-use Rattle.gate_pool.specs.Answered.{reports_of_each}
+use Rattle.gate_worker.specs.Answered.{reports_of_each}
 use Rattle.gate_opening.specs.declared.finished.Finished.{Finished}
 use Rattle.gate_opening.specs.declared.fault.GatewayFault.{GatewayFault}
 use Rattle.gate_opening.specs.declared.fault.GatewayFault.TheVariants as gateway_fault

@@ -5,7 +5,7 @@ use Rattle.std.specs.declared.net.socket_addr.SocketAddr.{SocketAddr}
 use Rattle.std.specs.Net.Socket.{socket_ip, socket_port}
 use Rattle.std.specs.Net.Text.{socket_text}
 use Rattle.toml.specs.Data.{Members}
-use Rattle.gate_reader.specs.Sink.{SinkState, Delivers, FailsOnce}
+use Rattle.gate_streams.specs.Sink.{SinkState, Delivers, FailsOnce}
 use Rattle.gate_config.specs.declared.config.Config.{Config}
 use Rattle.gate_config.specs.declared.fault.ConfigFault.{ConfigFault}
 use Rattle.gate_config.specs.declared.fault.ConfigFault.TheVariants as config_fault

@@ -1,5 +1,5 @@
 ghost use Rattle.std.specs.Prelude.{◌≡◌, IsSome, Some};
-ghost use Rattle.gate_pool.specs.Answered.{reports_of_each};
+ghost use Rattle.gate_worker.specs.Answered.{reports_of_each};
 ghost use Rattle.gate_start.specs.AfterServing.{EndsWith, IsNamed, applier_after, close_fault, fault_after, operator_fault, reports_after};
 
 use crate::fault::ServeFault;
@@ -9,7 +9,7 @@ use gate_applier::Applier;
 use gate_close::{CloseAllCause, CloseAllFault};
 use gate_lines::log_page;
 use gate_opening::{Finished, GatewayFault};
-use gate_reader::Sink;
+use gate_streams::Sink;
 use gate_worker::Cause;
 use std::alloc::Global;
 

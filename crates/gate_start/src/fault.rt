@@ -2,7 +2,7 @@ ghost use Rattle.std.specs.Prelude.{◌≡◌, IsErrAnd, MatchResult, Ok};
 ghost use Rattle.gate_start.specs.inner.Reading.{IsFaultOf};
 
 use gate_model::Text;
-use gate_reader::{Fault, Sink, put_last, put_line};
+use gate_streams::{Fault, Sink, put_last, put_line};
 use std::alloc::AllocError;
 use std::error::Error;
 use std::io::ErrorKind;

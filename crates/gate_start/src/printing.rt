@@ -1,9 +1,9 @@
 ghost use Rattle.std.specs.Prelude.{◌≡◌, ◌++◌, IfOk, IfErr, IsOkAnd, OnOk};
-ghost use Rattle.gate_reader.specs.Sink.{Delivers};
+ghost use Rattle.gate_streams.specs.Sink.{Delivers};
 ghost use Rattle.gate_start.specs.BeforeServing.{address_line, address_lines, IsWriteEnd};
 
 use crate::fault::ServeFault;
-use gate_reader::{Sink, put_last};
+use gate_streams::{Sink, put_last};
 use std::alloc::{AllocError, Global};
 use std::net::SocketAddr;
 

@@ -7,7 +7,7 @@ use crate::listening::listen;
 use crate::printing::{address_lines, print};
 use gate_config::Config;
 use gate_ports::Ports;
-use gate_reader::Sink;
+use gate_streams::Sink;
 use std::alloc::Global;
 use std::fs::Files;
 use std::net::{Net, TcpListener, TcpStream};

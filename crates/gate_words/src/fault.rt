@@ -1,6 +1,6 @@
 ghost use Rattle.std.specs.Prelude.{◌≡◌};
 
-use gate_reader::{Fault, Sink, put_last};
+use gate_streams::{Fault, Sink, put_last};
 use std::alloc::AllocError;
 use std::io;
 use std::io::ErrorKind;

@@ -17,7 +17,7 @@ use Rattle.gate_reader.specs.declared.report.Report.{Report}
 use Rattle.gate_reader.specs.declared.report.SessionLimits.{SessionLimits}
 use Rattle.gate_reader.specs.declared.report.Stop.{Stop}
 use Rattle.gate_reader.specs.declared.report.Stop.TheVariants as halt
-use Rattle.gate_reader.specs.Source.{SourceState}
+use Rattle.gate_streams.specs.Source.{SourceState}
 use Rattle.gate_reader.specs.Report.{answer_to, is_open, AreOpen, EndInClose}
 use Rattle.gate_reader.specs.Session.{ClientView, Submits, Handled, SessionKind, LeadsTo, Stops, IsSession, answers_of}
 use Rattle.gate_reader.specs.Packets.{AnswersBlock, packets}

@@ -2,3 +2,5 @@ pub mod Numbering
 pub mod Sessions
 pub mod Closes
 pub mod Working
+pub mod Clients
+pub mod Ended

@@ -10,9 +10,9 @@ use Rattle.gate_reader.specs.declared.report.Answer.{Answer}
 use Rattle.gate_reader.specs.declared.report.Answer.TheVariants.{Queued}
 use Rattle.gate_reader.specs.declared.report.SessionLimits.{SessionLimits}
 use Rattle.gate_reader.specs.declared.report.Stop.{Stop}
-use Rattle.gate_reader.specs.Clock.{ClockState, ShowsEach, clock_within}
-use Rattle.gate_reader.specs.Source.{SourceState}
-use Rattle.gate_reader.specs.Sink.{SinkState}
+use Rattle.gate_environment.specs.Clock.{ClockState, ShowsEach, clock_within}
+use Rattle.gate_streams.specs.Source.{SourceState}
+use Rattle.gate_streams.specs.Sink.{SinkState}
 use Rattle.gate_reader.specs.Session.{ClientView, Parties, parties, Handled, SessionKind, LeadsTo, IsSession, queued_as, queued_among, bytes_of, answers_of}
 use Rattle.gate_reader.proofs.Serving.{KindLaws}
 use Rattle.gate_reader.proofs.Blocks.{packet_laws}

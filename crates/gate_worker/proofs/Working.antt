@@ -14,7 +14,7 @@ use Rattle.gate_reader.specs.Session.{queued_among}
 use Rattle.gate_reader.specs.declared.report.Answer.{Answer}
 use Rattle.gate_reader.specs.declared.report.Report.{Report}
 use Rattle.gate_worker.specs.Numbers.{queued_numbers, item_numbers, numbers_after, reported_numbers}
-use Rattle.gate_worker.specs.Streams.{ComesNext, AreSent, SendFirst}
+use Rattle.gate_environment.specs.Streams.{ComesNext, AreSent, SendFirst}
 use Rattle.gate_worker.specs.Work.{Connection, are_some, has_answers, IsServed, ServesEach, Serves, KnowsItsClose, MetNoClose, EndsAtClose, IsWork}
 use Rattle.gate_worker.specs.declared.limits.WorkerLimits.{WorkerLimits}
 use Rattle.gate_worker.specs.declared.worker.Cause.{Cause}

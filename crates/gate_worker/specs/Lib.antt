@@ -1,5 +1,8 @@
 pub mod Numbers
 pub mod Stops
-pub mod Streams
 pub mod Work
+pub mod Answered
+pub mod Collecting
+pub mod Joining
+pub mod Served
 pub mod inner

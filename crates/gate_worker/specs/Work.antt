@@ -5,9 +5,9 @@ use Rattle.gate_model.specs.declared.record.Moment.{Moment}
 use Rattle.gate_queue.specs.Client.{ClientState, client_state}
 use Rattle.gate_queue.specs.GateClient.{StandsFor, IsSameClient}
 use Rattle.gate_queue.specs.GateOperator.{Closes}
-use Rattle.gate_reader.specs.Clock.{clock_within}
-use Rattle.gate_reader.specs.Source.{Tally, SourceState}
-use Rattle.gate_reader.specs.Sink.{SinkState}
+use Rattle.gate_environment.specs.Clock.{clock_within}
+use Rattle.gate_streams.specs.Source.{Tally, SourceState}
+use Rattle.gate_streams.specs.Sink.{SinkState}
 use Rattle.gate_reader.specs.Report.{AreOpen}
 use Rattle.gate_reader.specs.Session.{ClientView, parties, Handled, SessionKind, LeadsTo, bytes_of, answers_of, queued_among}
 use Rattle.gate_reader.specs.Packets.{packets, IsPacketSession}
@@ -16,7 +16,7 @@ use Rattle.gate_reader.specs.declared.report.Answer.{Answer}
 use Rattle.gate_reader.specs.declared.report.Answer.TheVariants.{Closing, Down}
 use Rattle.gate_reader.specs.declared.report.Report.{Report}
 use Rattle.gate_reader.specs.declared.report.Stop.TheVariants.{Shutdown}
-use Rattle.gate_worker.specs.Streams.{SendFirst, AreSent}
+use Rattle.gate_environment.specs.Streams.{SendFirst, AreSent}
 use Rattle.gate_worker.specs.declared.limits.WorkerLimits.{WorkerLimits}
 use Rattle.gate_worker.specs.declared.worker.Cause.{Cause}
 use Rattle.gate_worker.specs.declared.worker.Cause.TheVariants.{NoMoreConnections}

@@ -1,15 +1,23 @@
-//! A worker of the daemon: it serves one connection after another, as a client of the queue. When it
-//! has ended, what was queued for its client is what its reports answer with Queued.
+//! The workers of a gateway, a thread for each agents' worker and one for the operators', started and
+//! joined. A worker serves one connection after another, as a client of the queue. When it has ended,
+//! what was queued for its client is what its reports answer with Queued. What the workers return is
+//! collected: each client, and the reports of its connections.
 #![tactic(auto)]
 
-mod connections;
+mod closing;
+mod collected;
+mod endpoint;
 mod limits;
-mod pausing;
-pub mod times;
+mod shared;
+mod starting;
 mod waiting;
 mod worker;
+mod workers;
 
-pub use connections::{Connections, Hold, NoHold, Point, SharedClock, Wake, Watch};
+pub use closing::close_gate;
+pub use collected::Collected;
+pub use endpoint::Endpoint;
 pub use limits::WorkerLimits;
-pub use pausing::pause;
+pub use shared::{Closable, Shared};
 pub use worker::{Cause, WorkerEnd, run_worker};
+pub use workers::{Workers, run_workers};

@@ -3,8 +3,8 @@ ghost use Rattle.gate_model.specs.declared.submission.Numbered.{Numbered};
 ghost use Rattle.gate_core.specs.Merge.{numbered};
 ghost use Rattle.gate_core.specs.Submit.{Refuses};
 
-use crate::times::ROOM_PAUSE_MICROS;
 use gate_core::{CloseFault, Operator, Refused, Submit};
+use gate_environment::times::ROOM_PAUSE_MICROS;
 use gate_model::{Body, Moment};
 use gate_queue::Gate;
 use std::marker::Model;

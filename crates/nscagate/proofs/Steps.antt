@@ -8,14 +8,14 @@ use Rattle.gate_applier.specs.Applier.{ApplierView}
 use Rattle.gate_close.specs.declared.drained_close.CloseAllCause.{CloseAllCause}
 use Rattle.gate_close.specs.declared.drained_close.CloseAllCause.TheVariants as cause
 use Rattle.gate_config.specs.declared.config.Config.{Config}
-use Rattle.gate_reader.specs.Sink.{SinkState, Delivers, FailsOnce}
-use Rattle.gate_reader.proofs.Outputs.{fails_then, delivers_on}
+use Rattle.gate_streams.specs.Sink.{SinkState, Delivers, FailsOnce}
+use Rattle.gate_streams.proofs.Outputs.{fails_then, delivers_on}
 use Rattle.gate_worker.specs.declared.worker.Cause.{Cause}
 use Rattle.gate_worker.specs.declared.worker.Cause.TheVariants as worker
 use Rattle.gate_reader.specs.declared.report.Report.{Report}
 use Rattle.gate_worker.specs.declared.limits.WorkerLimits.{WorkerLimits}
-use Rattle.gate_pool.specs.Answered.{reports_of_each, queued_by_each, HoldsAll}
-use Rattle.gate_pool.specs.Served.{AllServed}
+use Rattle.gate_worker.specs.Answered.{reports_of_each, queued_by_each, HoldsAll}
+use Rattle.gate_worker.specs.Served.{AllServed}
 use Rattle.gate_daemon.specs.declared.settings.GatewaySettings.{GatewaySettings}
 use Rattle.gate_opening.specs.Faults.{IsDrainFault, IsGatewayFault}
 use Rattle.gate_opening.specs.declared.finished.Finished.{Finished}

@@ -3,7 +3,7 @@ use Rattle.std.proofs.Common.{◌≡◌, ℕ, List, [], Option, Some, None, refl
 use Rattle.std.specs.Prelude.{Result, Err}
 use Rattle.gate_core.specs.Limits.{Limits}
 use Rattle.gate_core.specs.Legal.{Run}
-use Rattle.gate_reader.specs.Sink.{SinkState}
+use Rattle.gate_streams.specs.Sink.{SinkState}
 use Rattle.gate_words.specs.Words.{Asked, replay, serve}
 use Rattle.gate_words.specs.declared.words.Request.{Request}
 use Rattle.gate_words.specs.declared.fault.WordsFault.{WordsFault}

@@ -3,8 +3,8 @@ use Rattle.std.specs.Prelude.{◌≡◌, ◌⊎◌, ℕ, List, Option, Some}
 use Rattle.gate_words.specs.declared.fault.WordsFault.{WordsFault}
 use Rattle.gate_words.specs.declared.fault.WordsFault.TheVariants.{BadArguments, OutOfMemory}
 use Rattle.gate_words.specs.Fault as words
-use Rattle.gate_reader.specs.Fault.{status_at_end, IsFaultReported}
-use Rattle.gate_reader.specs.Sink.{SinkState}
+use Rattle.gate_streams.specs.Fault.{status_at_end, IsFaultReported}
+use Rattle.gate_streams.specs.Sink.{SinkState}
 use Rattle.gate_reader.specs.declared.report.Report.{Report}
 use Rattle.gate_start.specs.declared.fault.ServeFault.{ServeFault}
 use Rattle.gate_start.specs.Fault.{status_of, message_of}

@@ -3,13 +3,13 @@
 use Rattle.std.specs.Prelude.{◌≡◌, ◌⊎◌, ◌<◌, ◌≤◌, ℕ, List, [], length, replicate, Option, Some, None, ⊤}
 use Rattle.gate_model.specs.declared.record.Record.{Record}
 use Rattle.gate_model.specs.Record.{items_of_records}
-use Rattle.gate_reader.specs.Sink.{SinkState, FailsOnce}
+use Rattle.gate_streams.specs.Sink.{SinkState, FailsOnce}
 use Rattle.gate_reader.specs.declared.report.Report.{Report}
 use Rattle.gate_worker.specs.declared.limits.WorkerLimits.{WorkerLimits}
 use Rattle.gate_worker.specs.declared.worker.Cause.{Cause}
-use Rattle.gate_pool.specs.Answered.{queued_by_each, HoldsAll}
+use Rattle.gate_worker.specs.Answered.{queued_by_each, HoldsAll}
 use Rattle.gate_opening.specs.Faults.{LosesNothing}
-use Rattle.gate_pool.specs.Served.{AllServed}
+use Rattle.gate_worker.specs.Served.{AllServed}
 use Rattle.gate_config.specs.declared.config.Config.{Config}
 use Rattle.gate_config.specs.declared.limits.Limits.{Limits}
 use Rattle.gate_start.specs.declared.fault.ServeFault.{ServeFault}

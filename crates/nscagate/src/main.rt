@@ -7,7 +7,7 @@ mod program;
 mod serving;
 
 use crate::program::run_program;
-use gate_reader::end_with;
+use gate_streams::end_with;
 use gate_words::WordsFault;
 use std::env;
 use std::io::BufWriter;

@@ -1,12 +1,12 @@
 ghost use Rattle.std.specs.Prelude.{◌≡◌, ◌≢◌, ℕ, List, Some, None, map, string_bytes};
-ghost use Rattle.gate_solo.specs.Allowed.{IsAllowed};
+ghost use Rattle.gate_replay.specs.Allowed.{IsAllowed};
 ghost use Rattle.gate_words.specs.Words.{asked_of, replay, serve};
 ghost use Rattle.gate_replay.specs.Replay.{IsReplayRun};
 ghost use Rattle.nscagate.specs.Program.{IsRefused, IsServeRun};
 
 use crate::serving::serve;
-use gate_reader::{Sink, end_with};
 use gate_replay::run_replay;
+use gate_streams::{Sink, end_with};
 use gate_words::{Request, read_words};
 use std::alloc::Global;
 use std::fs::Files;

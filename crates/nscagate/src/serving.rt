@@ -1,19 +1,20 @@
 ghost use Rattle.std.specs.Prelude.{◌≡◌, IfErr, IfOk, vec_len};
-ghost use Rattle.gate_pool.specs.Answered.{reports_of_each};
+ghost use Rattle.gate_worker.specs.Answered.{reports_of_each};
 ghost use Rattle.gate_opening.specs.Faults.{IsGatewayFault};
 ghost use Rattle.nscagate.specs.Serve.{ServeEnds, worker_limits};
 ghost use Rattle.nscagate.specs.inner.Serving.{HasRun};
 
 use gate_config::{Config, Limits};
 use gate_daemon::{Endpoints, Finished, GatewayFault, GatewaySettings, run_gateway};
-use gate_pool::Endpoint;
+use gate_environment::NoHold;
 use gate_ports::{
     AgentConnections, AgentsPort, OperatorConnections, Ports, ReaderConnections, SystemWatch,
 };
-use gate_reader::{SessionLimits, Sink};
+use gate_reader::SessionLimits;
 use gate_start::{Served, end, start, without_reports};
+use gate_streams::Sink;
 use gate_table::ObjectTable;
-use gate_worker::{NoHold, WorkerLimits};
+use gate_worker::{Endpoint, WorkerLimits};
 use std::alloc::{AllocError, Global};
 use std::fs::Files;
 use std::net::{Net, TcpListener, TcpStream};

@@ -5,7 +5,7 @@
 
 mod running;
 
-use gate_reader::end_with;
+use gate_streams::end_with;
 use operator_setup::{ControlFault, words_fault};
 use running::run_words;
 use std::env;

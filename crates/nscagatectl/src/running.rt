@@ -2,7 +2,7 @@
 
 use clap::Error;
 use config_testing::test_config;
-use gate_reader::Sink;
+use gate_streams::Sink;
 use operator_checking::{Wanted, report_unknown, run_check};
 use operator_commands::{Asked, Options, Request, Task};
 use operator_log::run_log;

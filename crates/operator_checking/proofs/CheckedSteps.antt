@@ -1,7 +1,7 @@
 -- That nothing is known was printed.
 use Rattle.std.proofs.Common.{◌≡◌, ℕ, List, inr}
 use Rattle.std.specs.Prelude.{Result, Ok, Err, IfOk, OnOk}
-use Rattle.gate_reader.specs.Sink.{SinkState, Delivers}
+use Rattle.gate_streams.specs.Sink.{SinkState, Delivers}
 use Rattle.operator_setup.specs.declared.fault.ControlFault.{ControlFault}
 use Rattle.operator_checking.specs.Checked.{IsChecked, unknown_line}
 

@@ -1,6 +1,6 @@
 -- What `check` prints, and its exit status: `IsChecked` (Nagios Core 4 manual, Plugin API).
 use Rattle.std.specs.Prelude.{◌≡◌, ◌≤◌, ◌⊎◌, ℕ, List, ◌++◌, length, max, codes, ⊤}
-use Rattle.gate_reader.specs.Sink.{SinkState, Delivers}
+use Rattle.gate_streams.specs.Sink.{SinkState, Delivers}
 use Rattle.operator_checks.specs.declared.findings.Finding.{Finding}
 use Rattle.operator_checks.specs.Findings.{line, worst, state_status}
 use Rattle.operator_setup.specs.declared.fault.ControlFault.{ControlFault}

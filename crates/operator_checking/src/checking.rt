@@ -1,14 +1,14 @@
 //! Whether gateways serve: their ports are asked, each with a time of its own.
 
 ghost use Rattle.std.specs.Prelude.{◌≡◌, ◌++◌, ◌-◌, ◌≤◌, codes, is_some, nat_lt, IfErr, IfOk, OnErr, OnOk, if◌then◌else◌, length, vec_len};
-ghost use Rattle.gate_reader.specs.Sink.{Delivers, FailsOnce};
+ghost use Rattle.gate_streams.specs.Sink.{Delivers, FailsOnce};
 ghost use Rattle.operator_checks.specs.Findings.{line, weight};
 ghost use Rattle.operator_checking.specs.Checked.{IsChecked, IsCheckFault, IsReport, unknown_line};
 
 use gate_config::Config;
 use gate_grammar::read_number;
 use gate_model::{Moment, Text};
-use gate_reader::{Sink, put_last, put_line};
+use gate_streams::{Sink, put_last, put_line};
 use kept_files::keep_page;
 use operator_checks::{Finding, Port, figures_of, push_line, status_of};
 use operator_commands::Options;

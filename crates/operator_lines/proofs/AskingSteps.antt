@@ -7,9 +7,9 @@ use Rattle.std.proofs.lemmas.List.Concat.{flat_map-append}
 use Rattle.gate_grammar.specs.declared.commands.Command.{Command}
 use Rattle.gate_grammar.specs.Writability.{IsWritable}
 use Rattle.gate_reader.specs.Lines.{HasNoBreak}
-use Rattle.gate_reader.specs.Sink.{Writes}
-use Rattle.gate_reader.proofs.Outputs.{writes_none, writes_on}
-use Rattle.gate_reader.proofs.Readings.{consumes_none, consumes_append}
+use Rattle.gate_streams.specs.Sink.{Writes}
+use Rattle.gate_streams.proofs.Outputs.{writes_none, writes_on}
+use Rattle.gate_streams.proofs.Calls.{consumes_none, consumes_append}
 use Rattle.operator_lines.specs.declared.asking.AskFault.{AskFault}
 use Rattle.operator_lines.specs.declared.asking.AskFault.TheVariants.{Unsent}
 use Rattle.operator_lines.specs.declared.sending.SendFault.{SendFault}

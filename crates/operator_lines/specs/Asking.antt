@@ -6,7 +6,7 @@ use Rattle.std.specs.Io.KnownBytes.{Consumes, IsAtEnd}
 use Rattle.gate_grammar.specs.declared.commands.Command.{Command}
 use Rattle.gate_grammar.specs.Writability.{IsWritable}
 use Rattle.gate_reader.specs.Lines.{HasNoBreak}
-use Rattle.gate_reader.specs.Sink.{SinkState, Writes, Delivers, FailsOnce}
+use Rattle.gate_streams.specs.Sink.{SinkState, Writes, Delivers, FailsOnce}
 use Rattle.operator_lines.specs.declared.asking.AskFault.{AskFault}
 use Rattle.operator_lines.specs.declared.asking.AskFault.TheVariants.{Unsent, WriteFault, ReadFault, Ended, TooLong, NoAnswer}
 use Rattle.operator_lines.specs.declared.sending.SendFault.TheVariants.{Unwritable}

@@ -10,7 +10,7 @@ use crate::replies::{Reply, read_reply};
 use crate::sending::{SendFault, push_line};
 use arrayvec::ArrayVec;
 use gate_grammar::Command;
-use gate_reader::{Sink, put_last};
+use gate_streams::{Sink, put_last};
 use std::alloc::Global;
 use std::io::Read;
 use thiserror::Error;

@@ -3,7 +3,7 @@
 use Rattle.std.specs.Prelude.{◌≡◌, ◌⊎◌, ℕ, Bool, if◌then◌else◌, List, ◌++◌, codes, Option, Some, None}
 use Rattle.gate_grammar.specs.Numbers.{number_of}
 use Rattle.gate_model.specs.Escaping.{escaped}
-use Rattle.gate_reader.specs.Sink.{SinkState, Delivers}
+use Rattle.gate_streams.specs.Sink.{SinkState, Delivers}
 use Rattle.log_reading.specs.declared.logged.Logged.{Logged}
 use Rattle.log_reading.specs.declared.page.LogFault.{LogFault}
 use Rattle.log_reading.specs.declared.page.LogFault.TheVariants.{NoLog}

@@ -4,7 +4,7 @@ ghost use Rattle.operator_log.specs.Summed.{IsLogFault, IsLogShown, IsOfFile, fi
 use crate::summed::sum_up;
 use gate_grammar::read_number;
 use gate_model::{Moment, Text, push_escaped};
-use gate_reader::Sink;
+use gate_streams::Sink;
 use kept_files::read_file;
 use log_reading::LogFault;
 use operator_commands::RequestFault;

@@ -5,7 +5,7 @@ use Rattle.gate_model.specs.Escaping.{escaped}
 use Rattle.gate_grammar.specs.declared.commands.Command.{Command}
 use Rattle.gate_grammar.specs.Canonical.{body_text, canonical_line}
 use Rattle.gate_grammar.specs.Writability.{IsWritable}
-use Rattle.gate_reader.specs.Sink.{SinkState, Delivers}
+use Rattle.gate_streams.specs.Sink.{SinkState, Delivers}
 use Rattle.operator_commands.specs.declared.request.Task.{Task}
 use Rattle.operator_commands.specs.declared.request.Task.TheVariants.{Restore}
 use Rattle.operator_ports.specs.Commands.{entered_at}

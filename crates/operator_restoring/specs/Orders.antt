@@ -2,7 +2,7 @@
 use Rattle.std.specs.Prelude.{◌⊎◌, ℕ, List}
 use Rattle.gate_model.specs.declared.submission.Body.{Body}
 use Rattle.gate_grammar.specs.declared.commands.Command.{Command}
-use Rattle.gate_reader.specs.Sink.{SinkState}
+use Rattle.gate_streams.specs.Sink.{SinkState}
 use Rattle.operator_restore.specs.declared.prospect.Prospect.{Prospect}
 use Rattle.operator_restoring.specs.declared.restore_word.Order.{Order}
 use Rattle.operator_restoring.specs.Lines.{IsDryRun, IsDryEnd}

@@ -2,7 +2,7 @@
 
 ghost use Rattle.std.specs.Prelude.{◌≡◌, ◌≤◌, ◌⊎◌, ◌==◌, ℕ, List, true, if◌then◌else◌, IfErr, IfOk};
 ghost use Rattle.gate_model.specs.declared.record.Moment.{Moment};
-ghost use Rattle.gate_reader.specs.Sink.{Delivers};
+ghost use Rattle.gate_streams.specs.Sink.{Delivers};
 ghost use Rattle.operator_restoring.specs.Lines.{AreLinesOf, commands_of, is_dry_run, is_old_asked, IsDryEnd};
 ghost use Rattle.operator_restoring.specs.Orders.{IsPlanOf, IsCarriedOut, IsNamedOf, IsDryRunOf, IsDryEndOf};
 ghost use Rattle.operator_restoring.specs.Faults.{IsOutputFault, IsNoTarget, IsNotRestored};
@@ -14,7 +14,7 @@ use crate::restore_fault::RestoreFault;
 use crate::sending::{lines_of, send_others};
 use gate_config::Config;
 use gate_model::{Moment, Text};
-use gate_reader::Sink;
+use gate_streams::Sink;
 use gate_table::ObjectTable;
 use operator_commands::{Options, Task};
 use operator_restore::{Prospect, status_of};

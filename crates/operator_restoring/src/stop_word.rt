@@ -6,7 +6,7 @@ ghost use Rattle.operator_restoring.specs.Faults.{IsNotStopped};
 use crate::stopping::{Stopped, stop_by};
 use gate_grammar::Command;
 use gate_model::Body;
-use gate_reader::Sink;
+use gate_streams::Sink;
 use kept_files::{keep, keep_page, read_file, runs};
 use operator_commands::{Options, Task};
 use operator_effects::{Next, Pages};

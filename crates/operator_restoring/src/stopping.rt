@@ -6,7 +6,7 @@ ghost use Rattle.operator_restoring.specs.Restored.{IsShown};
 ghost use Rattle.operator_restoring.specs.Stopped.{IsAllKept, IsLogKept};
 ghost use Rattle.operator_restoring.specs.inner.Kept.{IsKeptAs};
 
-use gate_reader::Sink;
+use gate_streams::Sink;
 use operator_effects::Next;
 use operator_restore::{is_whole, log_part};
 use operator_setup::{ControlFault, print};

@@ -5,7 +5,7 @@ use Rattle.gate_model.specs.declared.record.Moment.{Moment}
 use Rattle.gate_model.specs.declared.record.Outcome.{Outcome}
 use Rattle.gate_model.specs.declared.submission.Body.{Body}
 use Rattle.gate_grammar.specs.declared.commands.Command.{Command}
-use Rattle.gate_reader.specs.Sink.{SinkState, Delivers}
+use Rattle.gate_streams.specs.Sink.{SinkState, Delivers}
 use Rattle.status_export.specs.Document.{compact_text}
 use Rattle.status_reading.specs.declared.page.StatusPage.{StatusPage}
 use Rattle.status_reading.specs.Rows.{PageView, page_view}

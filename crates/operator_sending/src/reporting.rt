@@ -6,7 +6,7 @@ ghost use Rattle.operator_sending.specs.Faults.{IsPrintFault};
 ghost use Rattle.operator_sending.specs.Reports.{IsReport, report_line, sinks};
 
 use gate_model::Body;
-use gate_reader::Sink;
+use gate_streams::Sink;
 use operator_effects::{Ending, push_message};
 use operator_json::ending_json;
 use operator_setup::{ControlFault, print};

@@ -14,7 +14,7 @@ ghost use Rattle.operator_sending.specs.Reports.{AreAnswered, IsCarriedOut, mean
 use crate::reporting::report;
 use gate_grammar::Command;
 use gate_model::{Body, Moment, Text};
-use gate_reader::Sink;
+use gate_streams::Sink;
 use operator_commands::{Options, Request};
 use operator_effects::{
     Ending, PlanFault, commands_for, ending_of, first_refusal, plain_request, watch,

@@ -1,12 +1,12 @@
 //! The clock, the output, and a page that was fetched, each with the fault that it can end in.
 
 ghost use Rattle.std.specs.Prelude.{◌≡◌, IfErr, MatchResult, OnErr, OnOk};
-ghost use Rattle.gate_reader.specs.Sink.{Delivers, FailsOnce};
+ghost use Rattle.gate_streams.specs.Sink.{Delivers, FailsOnce};
 ghost use Rattle.operator_setup.specs.Pages.{IsNoPage, IsPageIn};
 
 use crate::fault::ControlFault;
 use gate_model::Moment;
-use gate_reader::{Sink, put_last};
+use gate_streams::{Sink, put_last};
 use status_reading::{ReadFault, StatusPage, read_status_page};
 use std::alloc::Global;
 use std::time::{Clock, SystemTime};

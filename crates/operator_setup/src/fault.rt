@@ -3,7 +3,7 @@ ghost use Rattle.std.specs.IoError.{error_kind};
 ghost use Rattle.operator_setup.specs.Fault.{cause, page_text, request_text};
 
 use gate_model::Text;
-use gate_reader::{Fault, Sink, put_line};
+use gate_streams::{Fault, Sink, put_line};
 use operator_commands::RequestFault;
 use page_fetching::FetchFault;
 use std::alloc::{AllocError, AllocFailed};

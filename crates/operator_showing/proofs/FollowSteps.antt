@@ -1,6 +1,6 @@
 -- What is other on one page after another.
 use Rattle.std.proofs.Common.{◌≡◌, ℕ, ◌+◌, Bool, List, [], ◌∷◌, length, refl, arith}
-use Rattle.gate_reader.specs.Sink.{SinkState}
+use Rattle.gate_streams.specs.Sink.{SinkState}
 use Rattle.operator_showing.specs.Followed.{AreFollowed, IsChangePrinted, IsFollowedFor, IsWatched}
 
 -- whatever is printed of pages after this one, it is printed of pages after the first, of which there are so many more

@@ -1,7 +1,7 @@
 -- What was printed, by what the words ask for.
 use Rattle.std.proofs.Common.{◌≡◌, ℕ, Bool, true, false, ◌||◌, List, Option, Some, None, Result, Ok, Err}
 use Rattle.std.specs.Prelude.{is_some, IfOk}
-use Rattle.gate_reader.specs.Sink.{SinkState}
+use Rattle.gate_streams.specs.Sink.{SinkState}
 use Rattle.status_merge.specs.Asking.{Asked}
 use Rattle.operator_showing.specs.Choosing.{IsAskedFor}
 use Rattle.operator_showing.specs.Shown.{IsPageShown, IsChosenShown, IsJsonShown, IsShownOf, IsShown}

@@ -2,7 +2,7 @@
 -- some pages that it showed are meant. Own rules.
 use Rattle.std.specs.Prelude.{◌≡◌, ◌⊎◌, ℕ, Bool, true, false, List, [], ◌∷◌, ◌++◌, length, codes, Option, Some, None}
 use Rattle.std.specs.List.{flat_map}
-use Rattle.gate_reader.specs.Sink.{SinkState, Delivers}
+use Rattle.gate_streams.specs.Sink.{SinkState, Delivers}
 use Rattle.status_export.specs.Document.{compact_text}
 use Rattle.status_reading.specs.declared.page.StatusPage.{StatusPage}
 use Rattle.page_changes.specs.declared.comparing.Change.{Change}

@@ -10,7 +10,7 @@ ghost use Rattle.operator_showing.specs.Followed.{IsChangePrinted, IsFollowFault
 use change_lines::push_change;
 use gate_grammar::read_number;
 use gate_model::Text;
-use gate_reader::Sink;
+use gate_streams::Sink;
 use operator_commands::Options;
 use operator_json::change_json;
 use operator_setup::{ControlFault, Places, fetched, page_of, print};

@@ -6,7 +6,7 @@ ghost use Rattle.operator_showing.specs.Shown.{IsAlone, chosen_on, json_on, IsPa
 
 use crate::choosing::{chosen_text, object_lines, query_in};
 use gate_model::Text;
-use gate_reader::Sink;
+use gate_streams::Sink;
 use operator_commands::Options;
 use operator_setup::{ControlFault, fetched, page_of, print};
 use status_export::json_text;

@@ -1,6 +1,6 @@
 //! A stream with one deadline for all of its reads and writes, however slow its peer is.
 
-use gate_reader::Sink;
+use gate_streams::Sink;
 use std::io;
 use std::io::{Read, Write};
 use std::net::TcpStream;

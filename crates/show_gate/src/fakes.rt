@@ -1,6 +1,8 @@
+use gate_environment::{Connections, Wake, Watch};
 use gate_model::Moment;
-use gate_reader::{SessionLimits, Sink};
-use gate_worker::{Connections, Wake, Watch, WorkerLimits};
+use gate_reader::SessionLimits;
+use gate_streams::Sink;
+use gate_worker::WorkerLimits;
 use std::io;
 
 /// A writer that drops what is written.

@@ -1,8 +1,9 @@
 ghost use Rattle.std.specs.Prelude.{◌≤◌, length};
 
 use crate::settings::Settings;
+use gate_environment::Clock;
 use gate_model::Moment;
-use gate_reader::{Clock, Sink, Source};
+use gate_streams::{Sink, Source};
 use std::io;
 use std::io::{Error, ErrorKind, Write};
 

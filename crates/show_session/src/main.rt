@@ -14,7 +14,7 @@ mod settings;
 use crate::printing::print_outcome;
 use crate::serving::serve;
 use crate::settings::{Settings, settings_of};
-use gate_reader::{Sink, Source};
+use gate_streams::{Sink, Source};
 use std::alloc::Global;
 use std::io::{BufReader, BufWriter};
 use std::process::ExitCode;

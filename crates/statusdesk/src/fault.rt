@@ -3,7 +3,7 @@ ghost use Rattle.std.specs.IoError.{error_kind};
 ghost use Rattle.statusdesk.specs.Fault.{bad_line};
 
 use desk_words::BadValue;
-use gate_reader::{Fault, Sink, put_last, put_line};
+use gate_streams::{Fault, Sink, put_last, put_line};
 use status_serving::ServeFault;
 use std::alloc::AllocError;
 use std::io;

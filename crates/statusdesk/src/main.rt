@@ -23,7 +23,7 @@ use clap::Error;
 use desk_guard::{Guard, SentForms};
 use desk_words::{Settings, WordsFault, read_words};
 use fault::{DeskFault, words_fault};
-use gate_reader::end_with;
+use gate_streams::end_with;
 use page_watching::Watch;
 use posts::posts_at;
 use service::Desk;

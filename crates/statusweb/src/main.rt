@@ -9,7 +9,7 @@ mod words;
 
 use clap::Error;
 use fault::{WebFault, words_fault};
-use gate_reader::end_with;
+use gate_streams::end_with;
 use page_watching::Watch;
 use service::Web;
 use status_serving::{Heading, ServeFault, Site, serve};

@@ -2,12 +2,11 @@ ghost use Rattle.std.specs.Prelude.{◌≡◌, []};
 
 use crate::parts::{Answer, answer_of, applier, one_client};
 use gate_boards::{ApplierStop, run_applier};
+use gate_environment::{FixedClock, NoHold};
 use gate_grammar::read_line;
 use gate_model::Moment;
 use gate_pages::{Board, status_page};
 use gate_queue::{Client, Gate, Taker};
-use gate_reader::FixedClock;
-use gate_worker::NoHold;
 use std::alloc::Global;
 use std::sync::{Mutex, Wait};
 use std::time::Clock;

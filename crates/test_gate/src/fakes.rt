@@ -2,11 +2,12 @@ ghost use Rattle.std.specs.Prelude.{◌≡◌, IfSome};
 
 use crate::parts::packet_of;
 use gate_daemon::GatewaySettings;
+use gate_environment::{Connections, Wake, Watch};
 use gate_model::Moment;
 use gate_packet::{PACKET_SIZE, encode};
 use gate_reader::SessionLimits;
 use gate_table::ObjectTable;
-use gate_worker::{Connections, Wake, Watch, WorkerLimits};
+use gate_worker::WorkerLimits;
 use std::alloc::Global;
 use std::sync::atomic::{AtomicU64, Ordering};
 use std::thread;

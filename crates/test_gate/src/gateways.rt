@@ -3,8 +3,8 @@ ghost use Rattle.std.specs.Prelude.{◌≡◌, ◌≤◌, IfSome, vec_len};
 
 use crate::fakes::{AlwaysAt, NoWake, Sending, is_reached, packet, settings};
 use gate_daemon::{Endpoints, Finished, GatewayFault, run_gateway};
-use gate_pool::Endpoint;
-use gate_worker::{Hold, Point};
+use gate_environment::{Hold, Point};
+use gate_worker::Endpoint;
 use std::alloc::Global;
 use std::sync::Wait;
 use std::sync::atomic::{AtomicU64, Ordering};

@@ -1,5 +1,5 @@
-use gate_reader::Sink;
 use gate_replay::{replay_over_world, replay_script, run_replay};
+use gate_streams::Sink;
 use std::alloc::Global;
 use std::io;
 use std::io::{Error, ErrorKind, Read};

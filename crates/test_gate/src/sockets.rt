@@ -1,9 +1,9 @@
 use crate::fakes::{packet, settings};
 use crate::gateways::left_by;
 use gate_daemon::{Endpoints, run_gateway};
-use gate_pool::Endpoint;
+use gate_environment::NoHold;
 use gate_ports::{AgentsPort, OperatorsPort, PagesPort, Ports, SystemWatch};
-use gate_worker::NoHold;
+use gate_worker::Endpoint;
 use std::alloc::Global;
 use std::io::{Read, Write};
 use std::net::{Net, Shutdown, SocketAddr, TcpListener, TcpStream};

@@ -4,7 +4,7 @@ ghost use Rattle.gate_core.specs.Legal.{Run};
 
 use crate::parts::{body, two_clients};
 use gate_core::{LocalClient, World};
-use gate_solo::{EndedQueue, SoloGate, SoloQueue};
+use gate_replay::{EndedQueue, SoloGate, SoloQueue};
 use std::alloc::Global;
 use std::sync::Wait;
 

@@ -1,7 +1,7 @@
 use crate::fakes::{AlwaysAt, is_reached, packet, settings};
 use gate_daemon::{Endpoints, run_gateway};
-use gate_pool::Endpoint;
-use gate_worker::{Connections, Hold, Point, Wake};
+use gate_environment::{Connections, Hold, Point, Wake};
+use gate_worker::Endpoint;
 use std::alloc::Global;
 use std::sync::Wait;
 use std::sync::atomic::{AtomicU64, Ordering};

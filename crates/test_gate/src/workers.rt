@@ -2,9 +2,10 @@ ghost use Rattle.std.specs.Prelude.{◌≡◌};
 
 use crate::fakes::{AlwaysAt, Sending, limits, packet};
 use crate::parts::one_client;
+use gate_environment::NoHold;
 use gate_queue::{Gate, Taker};
 use gate_reader::{Answer, Report, Stop};
-use gate_worker::{Cause, NoHold, WorkerEnd, run_worker};
+use gate_worker::{Cause, WorkerEnd, run_worker};
 use std::alloc::Global;
 use std::sync::Wait;
 use std::time::Clock;

@@ -2,7 +2,7 @@
 use Rattle.std.specs.Prelude.{◌≡◌, ℕ, length}
 use Rattle.gate_model.specs.declared.record.Moment.{Moment}
 use Rattle.gate_model.specs.Record.{later}
-use Rattle.gate_reader.specs.Clock.{ClockState, Shows}
+use Rattle.gate_environment.specs.Clock.{ClockState, Shows}
 use Rattle.gate_applier.specs.Applier.{ApplierView}
 use Rattle.gate_boards.specs.declared.boards.LastBoard.{LastBoard}
 

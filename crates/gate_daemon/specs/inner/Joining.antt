@@ -8,9 +8,9 @@ use Rattle.gate_worker.specs.Numbers.{numbers_after}
 use Rattle.gate_worker.specs.declared.limits.WorkerLimits.{WorkerLimits}
 use Rattle.gate_daemon.specs.declared.joined.Joined.{Joined}
 use Rattle.gate_daemon.specs.declared.threads.Start.{Start}
-use Rattle.gate_pool.specs.Answered.{reports_of_each}
-use Rattle.gate_pool.specs.Collecting.{numbers_of, AreOf, AllEnded}
-use Rattle.gate_pool.specs.Joining.{HasRoom}
+use Rattle.gate_worker.specs.Answered.{reports_of_each}
+use Rattle.gate_worker.specs.Collecting.{numbers_of, AreOf, AllEnded}
+use Rattle.gate_worker.specs.Joining.{HasRoom}
 use Rattle.gate_boards.specs.Applying.{AreShown, IsApplied, IsSameLog}
 
 -- the threads of a gate with so many agents' workers are joined, and its taker knows of the close

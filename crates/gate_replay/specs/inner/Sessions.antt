@@ -18,7 +18,7 @@ use Rattle.gate_reader.specs.declared.report.Stop.{Stop}
 use Rattle.gate_reader.specs.declared.report.Stop.TheVariants.{End, Truncated, Shutdown}
 use Rattle.gate_reader.specs.Report.{answer_to, answer_line}
 use Rattle.gate_reader.specs.Session.{ClientView, Submits}
-use Rattle.gate_reader.specs.Sink.{SinkState, Writes}
+use Rattle.gate_streams.specs.Sink.{SinkState, Writes}
 use Rattle.gate_reader.specs.Lines.{OperatorView, Closes, first_close}
 use Rattle.gate_replay.specs.declared.script.Step.{Step}
 use Rattle.gate_replay.specs.declared.player.Player.{Player}

@@ -1,8 +1,8 @@
 -- Only proofs and private functions use this: what the gateway of a daemon leaves.
 use Rattle.std.specs.Prelude.{◌≡◌, List, replicate, None, ⊤}
 use Rattle.gate_model.specs.Record.{items_of_records}
-use Rattle.gate_pool.specs.Answered.{reports_of_each, queued_by_each, HoldsAll}
-use Rattle.gate_pool.specs.Served.{AllServed}
+use Rattle.gate_worker.specs.Answered.{reports_of_each, queued_by_each, HoldsAll}
+use Rattle.gate_worker.specs.Served.{AllServed}
 use Rattle.gate_opening.specs.declared.finished.Finished.{Finished}
 use Rattle.gate_config.specs.declared.config.Config.{Config}
 use Rattle.nscagate.specs.Serve.{worker_limits}

@@ -2,7 +2,7 @@ use Rattle.std.proofs.Common.{◌≡◌, ◌+◌, ℕ, refl}
 use Rattle.gate_model.specs.Record.{items_of_records}
 use Rattle.gate_close.specs.DrainedClose.{close_parts}
 use Rattle.gate_queue.specs.Gate.{GateId}
-use Rattle.gate_pool.specs.Answered.{reports_of_each, queued_by_each}
+use Rattle.gate_worker.specs.Answered.{reports_of_each, queued_by_each}
 use Rattle.gate_daemon.specs.declared.joined.Joined.{Joined}
 use Rattle.gate_daemon.specs.inner.Joining.{AreJoined}
 use Rattle.gate_daemon.proofs.Drained.{CanDrain, drained_all, drained_held, undrained, applied_until}

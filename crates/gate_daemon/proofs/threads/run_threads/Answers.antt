@@ -6,7 +6,7 @@ use Rattle.gate_queue.specs.Client.{ClientState}
 use Rattle.gate_queue.specs.Gate.{GateId}
 use Rattle.gate_queue.specs.Taker.{TakerState}
 use Rattle.gate_boards.specs.Applying.{IsApplied, IsSameLog}
-use Rattle.gate_pool.proofs.Ended.{at_some, joined_numbers}
+use Rattle.gate_worker.proofs.Ended.{at_some, joined_numbers}
 use Rattle.gate_daemon.proofs.Shown.{shown_on}
 use Rattle.gate_daemon.proofs.threads.run_threads.Goals as goal
 

@@ -1,7 +1,7 @@
 use Rattle.std.proofs.Common.{sym, ap, ◌∙◌, ◌≡◌, ◌+◌, ℕ, suc, [], ◌∷◌, ◌++◌, arith, rules, length, length-append, None}
 use Rattle.gate_queue.specs.Client.{client_state}
 use Rattle.gate_queue.specs.Opening.{new_clients}
-use Rattle.gate_pool.proofs.Clients.{last_client, length_clients}
+use Rattle.gate_worker.proofs.Clients.{last_client, length_clients}
 use Rattle.gate_opening.proofs.opening.open_gate.Goals as goal
 
 pub returns-in-Some-clause-opening : goal.returns-in-Some-clause-opening

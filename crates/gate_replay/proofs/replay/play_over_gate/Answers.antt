@@ -1,11 +1,11 @@
 use Rattle.std.proofs.Common.{⊎_elim, subst}
 use Rattle.gate_core.specs.Limits.{Limits}
 use Rattle.gate_core.specs.Legal.{Run}
-use Rattle.gate_solo.specs.Allowed.{IsAllowed}
-use Rattle.gate_solo.specs.Ending.{with_ends, IsGateAfter}
-use Rattle.gate_solo.specs.SoloGate.{SoloState, IsAfter}
+use Rattle.gate_replay.specs.Allowed.{IsAllowed}
+use Rattle.gate_replay.specs.Ending.{with_ends, IsGateAfter}
+use Rattle.gate_replay.specs.SoloGate.{SoloState, IsAfter}
 use Rattle.gate_queue.specs.Taker.{TakerState}
-use Rattle.gate_reader.specs.Fault.{fault_in}
+use Rattle.gate_streams.specs.Fault.{fault_in}
 use Rattle.gate_replay.specs.inner.Playing.{solo_view, IsShown, IsShownSoFar}
 use Rattle.gate_replay.proofs.ReplayEnds.{ends_too}
 use Rattle.gate_replay.proofs.replay.play_over_gate.Goals as goal

@@ -4,10 +4,10 @@ use Rattle.gate_core.specs.Limits.{Limits}
 use Rattle.gate_core.specs.Legal.{Run, IsLegal}
 use Rattle.gate_core.specs.State.{WorldState, StandsAfter}
 use Rattle.gate_core.specs.LocalClient.{LocalState}
-use Rattle.gate_solo.specs.Ending.{with_ends}
-use Rattle.gate_solo.specs.SoloWorld.{IsAfter}
-use Rattle.gate_solo.specs.laws.SoloWorlds.{open_at}
-use Rattle.gate_reader.specs.Fault.{fault_in}
+use Rattle.gate_replay.specs.Ending.{with_ends}
+use Rattle.gate_replay.specs.SoloWorld.{IsAfter}
+use Rattle.gate_replay.specs.laws.SoloWorlds.{open_at}
+use Rattle.gate_streams.specs.Fault.{fault_in}
 use Rattle.gate_replay.specs.inner.Playing.{solo_view, IsShown, IsShownSoFar}
 use Rattle.gate_replay.proofs.ReplayEnds.{ends_too}
 use Rattle.gate_replay.proofs.replay.play_over_world.Goals as goal

@@ -1,5 +1,5 @@
 use Rattle.std.proofs.Common.{inl, inr}
-use Rattle.gate_reader.proofs.Readings.{counts_fail}
+use Rattle.gate_streams.proofs.Calls.{counts_fail}
 use Rattle.gate_replay.proofs.replay.print_log.Goals as goal
 
 pub returns-in-Ok-clause-err : goal.returns-in-Ok-clause-err

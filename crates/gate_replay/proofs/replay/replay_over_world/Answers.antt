@@ -1,5 +1,5 @@
 use Rattle.gate_core.specs.Legal.{IsLegal}
-use Rattle.gate_reader.specs.Fault.{fault_in}
+use Rattle.gate_streams.specs.Fault.{fault_in}
 use Rattle.gate_replay.proofs.ReplayTexts.{played_input}
 use Rattle.gate_replay.proofs.replay.replay_over_world.Goals as goal
 

@@ -1,5 +1,5 @@
-use Rattle.gate_solo.specs.Allowed.{IsAllowed}
-use Rattle.gate_reader.specs.Fault.{fault_in}
+use Rattle.gate_replay.specs.Allowed.{IsAllowed}
+use Rattle.gate_streams.specs.Fault.{fault_in}
 use Rattle.gate_replay.proofs.ReplayTexts.{played_input}
 use Rattle.gate_replay.proofs.replay.replay_script.Goals as goal
 

@@ -1,4 +1,4 @@
-use Rattle.gate_solo.specs.Allowed.{IsAllowed}
+use Rattle.gate_replay.specs.Allowed.{IsAllowed}
 use Rattle.nscagate.proofs.Unknown.{unknown_replay, unknown_serve}
 use Rattle.nscagate.proofs.program.run_program.Goals as goal
 

@@ -1,7 +1,7 @@
 use Rattle.std.proofs.Common.{ℕ, List, [], Option, sym, ap, subst}
 use Rattle.gate_reader.specs.declared.report.Report.{Report}
 use Rattle.nscagate.specs.Serve.{ServeEnds}
-use Rattle.gate_pool.specs.Answered.{reports_of_each}
+use Rattle.gate_worker.specs.Answered.{reports_of_each}
 use Rattle.gate_start.specs.declared.fault.ServeFault.{ServeFault}
 use Rattle.nscagate.proofs.Steps.{ends_before, ends_on}
 use Rattle.nscagate.proofs.serving.serve.Goals as goal

@@ -1,6 +1,6 @@
 use Rattle.std.proofs.Common.{◌∙◌, [], ◌∷◌, ◌++◌, sym, subst, ap}
 use Rattle.std.specs.Io.KnownBytes.{Consumes}
-use Rattle.gate_reader.proofs.Readings.{consumes_append}
+use Rattle.gate_streams.proofs.Calls.{consumes_append}
 use Rattle.operator_lines.proofs.AskingSteps.{read_no_more}
 use Rattle.operator_lines.proofs.asking.read_answer.Goals as goal
 

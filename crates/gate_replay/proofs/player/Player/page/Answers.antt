@@ -1,5 +1,5 @@
 use Rattle.std.proofs.Common.{◌∙◌, subst}
-use Rattle.gate_reader.specs.Sink.{Writes}
+use Rattle.gate_streams.specs.Sink.{Writes}
 use Rattle.gate_replay.specs.inner.Playing.{solo_view}
 use Rattle.gate_replay.proofs.PlaySteps.{plays_page}
 use Rattle.gate_replay.proofs.player.Player.page.Goals as goal

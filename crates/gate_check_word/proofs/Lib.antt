@@ -1,0 +1,4 @@
+mod CheckWordBits
+mod CheckWordShares
+pub mod CheckWordBlocks
+mod CheckWordTables

@@ -1,0 +1,3 @@
+/// A thread can't be started.
+#[derive(Clone, Copy)]
+pub struct Unstarted;

@@ -1,4 +1,0 @@
-pub mod Answered
-pub mod Collecting
-pub mod Joining
-pub mod Served

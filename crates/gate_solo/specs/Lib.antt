@@ -1,5 +1,0 @@
-pub mod Allowed
-pub mod SoloWorld
-pub mod SoloGate
-pub mod Ending
-pub mod laws

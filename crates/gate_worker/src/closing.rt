@@ -1,0 +1,46 @@
+ghost use Rattle.std.specs.Prelude.{◌≡◌};
+
+use crate::shared::{Closable, Shared};
+use gate_environment::{Wake, Watch, pause};
+use gate_queue::{CloseFault, Notice};
+use std::sync::Wait;
+use std::time::Clock;
+
+/// Closes the gate where nobody has, at the clock's moment, and returns a notice of the close. A close
+/// for which memory is missing is tried again, until it is done. Own rule.
+pub fn close_gate<R: Wait + Clock, K: Watch, W>(closable: &Closable<'_, '_, R, K, W>) -> Notice
+    ensures { result.cell ≡ closable.now.shared.now.gate.now.cell }
+{
+    let Shared {
+        rt,
+        alloc,
+        gate,
+        clock,
+        ..
+    } = *closable.shared;
+    let mut closer = closable.closer.another();
+    for _ in rt.forever() {
+        match closer.close(alloc, gate, clock.read()) {
+            Ok(notice) => return notice,
+            Err(CloseFault::AlreadyClosing(_)) => match closer.notice() {
+                Some(notice) => return notice,
+                None => unreachable!(),
+            },
+            Err(CloseFault::OutOfMemory) => pause(rt),
+        }
+    }
+    unreachable!()
+}
+
+// Closes the gate where nobody has, and wakes the agents' workers.
+pub(crate) fn close_and_wake<R: Wait + Clock, K: Watch, W: Wake>(
+    closable: &Closable<'_, '_, R, K, W>,
+) {
+    let notice = close_gate(closable);
+    wake_agents(closable.shared.wake, &notice);
+}
+
+// Wakes the agents' workers. Woken before the close, they would end while agents still come.
+fn wake_agents<W: Wake>(wake: &W, _closing: &Notice) {
+    wake.agents();
+}
