@@ -3,7 +3,6 @@ python3 haproxy_test.py PROGRAM CTL CONFIGURATION. Ends with a line 'N passed, M
 import os
 import pwd
 import re
-import shutil
 import socket
 import subprocess
 import sys
@@ -11,79 +10,8 @@ import tempfile
 import threading
 import time
 
-from daemon_clients import TIME_LIMIT, Daemon, ask, check, end_tests, free_port, packet, read_exactly
-
-SOURCES = {"A": "127.0.0.2", "B": "127.0.0.3", "C": "127.0.0.4"}
-CONFIGURATION = """\
-agents = "127.0.0.1:{agents}"
-operators = "127.0.0.1:{operators}"
-pages = "127.0.0.1:{pages}"
-workers = 2
-[[host]]
-name = "web1"
-""" + "".join(f'[[host.service]]\nname = "{service}"\n' for service in SOURCES)
-
-
-class Gateway:
-    """A gateway with a folder and ports that stay, and the log pages of its runs that have ended."""
-
-    def __init__(self, program, folder, name):
-        self.program = program
-        self.folder = os.path.join(folder, name)
-        os.mkdir(self.folder)
-        self.name = name
-        agents, operators, pages = (free_port() for _ in range(3))
-        self.configuration = CONFIGURATION.format(agents=agents, operators=operators, pages=pages)
-        self.agents, self.pages = agents, pages
-        self.logs = []
-        self.restored = set()  # service and output of each result that a restore has sent
-        self.start()
-
-    def start(self):
-        self.daemon = Daemon(self.program, self.folder, self.configuration)
-
-    def take_log(self):
-        status, output, _ = self.daemon.end()
-        check(f"the status of {self.name}", status, 0)
-        self.logs.append(output)
-
-    def logged(self):
-        """How often each result is in the logs, by its service and output."""
-        found = {}
-        line = r" PROCESS_SERVICE_CHECK_RESULT;web1;(\w);0;(\d+) -> Accepted$"
-        for service, output in re.findall(line, "".join(self.logs), re.MULTILINE):
-            found[service, output] = found.get((service, output), 0) + 1
-        return found
-
-
-class Sender(threading.Thread):
-    """Sends result after result of one service from one address by the real client, until it is stopped."""
-
-    def __init__(self, folder, port, service, source):
-        super().__init__(daemon=True)
-        configuration = os.path.join(folder, "send_nsca.cfg")
-        self.words = [shutil.which("send_nsca"), "-H", "127.0.0.1", "-p", str(port), "-c", configuration]
-        library = os.path.join(folder, "source_address.so")
-        self.environment = {**os.environ, "LD_PRELOAD": library, "SOURCE_ADDRESS": source}
-        self.service = service
-        self.sent = []  # the outputs with status 0
-        self.unsent = 0
-        self.is_stopped = False
-
-    def send(self, output):
-        ran = subprocess.run(self.words, input=f"web1\t{self.service}\t0\t{output}\n", env=self.environment,
-                             capture_output=True, text=True, timeout=TIME_LIMIT, check=False)
-        if ran.returncode == 0:
-            self.sent.append(str(output))
-        else:
-            self.unsent += 1
-
-    def run(self):
-        number = 0
-        while not self.is_stopped:
-            number += 1
-            self.send(number)
-            time.sleep(0.02)
+from balanced_gateways import SOURCES, Gateway, check_each_keeps_to_one, count_results, serving, start_senders, stop_senders, wait_for
+from daemon_clients import TIME_LIMIT, ask, check, end_tests, free_port, packet, read_exactly
 
 
 def balancer_files(folder, example, gateways):
@@ -150,19 +78,6 @@ def states(admin):
     return {row[1]: row[17] for row in rows}
 
 
-def wait_for(what, test):
-    end = time.monotonic() + TIME_LIMIT
-    while not test() and time.monotonic() < end:
-        time.sleep(0.05)
-    check(what, test(), True)
-
-
-def serving(gateways, service):
-    """The gateways whose pages have a result of this service."""
-    line = re.compile(rf"^object;web1;{service};OK;", re.MULTILINE)
-    return [gateway for gateway in gateways if line.search(gateway.daemon.page())]
-
-
 def control(ctl, gateway, word, *words):
     """How nscagatectl ended with these words."""
     path = os.path.join(gateway.folder, "gateway.toml")
@@ -176,10 +91,6 @@ def play(program, ctl, example, folder):
     path, admin, port = balancer_files(folder, example, gateways)
     checked = subprocess.run(["haproxy", "-c", "-q", "-f", path], capture_output=True, text=True, check=False)
     check("HAProxy takes its file", (checked.returncode, checked.stdout + checked.stderr), (0, ""))
-    with open(os.path.join(folder, "send_nsca.cfg"), "w", encoding="ascii") as file:
-        file.write("encryption_method=0\n")
-    library = os.path.join(folder, "source_address.so")
-    subprocess.run(["cc", "-shared", "-fPIC", "-o", library, "scenarios/source_address.c", "-ldl"], check=True)
     balancer = subprocess.Popen(["haproxy", "-db", "-f", path], stdout=subprocess.DEVNULL, stderr=subprocess.DEVNULL)
     try:
         wait_for("HAProxy runs", lambda: os.path.exists(admin) and set(states(admin).values()) == {"UP"})
@@ -192,29 +103,21 @@ def play(program, ctl, example, folder):
 
 
 def play_senders(ctl, folder, gateways, admin, port):
-    senders = [Sender(folder, port, service, source) for service, source in SOURCES.items()]
-    for sender in senders:
-        sender.start()
-    for service in SOURCES:
-        wait_for(f"results of {service} are shown", lambda: len(serving(gateways, service)) > 0)
-    time.sleep(1.0)
-    for service in SOURCES:
-        check(f"{service} keeps to one gateway", len(serving(gateways, service)), 1)
+    senders = start_senders(folder, port)
+    check_each_keeps_to_one(gateways)
     first = serving(gateways, "A")[0]
     others = [gateway for gateway in gateways if gateway is not first]
     restart(ctl, first, others, admin, port)
     check("no sender has failed", [sender.unsent for sender in senders], [0, 0, 0])
     second = serving(others, "A")[0]
     end_without_a_word(second, admin)
-    for sender in senders:
-        sender.is_stopped = True
-        sender.join(TIME_LIMIT)
+    stop_senders(senders)
     for gateway in gateways:
         if gateway is not second:
             wait_for(f"the connections of {gateway.name} end", lambda: sessions(admin, gateway.name) == 0)
             check(f"{gateway.name} is shut down", ask(gateway.daemon, "[1] SHUTDOWN_PROGRAM"), ["closing"])
             gateway.take_log()
-    count_results(senders, gateways, first, second)
+    count_results(senders, gateways, second)
     return second.name
 
 
@@ -250,30 +153,6 @@ def end_without_a_word(second, admin):
     check("a second gateway is shut down", ask(second.daemon, "[1] SHUTDOWN_PROGRAM"), ["closing"])
     second.take_log()
     wait_for("HAProxy notices", lambda: states(admin)[second.name] == "DOWN")
-
-
-def count_results(senders, gateways, first, second):
-    """Each result that its sender called sent is in one log, once; but of each sender of the gateway that ended
-    without a word at most one is in none: that between its last one there and its first one elsewhere."""
-    logs = {gateway.name: gateway.logged() for gateway in gateways}
-    total = lost = 0
-    for sender in senders:
-        found = []
-        for output in sender.sent:
-            names = [name for name, log in logs.items() for _ in range(log.get((sender.service, output), 0))]
-            if (sender.service, output) in first.restored:
-                names.remove(first.name)
-            found.append(names)
-        check(f"{sender.service} has sent much", len(found) > 50, True)
-        before = max((place for place, names in enumerate(found) if names == [second.name]), default=None)
-        gaps = [place for place, names in enumerate(found) if len(names) != 1]
-        check(f"results of {sender.service} that are not in one log, once", gaps,
-              gaps if before is not None and gaps == [before + 1] and not found[before + 1] else [])
-        total += len(found)
-        lost += len(gaps)
-    unsent = sum(sender.unsent for sender in senders)
-    print(f"{total} results were called sent; {lost} of them were on their way to the gateway that was shut down "
-          f"without a word, where {unsent} more were called unsent")
 
 
 def sessions(admin, name):
