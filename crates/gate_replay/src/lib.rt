@@ -1,10 +1,10 @@
 //! The replay of a script: its lines are parsed and checked whole before anything is done, and then
 //! played through a queue of two clients and an applier. The queue is a gate, or a World for
-//! reference, and shows the one thread that uses it a run: over a World the run is legal, over a gate
-//! it is one that the gate's contracts allow, whatever other threads do. Each packet is a session of client 1 and each operator's line one of client 2. It
-//! prints their answers, a status page where one is asked for, and in the end the log page; what
-//! stops it is reported in one line and an exit status. It prints to a `Sink`, and drops no failed
-//! write or flush.
+//! reference, and shows the one thread that uses it a run: over a World the run is legal, over a
+//! gate it is one that the gate's contracts allow, whatever other threads do. Each packet is a
+//! session of client 1 and each operator's line one of client 2. It prints their answers, a status
+//! page where one is asked for, and in the end the log page; what stops it is reported in one line
+//! and an exit status. It prints to a `Sink`, and drops no failed write or flush.
 #![tactic(auto)]
 
 mod allowed;
