@@ -328,7 +328,7 @@ def check_files(example):
         status, printed = run("promtool", "test", "rules", os.path.join(example, "nscagate.rules_test.yml"))
         check(f"each outage of the rules' test {printed}", status, 0)
     else:
-        print("promtool ... skipped: it is not installed")
+        print("the rules of alerts ... skipped: promtool is not installed")
     tested = set(re.findall(r"alertname: (\w+)\n        exp_alerts", read(example, "nscagate.rules_test.yml")))
     check("the alerts that the rules' test sees", tested, alerts_of(read(example, "nscagate.rules.yml")))
     if shutil.which("amtool"):
@@ -338,15 +338,16 @@ def check_files(example):
             found = run("amtool", "config", "routes", "test", f"--config.file={config}", f"severity={severity}")
             check(f"who is notified of what is {severity}", found, (0, receiver + "\n"))
     else:
-        print("amtool ... skipped: it is not installed")
+        print("the routes of alerts ... skipped: amtool is not installed")
 
 
 def main():
     nscagate, statusweb, example = (os.path.abspath(word) for word in sys.argv[1:4])
     check_files(example)
     missing = [tool for tool in ("prometheus", "prometheus-alertmanager") if not shutil.which(tool)]
+    for tool in missing:
+        print(f"each outage ... skipped: {tool} is not installed")
     if missing:
-        print(f"each outage ... skipped: {missing[0]} is not installed")
         end_tests()
     for program in (nscagate, statusweb):
         check(f"{program} is built", os.access(program, os.X_OK), True)

@@ -31,11 +31,11 @@ class Gateway:
         self.configuration = CONFIGURATION.format(agents=agents, operators=operators, pages=pages)
         self.agents, self.pages = agents, pages
         self.logs = []
-        self.restored = set()  # service and output of each result that a restore has sent
+        self.restored = set()  # service and output of each result that was restored
         self.start()
 
-    def start(self):
-        self.daemon = Daemon(self.program, self.folder, self.configuration)
+    def start(self, kept=b""):
+        self.daemon = Daemon(self.program, self.folder, self.configuration, kept)
 
     def take_log(self):
         status, output, _ = self.daemon.end()

@@ -63,14 +63,17 @@ def free_port():
 
 
 class Daemon:
-    """A running `nscagate serve`, and the addresses that it printed."""
+    """A running `nscagate serve`, and the addresses that it printed. It is handed this text, as what is kept."""
 
-    def __init__(self, program, folder, configuration):
-        path = os.path.join(folder, "gateway.toml")
+    def __init__(self, program, folder, configuration, kept=b""):
+        path, text = os.path.join(folder, "gateway.toml"), os.path.join(folder, "text")
         with open(path, "w", encoding="latin-1") as file:
             file.write(configuration)
-        self.process = subprocess.Popen([program, "serve", "--config", path],
-                                        stdout=subprocess.PIPE, stderr=subprocess.PIPE)
+        with open(text, "wb") as file:
+            file.write(kept)
+        with open(text, "rb") as file:
+            self.process = subprocess.Popen([program, "serve", "--config", path], stdin=file,
+                                            stdout=subprocess.PIPE, stderr=subprocess.PIPE)
         self.hosts = {}
         self.ports = {}
         for name in ("agents", "operators", "pages"):

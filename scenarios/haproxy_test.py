@@ -81,7 +81,7 @@ def states(admin):
 def control(ctl, gateway, word, *words):
     """How nscagatectl ended with these words."""
     path = os.path.join(gateway.folder, "gateway.toml")
-    return subprocess.run([ctl, word, "--config", path, *words], capture_output=True, text=True, timeout=60, check=False)
+    return subprocess.run([ctl, word, "--config", path, *words], capture_output=True, timeout=60, check=False)
 
 
 def play(program, ctl, example, folder):
@@ -133,16 +133,16 @@ def restart(ctl, first, others, admin, port):
     wait_for("its connections end", lambda: sessions(admin, first.name) == 0)
     kept = os.path.join(first.folder, "page")
     stopped = control(ctl, first, "stop", kept)
-    check("it is stopped", (stopped.returncode, stopped.stderr), (0, ""))
+    check("it is stopped", (stopped.returncode, stopped.stderr), (0, b""))
     with open(kept, encoding="ascii") as file:
         first.restored = set(re.findall(r"^object;web1;(\w+);OK;.*;(\d+)$", file.read(), re.MULTILINE))
     first.take_log()
     logged = "PROCESS_HOST_CHECK_RESULT;web1;0;on its way -> Accepted" in first.logs[0]
     check("the packet that was on its way is there", logged, True)
     wait_for("another gateway takes over", lambda: len(serving(others, "A")) == 1)
-    first.start()
     restored = control(ctl, first, "restore", kept)
-    check("it is restored", (restored.returncode, restored.stdout), (0, "restored: each row is shown again\n"))
+    check("it is planned", restored.returncode, 0)
+    first.start(restored.stdout)
     check("its comment is there", ";user;1;" in first.daemon.page(), True)
     command(admin, f"set server gateways/{first.name} state ready")
     wait_for("it serves again", lambda: states(admin)[first.name] == "UP")

@@ -1,6 +1,7 @@
 """A gateway after stunnel, sshd and nginx, with the files of examples/: python3 security_test.py NSCAGATE STATUSWEB STATUSDESK
 EXAMPLES. Ends with a line 'N passed, M failed'."""
 import base64
+import contextlib
 import getpass
 import gzip
 import http.client
@@ -159,7 +160,32 @@ def answers(family, address, line):
             return b""
 
 
+@contextlib.contextmanager
+def sshd_folder():
+    """The folder in which sshd, as root, leaves its rights: the first start of its service makes it. Whether it is there."""
+    path = "/run/sshd"
+    is_ours = os.geteuid() == 0 and not os.path.isdir(path)
+    try:
+        if is_ours:
+            os.mkdir(path, 0o755)
+    except OSError as error:
+        print(f"operators over ssh ... skipped: {path} can't be made: {error.strerror}")
+        yield False
+        return
+    try:
+        yield True
+    finally:
+        if is_ours:
+            os.rmdir(path)
+
+
 def test_operators(daemon, folder, examples):
+    with sshd_folder() as is_there:
+        if is_there:
+            play_ssh(daemon, folder, examples)
+
+
+def play_ssh(daemon, folder, examples):
     for name in ("host", "key"):
         check(f"a key: {name}", run("ssh-keygen", "-q", "-t", "ed25519", "-N", "", "-f", f"{folder}/{name}")[0], 0)
     shutil.copy(f"{folder}/key.pub", f"{folder}/authorized")
@@ -306,8 +332,12 @@ def test_forms(daemon, statusdesk, folder, examples):
     check("its comment, on the daemon's page", ";ann;over nginx" in daemon.page_with(";ann;over nginx"), True)
 
 
-def missing_of(*tools):
-    return next((tool for tool in tools if not shutil.which(tool)), None)
+def lacks(name, tools):
+    """Whether a part of this name can't run here; it is said of each tool that isn't installed."""
+    missing = [tool for tool in tools if not shutil.which(tool)]
+    for tool in missing:
+        print(f"{name} ... skipped: {tool} is not installed")
+    return bool(missing)
 
 
 def main():
@@ -323,10 +353,7 @@ def main():
         ENDED.append(daemon.process)
         try:
             for name, tools, part, more in parts:
-                missing = missing_of(*tools)
-                if missing:
-                    print(f"{name} ... skipped: {missing} is not installed")
-                else:
+                if not lacks(name, tools):
                     part_folder = os.path.join(folder, name.replace(" ", "-"))
                     os.mkdir(part_folder)
                     part(daemon, *more, part_folder, examples)

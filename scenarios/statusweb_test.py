@@ -946,7 +946,7 @@ def test_names():
             run = promtool('metrics', text)
             test('promtool reads the metrics', run.returncode == 0 and run.stdout + run.stderr == b'', run)
         else:
-            print('promtool ... skipped: it is not installed')
+            print('metrics by promtool ... skipped: promtool is not installed')
         if shutil.which('prometheus'):
             with tempfile.TemporaryDirectory() as folder:
                 scrape = scraped(web.port, folder)
@@ -955,13 +955,13 @@ def test_names():
                 (name, tuple(sorted(label for label in labels if label[1]))): number
                 for (name, labels), number in found.items()}, scrape)
         else:
-            print('Prometheus ... skipped: it is not installed')
+            print('metrics by Prometheus ... skipped: prometheus is not installed')
 
 
 def test_browser(now):
     browser = shutil.which('chromium') or shutil.which('chromium-browser') or shutil.which('google-chrome')
     if not browser:
-        print('a browser ... skipped: none is installed')
+        print('a page in a browser ... skipped: chromium is not installed')
         return
     gateway = shows(page_of(b'<script>alert(1)</script>', b'"><img src=x onerror=alert(1)>', b'<b>', b'<i>', b"'", now))
     with Web(('east', gateway.port)) as web, tempfile.TemporaryDirectory() as folder:
