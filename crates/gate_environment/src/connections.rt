@@ -1,4 +1,4 @@
-ghost use Rattle.std.specs.Prelude.{◌≡◌, ℕ, List, Option, None, option_map};
+ghost use Rattle.std.specs.Prelude.{◌≡◌, ℕ, List, Option, None, IfSome, IsSome, true, option_map};
 ghost use Rattle.gate_model.specs.declared.record.Moment.{Moment};
 ghost use Rattle.gate_environment.specs.Streams.{ComesNext};
 
@@ -6,7 +6,32 @@ use crate::clock::Clock;
 use gate_model::Moment;
 use gate_streams::{Sink, Source};
 
-/// Where a worker's connections come from.
+/// A piece of a connection: packets or lines that its peer has sent, up to where others are served, or
+/// all of them.
+#[derive(Drop)]
+pub struct Piece<I, O> {
+    /// Which of a worker's connections it is of, from 0. Those that are open at the same time have
+    /// different places.
+    pub place: usize,
+    /// Whether it is the first one of its connection.
+    pub is_first: bool,
+    /// What the peer sends. It ends where the piece ends.
+    pub input: I,
+    /// Where its answers go.
+    pub output: O,
+}
+
+/// What becomes of a connection after a piece of it was served.
+#[derive(Clone, Copy)]
+pub enum PieceEnd {
+    /// It may have more pieces. Whether something of this one was queued.
+    GoesOn { has_queued: bool },
+    /// It has none any more, whatever its peer sends.
+    Over,
+}
+
+/// Where a worker's connections come from, in pieces: those of one connection in order, beside those of
+/// others.
 ///
 /// A type that leaves the member out claims nothing by it.
 pub trait Connections {
@@ -14,17 +39,20 @@ pub trait Connections {
 
     type Out: Sink + Drop + Send;
 
-    // What the connections from here on send, one after the other, where it is known.
+    // What the connections from here on send, one after the other, where it is known. Then each of them is
+    // one piece.
     ghost streams: { Self → Option (List (List ℕ)) } = { λ _. None };
 
-    /// The next connection: what it sends, and where its answers go. None: there are no more.
-    fn next(&mut self) -> Option<(Self::In, Self::Out)>
-        ensures { ComesNext (streams self.old)
-            (option_map (λ connection. (Self.In.state connection.0).left) result)
-            (streams self.new) };
+    /// The next piece of a connection. None: there are no more.
+    fn next(&mut self) -> Option<Piece<Self::In, Self::Out>>
+        ensures comes { ComesNext (streams self.old)
+            (option_map (λ piece. (Self.In.state piece.input).left) result)
+            (streams self.new) }
+        ensures whole { IsSome (streams self.old) → IfSome result (λ piece. piece.is_first ≡ true) };
 
-    /// Takes back a connection that was served. Its peer receives all that was written.
-    fn part(&mut self, _input: Self::In, _output: Self::Out)
+    /// Takes back a piece that was served, and ends its connection where that is over. Its peer receives
+    /// all that was written.
+    fn part(&mut self, _piece: Piece<Self::In, Self::Out>, _end: PieceEnd)
         ensures { streams self.new ≡ streams self.old }
     {}
 
@@ -35,9 +63,9 @@ pub trait Connections {
 /// A point of a thread's way at which a `Hold` is called.
 #[derive(Clone, Copy)]
 pub enum Point {
-    /// A worker has a connection, and serves it next.
+    /// A worker has a piece of a connection, and serves it next.
     Session,
-    /// A worker has the report of a connection.
+    /// A worker has the report of a piece.
     Answered,
     /// The applier has taken an item, and applies it next.
     BeforeApply,

@@ -9,6 +9,8 @@ pub mod times;
 mod unstarted;
 
 pub use clock::{Clock, FixedClock};
-pub use connections::{Connections, Hold, NoHold, Point, SharedClock, Wake, Watch};
+pub use connections::{
+    Connections, Hold, NoHold, Piece, PieceEnd, Point, SharedClock, Wake, Watch,
+};
 pub use pausing::pause;
 pub use unstarted::Unstarted;

@@ -1,35 +1,31 @@
 //! The times of the daemon, and how they fit together. Own rules.
 //!
 //! Those of a peer are the time that it may take for one thing that it owes, however many calls that
-//! needs; only waiting for the peer counts. Each port waits for all of its peers at once, but for the
-//! agents', of whom each worker serves one at a time.
-
-/// How long an agents' worker waits for a connection or for bytes before it looks at the time, at the
-/// other agents and whether the daemon is to end.
-pub const TURN_MILLIS: u64 = 100;
+//! needs; only waiting for the peer counts. No time of a peer holds a worker: each port waits for all of
+//! its peers at once.
 
 /// In what time an agent takes its greeting.
 pub const GREETING_MILLIS: u64 = 10_000;
 
-/// In what time an agent brings its first 720 bytes, from its greeting on: the least packet that there
-/// is.
-pub const FIRST_BYTES_MILLIS: u64 = 8_000;
+/// For how many seconds an agent may be silent at least, after its greeting and after each packet. Where
+/// the greatest age of a packet is more, it may be silent for so long: what comes later would be too
+/// old. Where it is less, what comes too late is still read, and reported as stale.
+pub const LEAST_SILENCE_SECONDS: u32 = 60;
 
-/// In what time an agent brings each 720 bytes more.
-pub const NEXT_BYTES_MILLIS: u64 = 10_000;
-
-/// In what time an agent brings its first 720 bytes, and each 720 more, while another waits for a
-/// connection and no worker is free.
-pub const CROWDED_MILLIS: u64 = 1_000;
+/// For how many seconds an agent may be silent where packets are never too old: one whose machine went
+/// away without a word isn't kept for ever.
+pub const AGELESS_SILENCE_SECONDS: u32 = 900;
 
 /// How long a `send_nsca` waits for its greeting.
 const SEND_NSCA_MILLIS: u64 = 10_000;
 
-// The agent that comes after a silent one is greeted before it gives up; so is the one that comes after
-// 100 silent ones, with 16 workers.
-const _: () = prove!(FIRST_BYTES_MILLIS + TURN_MILLIS < SEND_NSCA_MILLIS);
-
-const _: () = prove!((100 / 16 + 1) * (CROWDED_MILLIS + TURN_MILLIS) < SEND_NSCA_MILLIS);
+// No agent is let go for its silence while it may still wait for its greeting, and where packets are
+// never too old it has more time than where they are soon.
+const _: () = prove!(
+    GREETING_MILLIS <= SEND_NSCA_MILLIS
+        && SEND_NSCA_MILLIS < LEAST_SILENCE_SECONDS as u64 * 1_000
+        && LEAST_SILENCE_SECONDS <= AGELESS_SILENCE_SECONDS
+);
 
 /// In what time an operator takes the answers so far and ends its next line.
 pub const LINE_MILLIS: u64 = 60_000;
@@ -62,16 +58,10 @@ pub const MEMORY_TRIES: u32 = 500;
 
 const _: () = prove!(MEMORY_TRIES as u64 * PAUSE_MILLIS == 1_000);
 
-// The operators part; the agents' workers look whether they are to end; a board and a page are tried, as
-// are those that show a close; a last reader comes; and the readers take their pages and part.
+// The operators part; a board and a page are tried, as are those that show a close; a last reader comes;
+// and the readers take their pages and part. The agents' workers are woken at once.
 const _: () = prove!(
-    LAST_MILLIS
-        + PARTING_MILLIS
-        + TURN_MILLIS
-        + 4 * 1_000
-        + LAST_READER_MILLIS
-        + LAST_MILLIS
-        + PARTING_MILLIS
+    LAST_MILLIS + PARTING_MILLIS + 4 * 1_000 + LAST_READER_MILLIS + LAST_MILLIS + PARTING_MILLIS
         < END_MILLIS
 );
 

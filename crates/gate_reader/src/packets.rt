@@ -1,8 +1,11 @@
 ghost use Rattle.std.specs.Prelude.{◌≡◌, ◌<◌, ◌≤◌, [], length, IfOk, IfErr, OnOk, OnErr, IfSome, Some, None, ⊤};
+ghost use Rattle.gate_model.specs.declared.record.Moment.{Moment};
+ghost use Rattle.gate_environment.specs.Clock.{Shows};
 ghost use Rattle.gate_streams.specs.Sink.{Delivers, FailsOnce};
 ghost use Rattle.gate_reader.specs.Report.{AreOpen};
 ghost use Rattle.gate_reader.specs.Session.{client_view, parties, AnswersFront};
 ghost use Rattle.gate_reader.specs.Packets.{greeting, packets, IsPacketSession};
+ghost use Rattle.gate_reader.specs.Pieces.{IsPacketPiece, IsFirstPacketPiece};
 ghost use Rattle.gate_reader.specs.inner.Progress.{AnswersOneBlock, IsLastBlock, stop_by, ServesFront, AreLast, Runs};
 
 use crate::read_buffer::ReadBuffer;
@@ -110,7 +113,7 @@ pub(crate) fn stop_at_end(rest: usize) -> Stop
     }
 }
 
-// Reads and serves the packets of the input.
+// Reads and serves the packets of the input: why the session stops, and how many of its reads count.
 fn read_packets<R: Source, C: Clock, S: Submit>(
     alloc: Global,
     reader: &mut R,
@@ -119,20 +122,20 @@ fn read_packets<R: Source, C: Clock, S: Submit>(
     limits: SessionLimits,
     greatest_age: u32,
     answers: &mut Vec<Answer>,
-) -> Stop
+) -> (Stop, u32)
     requires none { answers.old.items ≡ [] }
     ensures served { let view = client_view S.Submit (S.named client.old) in
         Runs view (packets view limits.items greatest_age) limits
         (parties client.old (C.state clock.old)) (parties client.new (C.state clock.new))
-        (R.state reader.old) (R.state reader.new) answers.new.items result }
+        (R.state reader.old) (R.state reader.new) answers.new.items result.0 result.1 }
     ensures named { S.named client.new ≡ S.named client.old }
     ensures keeps { S.keeps client.old client.new }
 {
     let mut buffer = ReadBuffer::new();
-    for _ in 0..limits.reads {
+    for made in 0..limits.reads {
         match buffer.read(reader) {
-            Err(_) => return Stop::ReadFault,
-            Ok(0) => return stop_at_end(buffer.as_slice().len()),
+            Err(_) => return (Stop::ReadFault, made + 1),
+            Ok(0) => return (stop_at_end(buffer.as_slice().len()), made),
             Ok(_) => {}
         }
         match serve_front(
@@ -145,10 +148,69 @@ fn read_packets<R: Source, C: Clock, S: Submit>(
             answers,
         ) {
             Ok(left) => buffer.keep_last(left),
-            Err(stop) => return stop,
+            Err(stop) => return (stop, made + 1),
         }
     }
-    Stop::ReadFault
+    (Stop::ReadFault, limits.reads)
+}
+
+/// Serves one piece of what an agent sends after the greeting: reads packets and submits the result
+/// of each, one after the other. Beside the report stands what is left of the limits, which is what
+/// the connection's next piece may do.
+///
+/// Each packet has one answer in the report: `Queued`, `Full`, `Spent` or `Closing` as the client
+/// answers its submission, or `Stale` or `EmptyHost` where it was dropped. The piece stops at its
+/// end (`End`, `Truncated`), at a packet with another fault (`BadPacket`), after the answer `Closing`
+/// (`Shutdown`), where a read failed or `limits.reads` reads were made (`ReadFault`), where
+/// `limits.items` packets were answered and one more is there (`TooMany`), and where memory runs out
+/// (`OutOfMemory`). After `End` the next piece may follow. A packet can't go on in another piece:
+/// what is left of one at the end is `Truncated`.
+///
+/// Each answer takes one from `limits.items`, and each read one from `limits.reads`, except the one
+/// that gives no bytes at the piece's end.
+///
+/// `greatest_age` is in seconds, and with 0 no packet is stale. Each packet takes one reading of the
+/// clock. What waits is the reader or the client.
+///
+/// Source: `data_packet` of NSCA 2.9 and 2.7, `common.h`. Own rules: the length of a packet, the
+/// answers, the stops and what is left.
+pub fn serve_packet_piece<R: Source, C: Clock, S: Submit>(
+    alloc: Global,
+    reader: &mut R,
+    clock: &mut C,
+    client: &mut S,
+    limits: SessionLimits,
+    greatest_age: u32,
+) -> (Report, SessionLimits)
+    ensures piece { let view = client_view S.Submit (S.named client.old) in
+        IsPacketPiece view limits greatest_age
+        (parties client.old (C.state clock.old)) (parties client.new (C.state clock.new))
+        (R.state reader.old) (R.state reader.new) result.0.answers result.0.stop result.1 }
+    // Where the reader's bytes are known, the answers are those of the packets at their front.
+    ensures stream { let view = client_view S.Submit (S.named client.old) in
+        IfSome (R.state reader.old).left (λ stream.
+        AnswersFront (packets view limits.items greatest_age) stream
+        result.0.answers result.0.stop) }
+
+    ensures named { S.named client.new ≡ S.named client.old }
+    ensures keeps { S.keeps client.old client.new }
+{
+    let mut answers = Vec::new(alloc);
+    let (stop, reads) = read_packets(
+        alloc,
+        reader,
+        clock,
+        client,
+        limits,
+        greatest_age,
+        &mut answers,
+    );
+    let left = limits.less(answers.as_slice(), reads);
+    let report = Report {
+        answers: Answers::new(answers),
+        stop,
+    };
+    (report, left)
 }
 
 // 128 zeros and the moment.
@@ -160,12 +222,59 @@ fn greeting_of(now: Moment) -> [u8; 132]
     bytes
 }
 
-// Writes and delivers the greeting.
-fn greet<W: Sink>(writer: &mut W, now: Moment) -> io::Result<()>
-    ensures ok { OnOk result (Delivers (W.state writer.old) (W.state writer.new) (greeting now)) }
+/// Reads the clock, and writes and delivers the greeting of that moment: 128 zeros and the seconds
+/// since 1970, four bytes with the highest first. An error is the writer's. What waits is the writer.
+///
+/// Source: `init_packet_struct` of NSCA 2.9, `common.h`.
+pub fn greet<W: Sink, C: Clock>(writer: &mut W, clock: &mut C) -> io::Result<()>
+    ensures greeted { (now : Moment) × Shows (C.state clock.old) (C.state clock.new) now
+        × OnOk result (Delivers (W.state writer.old) (W.state writer.new) (greeting now)) }
     ensures err { OnErr result (FailsOnce (W.state writer.old) (W.state writer.new)) }
 {
+    let now = clock.now();
     put_last(writer, &greeting_of(now))
+}
+
+/// Serves the first piece of an agent's connection: writes the greeting with the clock's moment, and
+/// then reads and submits as [`serve_packet_piece`] does. Where the greeting can't be written, the
+/// piece stops with `WriteFault`, nothing is read, and the limits are left as they are.
+///
+/// The greeting takes the clock's first reading and each packet the next one. What waits is the
+/// reader, the writer or the client.
+///
+/// Source: `init_packet_struct` and `data_packet` of NSCA 2.9 and 2.7, `common.h`. Own rules: the
+/// length of a packet, the answers, the stops and what is left.
+pub fn serve_first_packet_piece<R: Source, W: Sink, C: Clock, S: Submit>(
+    alloc: Global,
+    reader: &mut R,
+    writer: &mut W,
+    clock: &mut C,
+    client: &mut S,
+    limits: SessionLimits,
+    greatest_age: u32,
+) -> (Report, SessionLimits)
+    ensures piece { let view = client_view S.Submit (S.named client.old) in
+        IsFirstPacketPiece view limits greatest_age
+        (parties client.old (C.state clock.old)) (parties client.new (C.state clock.new))
+        (R.state reader.old) (R.state reader.new) (W.state writer.old) (W.state writer.new)
+        result.0.answers result.0.stop result.1 }
+    // Where the reader's bytes are known, the answers are those of the packets at their front.
+    ensures stream { let view = client_view S.Submit (S.named client.old) in
+        IfSome (R.state reader.old).left (λ stream.
+        AnswersFront (packets view limits.items greatest_age) stream
+        result.0.answers result.0.stop) }
+
+    ensures named { S.named client.new ≡ S.named client.old }
+    ensures keeps { S.keeps client.old client.new }
+{
+    if greet(writer, clock).is_err() {
+        let report = Report {
+            answers: Answers::new(Vec::new(alloc)),
+            stop: Stop::WriteFault,
+        };
+        return (report, limits);
+    }
+    serve_packet_piece(alloc, reader, clock, client, limits, greatest_age)
 }
 
 /// Serves one connection of an agent: writes the greeting with the clock's moment, and then reads
@@ -209,25 +318,14 @@ pub fn serve_packets<R: Source, W: Sink, C: Clock, S: Submit>(
     ensures named { S.named client.new ≡ S.named client.old }
     ensures keeps { S.keeps client.old client.new }
 {
-    let mut answers = Vec::new(alloc);
-    let now = clock.now();
-    if greet(writer, now).is_err() {
-        return Report {
-            answers: Answers::new(answers),
-            stop: Stop::WriteFault,
-        };
-    }
-    let stop = read_packets(
+    let (report, _) = serve_first_packet_piece(
         alloc,
         reader,
+        writer,
         clock,
         client,
         limits,
         greatest_age,
-        &mut answers,
     );
-    Report {
-        answers: Answers::new(answers),
-        stop,
-    }
+    report
 }
