@@ -86,8 +86,8 @@ fn finish<R: Wait, K: Watch>(
 /// Once the operator's worker has ended, the agents' workers are woken where it closed the gate,
 /// and joined; the gate is closed where nobody has; the applier is joined, the pages end with a
 /// board that is marked closing, and what is left in the queue is applied. A close or a board for
-/// which memory is missing is tried again. Where memory for one more report of the operator's worker
-/// is missing, nobody could close the gate any more: it is closed then, and all ends as above.
+/// which memory is missing is tried again. Where the operator's worker has ended for lack of memory,
+/// nobody could close the gate any more: it is closed then, and all ends as above.
 ///
 /// It fails where the queue or the applier can't be opened, where memory is missing at the start,
 /// where a thread can't be started (all others are ended then as above), and where `close_all`
@@ -118,8 +118,9 @@ pub fn run_gateway<
     ensures holds { IfOk result (λ finished. HoldsAll settings.workers
         (queued_by_each (reports_of_each finished.reports.items))
         (items_of_records finished.closed.applier.records)) }
-    // Each client's worker served its connections, from the first on, with the limits of the settings:
-    // packets of agents and lines of operators. What they mean is what the log holds for it.
+    // Each client's worker served its connections piece by piece, each connection with the limits of
+    // the settings: packets of agents and lines of operators. What they mean is what the log holds for
+    // it.
     ensures served { IfOk result (λ finished. AllServed settings.worker
         (K.shows clock.now) (map (λ endpoint. A.streams endpoint.connections) endpoints.agents.items)
         (O.streams endpoints.operator.connections) (reports_of_each finished.reports.items)

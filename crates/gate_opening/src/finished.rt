@@ -6,8 +6,8 @@ use gate_worker::Cause;
 #[derive(Drop)]
 pub struct Finished {
     pub closed: Closed,
-    /// Each client's number with the reports of its connections: the operator's first, and then
-    /// those of the agents' workers, from 1.
+    /// Each client's number with the reports of the pieces of connections of which it queued
+    /// something: the operator's first, and then those of the agents' workers, from 1.
     pub reports: Vec<(u32, Vec<Report>)>,
     /// Why the operator's worker ended. At OutOfMemory no operator could close the gate any more, so
     /// the gateway closed it.

@@ -1,4 +1,4 @@
-ghost use Rattle.std.specs.Prelude.{◌≡◌, IsSome};
+ghost use Rattle.std.specs.Prelude.{◌≡◌, IfSome, Some, None};
 
 use gate_applier::Applier;
 use gate_environment::times::MEMORY_TRIES;
@@ -9,17 +9,23 @@ use std::alloc::Global;
 use std::sync::{Mutex, Wait};
 use std::time::Clock;
 
-// A board that is marked closing was published, or there was no memory for it.
+/// With which moment the board is marked that was published last; None: there was no memory for it.
+/// Only `end_pages` makes one of these.
 #[derive(Clone, Copy)]
-struct LastShown(());
+pub struct LastShown {
+    closing: Option<Moment>,
+}
 
-// Publishes a board that is marked closing.
-fn publish_last(board: &mut Board, next: Board) -> LastShown
-    requires { IsSome next.closing }
-    ensures { board.new ≡ next }
+// Publishes a board that is marked closing, at this moment.
+fn publish_last(board: &mut Board, next: Board, moment: Moment) -> LastShown
+    requires { next.closing ≡ Some moment }
+    ensures published { board.new ≡ next }
+    ensures shown { result.closing ≡ Some moment }
 {
     publish(board, next);
-    LastShown(())
+    LastShown {
+        closing: Some(moment),
+    }
 }
 
 // Publishes a board that is marked closing, so that the pages end with it. Where there is no memory for
@@ -30,20 +36,32 @@ fn show_close<R: Wait + Clock>(
     applier: &Applier,
     board: &Mutex<Board>,
     moment: Moment,
-) -> LastShown {
+) -> LastShown
+    ensures { IfSome result.closing (λ shown. shown ≡ moment) }
+{
     for _ in 0..MEMORY_TRIES {
         if let Ok(next) = Board::of(alloc, applier) {
-            return publish_last(&mut board.lock(rt), next.closing(moment));
+            return publish_last(&mut board.lock(rt), next.closing(moment), moment);
         }
         pause(rt);
     }
-    LastShown(())
+    LastShown { closing: None }
+}
+
+/// The server of the status page was woken, once the last board stood there for it. Only `end_pages`
+/// makes one of these.
+#[derive(Clone, Copy)]
+pub struct Woken {
+    last: LastShown,
 }
 
 // Wakes the thread that serves pages. Woken before the last board is published, it would end with
 // an earlier one.
-fn wake_pages<W: Wake>(wake: &W, _last: LastShown) {
+fn wake_pages<W: Wake>(wake: &W, last: LastShown) -> Woken
+    ensures { result.last ≡ last }
+{
     wake.pages();
+    Woken { last }
 }
 
 /// Ends the server of the status page: publishes a board that is marked closing, at this moment, and
@@ -55,6 +73,8 @@ pub fn end_pages<R: Wait + Clock, W: Wake>(
     board: &Mutex<Board>,
     moment: Moment,
     wake: &W,
-) {
-    wake_pages(wake, show_close(rt, alloc, applier, board, moment));
+) -> Woken
+    ensures { IfSome result.last.closing (λ shown. shown ≡ moment) }
+{
+    wake_pages(wake, show_close(rt, alloc, applier, board, moment))
 }

@@ -6,6 +6,6 @@ mod last_board;
 mod pages;
 mod starting;
 
-pub use last_board::end_pages;
-pub use pages::run_pages;
-pub use starting::start_pages;
+pub use last_board::{LastShown, Woken, end_pages};
+pub use pages::{PagesEnd, run_pages};
+pub use starting::{Shows, start_pages};

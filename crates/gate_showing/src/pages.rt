@@ -1,8 +1,8 @@
-ghost use Rattle.gate_showing.specs.Showing.{ShowsBoard};
+ghost use Rattle.gate_showing.specs.Showing.{ShowsBoard, IsShowing};
 ghost use Rattle.gate_showing.specs.inner.Making.{IsMadeOf};
 
 use gate_environment::times::MEMORY_TRIES;
-use gate_environment::{Connections, pause};
+use gate_environment::{Connections, PieceEnd, pause};
 use gate_pages::{Board, status_page};
 use gate_streams::{Sink, put_last};
 use std::alloc::{AllocError, Global};
@@ -57,8 +57,39 @@ fn show_page<R: Wait + Clock, O: Sink>(
     is_last
 }
 
-/// Writes the status page to each connection. It ends after the first connection that is served
-/// with a closing board, and where there are no more connections.
+/// Why the pages ended. Own rules.
+#[derive(Clone, Copy)]
+pub enum PagesEnd {
+    /// A reader was served with a closing board.
+    Closed,
+    /// There are no more readers.
+    NoMoreReaders,
+}
+
+// Shows each reader a board, until one is shown a closing board or none is left.
+fn show_readers<R: Wait + Clock, C: Connections>(
+    rt: &R,
+    alloc: Global,
+    connections: &mut C,
+    board: &Mutex<Board>,
+) -> PagesEnd
+    ensures { IsShowing (C.streams connections.old) result }
+{
+    for _ in rt.forever() {
+        let Some(mut piece) = connections.next() else {
+            return PagesEnd::NoMoreReaders;
+        };
+        let is_last = show_page(rt, alloc, board, &mut piece.output);
+        connections.part(piece, PieceEnd::Over);
+        if is_last {
+            return PagesEnd::Closed;
+        }
+    }
+    unreachable!()
+}
+
+/// Writes the status page to each connection, which is over after its one piece. It ends after the
+/// first connection that is served with a closing board, and where there are no more connections.
 ///
 /// What a connection sends isn't looked at. A page for which memory is missing for a second isn't
 /// written. It waits for the connections and for the board. Own rule.
@@ -67,16 +98,10 @@ pub fn run_pages<R: Wait + Clock, C: Connections + Drop>(
     alloc: Global,
     mut connections: C,
     board: &Mutex<Board>,
-) {
-    for _ in rt.forever() {
-        let Some((input, mut output)) = connections.next() else {
-            break;
-        };
-        let is_last = show_page(rt, alloc, board, &mut output);
-        connections.part(input, output);
-        if is_last {
-            break;
-        }
-    }
+) -> PagesEnd
+    ensures { IsShowing (C.streams connections) result }
+{
+    let end = show_readers(rt, alloc, &mut connections, board);
     connections.end();
+    end
 }

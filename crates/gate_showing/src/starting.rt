@@ -1,10 +1,26 @@
-use crate::pages::run_pages;
+ghost use Rattle.std.specs.Prelude.{◌≡◌, IfOk};
+ghost use Rattle.gate_showing.specs.Showing.{IsShowing};
+
+use crate::pages::{PagesEnd, run_pages};
 use gate_environment::{Connections, Unstarted};
 use gate_pages::Board;
 use std::alloc::Global;
+use std::snapshot::Snapshot;
 use std::sync::{Mutex, Wait};
-use std::thread::{JoinHandle, Scope, Threads};
+use std::thread::{Promise, PromisedHandle, Scope, Threads};
 use std::time::Clock;
+
+/// A server of the status page shows boards to these connections.
+#[derive(Drop)]
+pub struct Shows<C> {
+    connections: Snapshot<C>,
+}
+
+impl<C: Connections> Promise<PagesEnd> for Shows<C> {
+    ghost use Rattle.gate_showing.specs.Showing.{IsShowing};
+
+    ghost kept_by = { λ promise end. IsShowing (C.streams promise.connections.value) end };
+}
 
 /// Starts the server of the status page on a thread of its own: `run_pages`. It fails where the thread
 /// can't be started. Own rule.
@@ -14,8 +30,16 @@ pub fn start_pages<'s, E, R: Threads + Wait + Clock + Sync, P: Connections + Sen
     scope: &Scope<'s, E>,
     pages: P,
     board: &'s Mutex<Board>,
-) -> Result<JoinHandle<()>, Unstarted> {
-    match scope.spawn(move || run_pages(rt, alloc, pages, board)) {
+) -> Result<PromisedHandle<PagesEnd, Shows<P>>, Unstarted>
+    ensures { IfOk result (λ handle. handle.promise.connections.value ≡ pages) }
+{
+    let promise = Shows {
+        connections: Snapshot::of(&pages),
+    };
+    let run = move || -> PagesEnd
+        ensures { IsShowing (P.streams pages) result }
+    { run_pages(rt, alloc, pages, board) };
+    match scope.spawn_with(promise, run) {
         Ok(handle) => Ok(handle),
         Err(failed) => {
             drop(failed);

@@ -19,11 +19,12 @@ use Rattle.gate_reader.specs.declared.report.Stop.{Stop}
 use Rattle.gate_reader.specs.declared.report.Stop.TheVariants as halt
 use Rattle.gate_streams.specs.Source.{SourceState}
 use Rattle.gate_reader.specs.Report.{answer_to, is_open, AreOpen, EndInClose}
+use Rattle.gate_streams.specs.Sink.{SinkState}
 use Rattle.gate_reader.specs.Session.{ClientView, Submits, Handled, SessionKind, LeadsTo, Stops, IsSession, answers_of}
 use Rattle.gate_reader.specs.Packets.{AnswersBlock, packets}
 use Rattle.gate_reader.specs.Lines.{OperatorView, Closes, AnswersLine, lines}
-use Rattle.gate_worker.specs.declared.limits.WorkerLimits.{WorkerLimits}
-use Rattle.gate_worker.specs.Work.{Connection, client_of, operator_of, IsServed, KnowsOf, KnowsItsClose, MetNoClose}
+use Rattle.gate_reader.specs.Pieces.{IsPiece}
+use Rattle.gate_worker.specs.Work.{ServedPiece, client_of, operator_of, IsSessionBy, IsServed, KnowsOf, KnowsItsClose, MetNoClose}
 
 -- who knew of a close still knows of it
 abbrev pub Stays : Option Moment → Option Moment → Type 0
@@ -165,31 +166,42 @@ abbrev is_write_fault : Stop → Bool
 is_write_fault halt.WriteFault = true
 is_write_fault why = false
 
--- of a close that a session met, its client knows
-pub served_knows : (is_operator : Bool) (limits : WorkerLimits) (shows : Moment → Type 0) (old : ClientState) (connection : Connection) (new : ClientState)
-    → IsServed is_operator limits shows old connection new → KnowsItsClose new.known_close connection.report
-served_knows true limits shows old connection new s =
+packets_know : (session : SessionLimits) (age number : ℕ) (old : ClientState) (readings : List Moment) (new : ClientState) (source_before source_after : SourceState) (report : Report) (left : SessionLimits)
+    → IsPiece (client_of number) (packets (client_of number) session.items age) session old readings new source_before source_after report.answers report.stop left → KnowsItsClose new.known_close report
+packets_know session age number old readings new source_before source_after report left s =
+    let view = client_of number in
+    knows_close view (packets view session.items age) session
+    (record {
+      stays = λ x item y h. block_stays view age x item.bytes h.0 item.body item.answer y h.2;
+      tells = λ x item y h. block_tells view age x item.bytes h.0 item.body item.answer y h.2;
+    })
+    (packets_after view session age) (λ answers rest answered last new h. h.0) _ _ _ _ _ report s.session
+
+session_knows : (is_operator is_first : Bool) (session : SessionLimits) (age : ℕ) (shows : Moment → Type 0) (old new : ClientState) (source_before source_after : SourceState) (sink_before sink_after : SinkState) (report : Report) (left : SessionLimits)
+    → IsSessionBy is_operator is_first session age shows old new source_before source_after sink_before sink_after report left → KnowsItsClose new.known_close report
+session_knows true is_first session age shows old new source_before source_after sink_before sink_after report left s =
     let view = operator_of old.number in
-    knows_close view.client (lines view limits.session.items) limits.session
+    knows_close view.client (lines view session.items) session
     (record {
       stays = λ x item y h. line_stays view x item.bytes item.readings item.body item.answer y h;
       tells = λ x item y h. line_tells view x item.bytes item.readings item.body item.answer y h;
     })
-    (lines_after view limits.session) (λ answers rest answered last new h. h.0) _ _ _ _ _ connection.report s.session.served
-served_knows false limits shows old connection new s =
-    let view = client_of old.number in
-    elim s.session.outcome [
-      | inl greeted ↦ knows_close view (packets view limits.session.items limits.greatest_age) limits.session
-          (record {
-            stays = λ x item y h. block_stays view limits.greatest_age x item.bytes h.0 item.body item.answer y h.2;
-            tells = λ x item y h. block_tells view limits.greatest_age x item.bytes h.0 item.body item.answer y h.2;
-          })
-          (packets_after view limits.session limits.greatest_age) (λ answers rest answered last new h. h.0) _ _ _ _ _ connection.report greeted.served
-      | inr ungreeted ↦ record {
-        answers = subst (λ (l : List Answer). AllByRecursion (KnowsOf new.known_close) l) (sym ungreeted.none_answered) tt;
-        stop = λ e. absurd (true≢false (ap is_write_fault (sym ungreeted.stopped ∙ e)));
-      }
-    ]
+    (lines_after view session) (λ answers rest answered last new h. h.0) _ _ _ _ _ report s.served.session
+session_knows false true session age shows old new source_before source_after sink_before sink_after report left s = elim s.outcome [
+  | inl greeted ↦ packets_know session age old.number old s.readings new source_before source_after report left greeted.served
+  | inr ungreeted ↦ record {
+    answers = subst (λ (l : List Answer). AllByRecursion (KnowsOf new.known_close) l) (sym ungreeted.ungreeted.none_answered) tt;
+    stop = λ e. absurd (true≢false (ap is_write_fault (sym ungreeted.ungreeted.stopped ∙ e)));
+  }
+]
+session_knows false false session age shows old new source_before source_after sink_before sink_after report left s =
+    packets_know session age old.number old s.readings new source_before source_after report left s.served
+
+-- of a close that a session met, its client knows
+pub served_knows : (is_operator : Bool) (session : SessionLimits) (age : ℕ) (shows : Moment → Type 0) (old : ClientState) (piece : ServedPiece) (new : ClientState)
+    → IsServed is_operator session age shows old piece new → KnowsItsClose new.known_close piece.report
+served_knows is_operator session age shows old piece new s =
+    session_knows is_operator piece.is_first session age shows old new _ _ _ _ piece.report piece.left s.session
 
 -- ---- no close
 

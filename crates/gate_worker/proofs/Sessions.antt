@@ -17,14 +17,14 @@ use Rattle.gate_reader.specs.Session.{ClientView, Parties, parties, Handled, Ses
 use Rattle.gate_reader.proofs.Serving.{KindLaws}
 use Rattle.gate_reader.proofs.Blocks.{packet_laws}
 use Rattle.gate_reader.proofs.LineCuts.{line_laws}
-use Rattle.gate_reader.specs.Packets.{AnswersBlock, packets, IsPacketSession}
-use Rattle.gate_reader.specs.Lines.{OperatorView, AnswersLine, lines, IsLineSession}
+use Rattle.gate_reader.specs.Packets.{AnswersBlock, packets}
+use Rattle.gate_reader.specs.Lines.{OperatorView, AnswersLine, lines}
+use Rattle.gate_reader.specs.Pieces.{IsPiece, IsFirstPacketPiece, IsLinePiece}
 use Rattle.gate_worker.specs.Numbers.{number_in, queued_numbers, item_numbers, numbers_after}
 use Rattle.gate_reader.specs.declared.report.Report.{Report}
 use Rattle.gate_queue.specs.GateClient.{IsSameClient}
-use Rattle.gate_worker.specs.Work.{Connection, connection_of, client_of, operator_of, kind_of, Means, IsSessionBy, IsServed}
-use Rattle.gate_worker.specs.inner.Serving.{Extends}
-use Rattle.gate_worker.specs.declared.limits.WorkerLimits.{WorkerLimits}
+use Rattle.gate_worker.specs.Work.{ServedPiece, served_piece, client_of, operator_of, kind_of, Means, IsSessionBy, IsServed}
+use Rattle.gate_worker.specs.inner.Serving.{IsPacketPieceBy, Extends}
 use Rattle.gate_queue.specs.Client.{ClientState}
 use Rattle.gate_worker.proofs.Numbering.{item_numbers-append, numbers_of_items}
 
@@ -68,23 +68,42 @@ grows_by view kind has limits old readings new source_before source_after answer
     let q = s.queued list stands in
     (more, q.0, queued_is_answered kind.handles has view.number old s.items s.answered s.serves.leads ∙ ap queued_numbers (sym s.listed), numbers_of_items (length list) more q.1)
 
-packets_grow : {S : Type 0} (view : ClientView S) (limits : SessionLimits) (age : ℕ) (before after : Parties S) (source_before source_after : SourceState) (sink_before sink_after : SinkState) (answers : List Answer) (stop : Stop)
-    → IsPacketSession view limits age before after source_before source_after sink_before sink_after answers stop → Grows view.stands before.client answers after.client
-packets_grow {S} view limits age before after source_before source_after sink_before sink_after answers stop s list stands = elim s.outcome [
-  | inl greeted ↦ grows_by view (packets view limits.items age) (λ x item y h. block_has_body view age x item.bytes h.0 item.body item.answer y h.2) limits _ _ _ source_before source_after answers stop greeted.served list stands
-  | inr ungreeted ↦ ([], subst (λ (c : S). view.stands c (list ++ [])) (sym ungreeted.stays.0) (subst (view.stands before.client) (sym (append-nil list)) stands), ap queued_numbers (sym ungreeted.none_answered), refl)
+packets_grow : {S : Type 0} (view : ClientView S) (limits : SessionLimits) (age : ℕ) (old : S) (readings : List Moment) (new : S) (source_before source_after : SourceState) (answers : List Answer) (stop : Stop) (left : SessionLimits)
+    → IsPiece view (packets view limits.items age) limits old readings new source_before source_after answers stop left → Grows view.stands old answers new
+packets_grow view limits age old readings new source_before source_after answers stop left s =
+    grows_by view (packets view limits.items age) (λ x item y h. block_has_body view age x item.bytes h.0 item.body item.answer y h.2) limits old readings new source_before source_after answers stop s.session
+
+first_piece_grows : {S : Type 0} (view : ClientView S) (limits : SessionLimits) (age : ℕ) (before after : Parties S) (source_before source_after : SourceState) (sink_before sink_after : SinkState) (answers : List Answer) (stop : Stop) (left : SessionLimits)
+    → IsFirstPacketPiece view limits age before after source_before source_after sink_before sink_after answers stop left → Grows view.stands before.client answers after.client
+first_piece_grows {S} view limits age before after source_before source_after sink_before sink_after answers stop left s = elim s.outcome [
+  | inl greeted ↦ packets_grow view limits age before.client s.readings after.client source_before source_after answers stop left greeted.served
+  | inr ungreeted ↦ λ (list : List Numbered) (stands : view.stands before.client list). (
+    [],
+    subst (λ (c : S). view.stands c (list ++ [])) (sym ungreeted.ungreeted.stays.0) (subst (view.stands before.client) (sym (append-nil list)) stands),
+    ap queued_numbers (sym ungreeted.ungreeted.none_answered),
+    refl,
+  )
 ]
 
-lines_grow : {S : Type 0} (view : OperatorView S) (limits : SessionLimits) (before after : Parties S) (source_before source_after : SourceState) (sink_before sink_after : SinkState) (answers : List Answer) (stop : Stop)
-    → IsLineSession view limits before after source_before source_after sink_before sink_after answers stop → Grows view.client.stands before.client answers after.client
-lines_grow view limits before after source_before source_after sink_before sink_after answers stop s =
-    grows_by view.client (lines view limits.items) (λ x item y h. line_has_body view x item.bytes item.readings item.body item.answer y h) limits _ _ _ source_before source_after answers stop s.served
+line_piece_grows : {S : Type 0} (view : OperatorView S) (limits : SessionLimits) (before after : Parties S) (source_before source_after : SourceState) (sink_before sink_after : SinkState) (answers : List Answer) (stop : Stop) (left : SessionLimits)
+    → IsLinePiece view limits before after source_before source_after sink_before sink_after answers stop left → Grows view.client.stands before.client answers after.client
+line_piece_grows view limits before after source_before source_after sink_before sink_after answers stop left s =
+    grows_by view.client (lines view limits.items) (λ x item y h. line_has_body view x item.bytes item.readings item.body item.answer y h) limits _ _ _ source_before source_after answers stop s.served.session
 
--- what a session adds to what is queued for a client
-pub served_extends : (is_operator : Bool) (limits : WorkerLimits) (shows : Moment → Type 0) (old : ClientState) (connection : Connection) (new : ClientState)
-    → IsServed is_operator limits shows old connection new → Extends old.queued new.queued connection.report.answers
-served_extends true limits shows old connection new s = lines_grow (operator_of old.number) limits.session _ _ _ _ _ _ _ _ s.session old.queued refl
-served_extends false limits shows old connection new s = packets_grow (client_of old.number) limits.session limits.greatest_age _ _ _ _ _ _ _ _ s.session old.queued refl
+session_extends : (is_operator is_first : Bool) (session : SessionLimits) (age : ℕ) (shows : Moment → Type 0) (old new : ClientState) (source_before source_after : SourceState) (sink_before sink_after : SinkState) (report : Report) (left : SessionLimits)
+    → IsSessionBy is_operator is_first session age shows old new source_before source_after sink_before sink_after report left → Extends old.queued new.queued report.answers
+session_extends true is_first session age shows old new source_before source_after sink_before sink_after report left s =
+    line_piece_grows (operator_of old.number) session _ _ _ _ _ _ _ _ _ s old.queued refl
+session_extends false true session age shows old new source_before source_after sink_before sink_after report left s =
+    first_piece_grows (client_of old.number) session age _ _ _ _ _ _ _ _ _ s old.queued refl
+session_extends false false session age shows old new source_before source_after sink_before sink_after report left s =
+    packets_grow (client_of old.number) session age _ _ _ _ _ _ _ _ s.served old.queued refl
+
+-- what a piece adds to what is queued for a client
+pub served_extends : (is_operator : Bool) (session : SessionLimits) (age : ℕ) (shows : Moment → Type 0) (old : ClientState) (piece : ServedPiece) (new : ClientState)
+    → IsServed is_operator session age shows old piece new → Extends old.queued new.queued piece.report.answers
+served_extends is_operator session age shows old piece new s =
+    session_extends is_operator piece.is_first session age shows old new _ _ _ _ piece.report piece.left s.session
 
 -- ---- what a session means
 
@@ -111,58 +130,68 @@ none_in_front : (kind : SessionKind ClientState) {view : ClientView ClientState}
 none_in_front kind laws None = tt
 none_in_front kind laws (Some stream) = (stream, laws.none stream)
 
--- a session of lines means its items
-pub lines_mean : (limits : WorkerLimits) (shows : Moment → Type 0) (old new : ClientState) (source_before source_after : SourceState) (sink_before sink_after : SinkState) (report : Report)
-    → IsSessionBy true limits shows old new source_before source_after sink_before sink_after report
-    → (items : List Handled) × Means (kind_of true limits old.number) old source_before.left items report.answers new
-lines_mean limits shows old new source_before source_after sink_before sink_after report s =
-    let view = operator_of old.number in (
-      s.served.items,
-      means_by view.client (lines view limits.session.items) (line_laws view limits.session.items) limits.session old s.readings new
-          source_before source_after report.answers report.stop (λ client items h. h) refl refl s.served,
+packets_mean : (session : SessionLimits) (age : ℕ) (old : ClientState) (readings : List Moment) (new : ClientState) (source_before source_after : SourceState) (answers : List Answer) (stop : Stop) (left : SessionLimits)
+    → IsPiece (client_of old.number) (packets (client_of old.number) session.items age) session old readings new source_before source_after answers stop left
+    → (items : List Handled) × Means (kind_of false session age old.number) old source_before.left items answers new
+packets_mean session age old readings new source_before source_after answers stop left s =
+    let view = client_of old.number in (
+      s.session.items,
+      means_by view (packets view session.items age) (packet_laws view session.items age) session old readings new
+          source_before source_after answers stop (λ client items h. h) refl refl s.session,
     )
 
--- so does one of packets
-pub packets_mean : (limits : WorkerLimits) (shows : Moment → Type 0) (old new : ClientState) (source_before source_after : SourceState) (sink_before sink_after : SinkState) (report : Report)
-    → IsSessionBy false limits shows old new source_before source_after sink_before sink_after report
-    → (items : List Handled) × Means (kind_of false limits old.number) old source_before.left items report.answers new
-packets_mean limits shows old new source_before source_after sink_before sink_after report s =
-    let view = client_of old.number in
-    let kind = packets view limits.session.items limits.greatest_age in
-    let laws = packet_laws view limits.session.items limits.greatest_age in
-    elim s.outcome [
-      | inl greeted ↦ (
-        greeted.served.items,
-        means_by view kind laws limits.session old s.readings new source_before source_after report.answers report.stop
-            (λ client items h. h) refl refl greeted.served,
-      )
-      | inr ungreeted ↦ (
-        [],
-        record {
-          answered = old;
-          front = none_in_front kind laws source_before.left;
-          handled = refl;
-          listed = ungreeted.none_answered;
-          queued = ap (λ (c : ClientState). c.queued) ungreeted.stays.0 ∙ sym (append-nil old.queued);
-        },
-      )
-    ]
+-- the items of a session, and what they mean
+session_means : (is_operator is_first : Bool) (session : SessionLimits) (age : ℕ) (shows : Moment → Type 0) (old new : ClientState) (source_before source_after : SourceState) (sink_before sink_after : SinkState) (report : Report) (left : SessionLimits)
+    → IsSessionBy is_operator is_first session age shows old new source_before source_after sink_before sink_after report left
+    → (items : List Handled) × Means (kind_of is_operator session age old.number) old source_before.left items report.answers new
+session_means true is_first session age shows old new source_before source_after sink_before sink_after report left s =
+    let view = operator_of old.number in (
+      s.served.session.items,
+      means_by view.client (lines view session.items) (line_laws view session.items) session old s.readings new
+          source_before source_after report.answers report.stop (λ client items h. h) refl refl s.served.session,
+    )
+session_means false true session age shows old new source_before source_after sink_before sink_after report left s = elim s.outcome [
+  | inl greeted ↦ packets_mean session age old s.readings new source_before source_after report.answers report.stop left greeted.served
+  | inr ungreeted ↦ (
+    [],
+    record {
+      answered = old;
+      front = none_in_front (packets (client_of old.number) session.items age) (packet_laws (client_of old.number) session.items age) source_before.left;
+      handled = refl;
+      listed = ungreeted.ungreeted.none_answered;
+      queued = ap (λ (c : ClientState). c.queued) ungreeted.ungreeted.stays.0 ∙ sym (append-nil old.queued);
+    },
+  )
+]
+session_means false false session age shows old new source_before source_after sink_before sink_after report left s =
+    packets_mean session age old s.readings new source_before source_after report.answers report.stop left s.served
+
+-- ---- the clock
 
 -- a session by a clock of which no more is known than which moments it may show, whatever is known of it afterwards
 same_clock : (shows : Moment → Type 0) (later : ClockState) (moments : List Moment) → ShowsEach (clock_within shows) later moments → ShowsEach (clock_within shows) (clock_within shows) moments
 same_clock shows later moments s = record { read = tt; shown = s.shown; stays = λ moment h. h }
 
--- an agent's connection was served
-pub agent_served : (limits : WorkerLimits) (shows : Moment → Type 0) (later : ClockState) (old begun after new : ClientState) (source_before source_after : SourceState) (sink_before sink_after : SinkState) (report : Report)
+agent_within : (is_first : Bool) (session : SessionLimits) (age : ℕ) (shows : Moment → Type 0) (later : ClockState) (old new : ClientState) (source_before source_after : SourceState) (sink_before sink_after : SinkState) (report : Report) (left : SessionLimits)
+    → IsPacketPieceBy is_first (client_of old.number) session age (parties old (clock_within shows)) (parties new later) source_before source_after sink_before sink_after report.answers report.stop left
+    → IsSessionBy false is_first session age shows old new source_before source_after sink_before sink_after report left
+agent_within true session age shows later old new source_before source_after sink_before sink_after report left s =
+    record { now = s.now; readings = s.readings; clock = same_clock shows later (s.now ∷ s.readings) s.clock; outcome = s.outcome }
+agent_within false session age shows later old new source_before source_after sink_before sink_after report left s =
+    record { readings = s.readings; clock = same_clock shows later s.readings s.clock; served = s.served }
+
+-- ---- a piece that was served
+
+-- a session of a piece, from a client that is the old one to one that is the new one
+session_served : (is_operator : Bool) (session : SessionLimits) (age : ℕ) (shows : Moment → Type 0) (place : ℕ) (is_first : Bool) (old begun after new : ClientState) (source_before source_after : SourceState) (sink_before sink_after : SinkState) (report : Report) (left : SessionLimits)
     → begun ≡ old → new ≡ after → old.known_close ≡ None → IsSameClient begun after
-    → IsPacketSession (client_of begun.number) limits.session limits.greatest_age (parties begun (clock_within shows)) (parties after later) source_before source_after sink_before sink_after report.answers report.stop
-    → (items : List Handled) × IsServed false limits shows old (connection_of source_before.left items report) new
-agent_served limits shows later old begun after new source_before source_after sink_before sink_after report from into knew_none same session =
-    let s : IsSessionBy false limits shows old new source_before source_after sink_before sink_after report =
-    subst (λ (c : ClientState). IsSessionBy false limits shows old c source_before source_after sink_before sink_after report) (sym into)
-    (subst (λ (c : ClientState). IsSessionBy false limits shows c after source_before source_after sink_before sink_after report) from
-    (record { now = session.now; readings = session.readings; clock = same_clock shows later (session.now ∷ session.readings) session.clock; outcome = session.outcome })) in
-    let m = packets_mean limits shows old new source_before source_after sink_before sink_after report s in (
+    → IsSessionBy is_operator is_first session age shows begun after source_before source_after sink_before sink_after report left
+    → (items : List Handled) × IsServed is_operator session age shows old (served_piece place is_first source_before.left items report left) new
+session_served is_operator session age shows place is_first old begun after new source_before source_after sink_before sink_after report left from into knew_none same done =
+    let s : IsSessionBy is_operator is_first session age shows old new source_before source_after sink_before sink_after report left =
+    subst (λ (c : ClientState). IsSessionBy is_operator is_first session age shows old c source_before source_after sink_before sink_after report left) (sym into)
+    (subst (λ (c : ClientState). IsSessionBy is_operator is_first session age shows c after source_before source_after sink_before sink_after report left) from done) in
+    let m = session_means is_operator is_first session age shows old new source_before source_after sink_before sink_after report left s in (
       m.0,
       record {
         tally = source_before.tally;
@@ -176,26 +205,20 @@ agent_served limits shows later old begun after new source_before source_after s
       },
     )
 
--- an operator's connection was served
-pub operator_served : (limits : WorkerLimits) (shows : Moment → Type 0) (later : ClockState) (old begun after new : ClientState) (source_before source_after : SourceState) (sink_before sink_after : SinkState) (report : Report)
+-- a piece of an agent's connection was served
+pub agent_served : (session : SessionLimits) (age : ℕ) (shows : Moment → Type 0) (later : ClockState) (place : ℕ) (is_first : Bool) (old begun after new : ClientState) (source_before source_after : SourceState) (sink_before sink_after : SinkState) (report : Report) (left : SessionLimits)
     → begun ≡ old → new ≡ after → old.known_close ≡ None → IsSameClient begun after
-    → IsLineSession (operator_of begun.number) limits.session (parties begun (clock_within shows)) (parties after later) source_before source_after sink_before sink_after report.answers report.stop
-    → (items : List Handled) × IsServed true limits shows old (connection_of source_before.left items report) new
-operator_served limits shows later old begun after new source_before source_after sink_before sink_after report from into knew_none same session =
-    let s : IsSessionBy true limits shows old new source_before source_after sink_before sink_after report =
-    subst (λ (c : ClientState). IsSessionBy true limits shows old c source_before source_after sink_before sink_after report) (sym into)
-    (subst (λ (c : ClientState). IsSessionBy true limits shows c after source_before source_after sink_before sink_after report) from
-    (record { readings = session.readings; clock = same_clock shows later session.readings session.clock; served = session.served; written = session.written })) in
-    let m = lines_mean limits shows old new source_before source_after sink_before sink_after report s in (
-      m.0,
-      record {
-        tally = source_before.tally;
-        source_after = source_after;
-        sink_before = sink_before;
-        sink_after = sink_after;
-        knew_none = knew_none;
-        same = subst (λ (c : ClientState). IsSameClient old c) (sym into) (subst (λ (c : ClientState). IsSameClient c after) from same);
-        session = s;
-        means = m.1;
-      },
-    )
+    → IsPacketPieceBy is_first (client_of begun.number) session age (parties begun (clock_within shows)) (parties after later) source_before source_after sink_before sink_after report.answers report.stop left
+    → (items : List Handled) × IsServed false session age shows old (served_piece place is_first source_before.left items report left) new
+agent_served session age shows later place is_first old begun after new source_before source_after sink_before sink_after report left from into knew_none same done =
+    session_served false session age shows place is_first old begun after new source_before source_after sink_before sink_after report left from into knew_none same
+    (agent_within is_first session age shows later begun after source_before source_after sink_before sink_after report left done)
+
+-- a piece of an operator's connection was served
+pub operator_served : (session : SessionLimits) (age : ℕ) (shows : Moment → Type 0) (later : ClockState) (place : ℕ) (is_first : Bool) (old begun after new : ClientState) (source_before source_after : SourceState) (sink_before sink_after : SinkState) (report : Report) (left : SessionLimits)
+    → begun ≡ old → new ≡ after → old.known_close ≡ None → IsSameClient begun after
+    → IsLinePiece (operator_of begun.number) session (parties begun (clock_within shows)) (parties after later) source_before source_after sink_before sink_after report.answers report.stop left
+    → (items : List Handled) × IsServed true session age shows old (served_piece place is_first source_before.left items report left) new
+operator_served session age shows later place is_first old begun after new source_before source_after sink_before sink_after report left from into knew_none same done =
+    session_served true session age shows place is_first old begun after new source_before source_after sink_before sink_after report left from into knew_none same
+    (record { readings = done.readings; clock = same_clock shows later done.readings done.clock; served = done.served; written = done.written })

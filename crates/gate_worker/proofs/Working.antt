@@ -1,7 +1,7 @@
--- One session after the other.
-use Rattle.std.proofs.Common.{◌≡◌, ℕ, inl, inr, ◌⊎◌, Bool, true, false, cond, List, [], ◌∷◌, ◌++◌, length, map, flat_map, Option, Some, None, refl, sym, ap, ◌∙◌, subst, append-nil, append_assoc, arith}
-use Rattle.std.specs.Prelude.{IfSome, filter, ◌==◌}
-use Rattle.std.proofs.lemmas.Bool.{true≢false, eqb-true}
+-- One piece after the other.
+use Rattle.std.proofs.Common.{◌≡◌, ℕ, inl, inr, ◌⊎◌, Bool, true, false, cond, List, [], ◌∷◌, ◌++◌, length, map, flat_map, Option, Some, None, ◌+◌, ◌<◌, ◌≤◌, set, refl, sym, ap, ◌∙◌, subst, append-nil, append_assoc, arith}
+use Rattle.std.specs.Prelude.{IfSome, IsSome, filter}
+use Rattle.std.proofs.lemmas.Bool.{true≢false, false≢true}
 use Rattle.std.proofs.lemmas.List.{map-append}
 use Rattle.std.proofs.lemmas.List.Elements.{filter-append}
 use Rattle.std.proofs.lemmas.Option.{none-some}
@@ -12,16 +12,27 @@ use Rattle.gate_queue.specs.Knowledge.{CloseKnowledge, Learns}
 use Rattle.gate_queue.specs.GateOperator.{Joins}
 use Rattle.gate_reader.specs.Session.{queued_among}
 use Rattle.gate_reader.specs.declared.report.Answer.{Answer}
+use Rattle.gate_reader.specs.declared.report.Answer.TheVariants.{Queued, Full, Spent, Closing, Stale, EmptyHost, Bad, Down}
 use Rattle.gate_reader.specs.declared.report.Report.{Report}
 use Rattle.gate_worker.specs.Numbers.{queued_numbers, item_numbers, numbers_after, reported_numbers}
 use Rattle.gate_environment.specs.Streams.{ComesNext, AreSent, SendFirst}
-use Rattle.gate_worker.specs.Work.{Connection, are_some, has_answers, IsServed, ServesEach, Serves, KnowsItsClose, MetNoClose, EndsAtClose, IsWork}
+use Rattle.gate_worker.specs.Work.{ServedPiece, IsServed, limits_of, left_after, ServesEach, has_queued, count_of, AreFirst, Serves, KnowsItsClose, MetNoClose, EndsAtClose, IsWork}
+use Rattle.gate_worker.specs.Stops.{StopsAt}
+use Rattle.gate_worker.specs.inner.Progress.{IsAsBefore, progress_before, progress_after, left_after_all, AgreesWith}
+use Rattle.gate_worker.specs.declared.progress.Progress.{Progress}
+use Rattle.gate_worker.specs.declared.progress.ProgressTable.{ProgressTable}
+use Rattle.gate_worker.proofs.Tables.{agrees_none, agrees_same, agrees_next, before_piece}
+use Rattle.gate_reader.specs.declared.report.SessionLimits.{SessionLimits}
 use Rattle.gate_worker.specs.declared.limits.WorkerLimits.{WorkerLimits}
 use Rattle.gate_worker.specs.declared.worker.Cause.{Cause}
 use Rattle.gate_worker.specs.declared.worker.Cause.TheVariants.{NoMoreConnections}
 use Rattle.gate_worker.proofs.Numbering.{item_numbers-append, numbers_go_on}
 use Rattle.gate_worker.proofs.Sessions.{served_extends}
 use Rattle.gate_worker.proofs.Closes.{Stays, served_knows, met_none, knows_none, knows_later}
+
+-- something was queued of a report's piece
+abbrev queued_in : Report → Bool
+queued_in report = has_queued report.answers
 
 -- ---- what is known
 
@@ -45,35 +56,48 @@ same_client : (new last middle : ClientState) → middle ≡ client_state last.g
 same_client new last middle stays looked =
     looked ∙ ap (λ (c : ClientState). client_state c.gate c.number c.queued new.known_close) stays
 
--- ---- sessions one after the other
+-- ---- pieces one after the other
 
-each_next : (is_operator : Bool) (limits : WorkerLimits) (shows : Moment → Type 0) (old : ClientState) (connections : List Connection) (middle : ClientState) (connection : Connection) (new : ClientState)
-    → ServesEach is_operator limits shows old connections middle → IsServed is_operator limits shows middle connection new → ServesEach is_operator limits shows old (connections ++ connection ∷ []) new
-each_next is_operator limits shows old [] middle connection new e s = (new, subst (λ (c : ClientState). IsServed is_operator limits shows c connection new) e s, refl)
-each_next is_operator limits shows old (first ∷ connections) middle connection new e s = (e.0, e.1, each_next is_operator limits shows e.0 connections middle connection new e.2 s)
+each_next : (is_operator : Bool) (limits : WorkerLimits) (shows : Moment → Type 0) (left : ℕ → SessionLimits) (old : ClientState) (pieces : List ServedPiece) (middle : ClientState) (piece : ServedPiece) (new : ClientState)
+    → ServesEach is_operator limits shows left old pieces middle
+    → IsServed is_operator (limits_of limits.session (left_after_all left pieces) piece) limits.greatest_age shows middle piece new
+    → ServesEach is_operator limits shows left old (pieces ++ piece ∷ []) new
+each_next is_operator limits shows left old [] middle piece new e s =
+    (new, subst (λ (c : ClientState). IsServed is_operator (limits_of limits.session left piece) limits.greatest_age shows c piece new) e s, refl)
+each_next is_operator limits shows left old (first ∷ pieces) middle piece new e s =
+    (e.0, e.1, each_next is_operator limits shows (left_after left first) e.0 pieces middle piece new e.2 s)
 
-each_queued : (is_operator : Bool) (limits : WorkerLimits) (shows : Moment → Type 0) (number : ℕ) (old : ClientState) (connections : List Connection) (new : ClientState)
-    → old.number ≡ number → ServesEach is_operator limits shows old connections new
-    → new.queued ≡ old.queued ++ flat_map (λ (c : Connection). queued_among number c.items) connections
-each_queued is_operator limits shows number old [] new named e = ap (λ (c : ClientState). c.queued) e ∙ sym (append-nil old.queued)
-each_queued is_operator limits shows number old (connection ∷ connections) new named e =
-    let rest = flat_map (λ (c : Connection). queued_among number c.items) connections in
-    each_queued is_operator limits shows number e.0 connections new (e.1.same.number ∙ named) e.2
-    ∙ ap (λ l. l ++ rest) (e.1.means.queued ∙ ap (λ n. old.queued ++ queued_among n connection.items) named)
-    ∙ append_assoc old.queued (queued_among number connection.items) rest
+each_queued : (is_operator : Bool) (limits : WorkerLimits) (shows : Moment → Type 0) (left : ℕ → SessionLimits) (number : ℕ) (old : ClientState) (pieces : List ServedPiece) (new : ClientState)
+    → old.number ≡ number → ServesEach is_operator limits shows left old pieces new
+    → new.queued ≡ old.queued ++ flat_map (λ (p : ServedPiece). queued_among number p.items) pieces
+each_queued is_operator limits shows left number old [] new named e = ap (λ (c : ClientState). c.queued) e ∙ sym (append-nil old.queued)
+each_queued is_operator limits shows left number old (piece ∷ pieces) new named e =
+    let rest = flat_map (λ (p : ServedPiece). queued_among number p.items) pieces in
+    each_queued is_operator limits shows (left_after left piece) number e.0 pieces new (e.1.same.number ∙ named) e.2
+    ∙ ap (λ l. l ++ rest) (e.1.means.queued ∙ ap (λ n. old.queued ++ queued_among n piece.items) named)
+    ∙ append_assoc old.queued (queued_among number piece.items) rest
 
-sent_next : (streams left later : Option (List (List ℕ))) (connections : List Connection) (connection : Connection)
-    → SendFirst streams (map (λ (c : Connection). c.sent) connections) left → ComesNext left (Some connection.sent) later
-    → SendFirst streams (map (λ (c : Connection). c.sent) (connections ++ connection ∷ [])) later
-sent_next None left later connections connection h next = tt
-sent_next (Some streams) left later connections connection h next =
-    let sent : Connection → Option (List ℕ) = λ c. c.sent in
-    let n = subst (λ (o : Option (List (List ℕ))). ComesNext o (Some connection.sent) later) h.2 next in (
+first_next : (pieces : List ServedPiece) (piece : ServedPiece) → AreFirst pieces → piece.is_first ≡ true → AreFirst (pieces ++ piece ∷ [])
+first_next [] piece all first = (first, tt)
+first_next (other ∷ pieces) piece all first = (all.0, first_next pieces piece all.1 first)
+
+-- where streams were known, those that are left are
+known_left : (streams left : Option (List (List ℕ))) (sent : List (Option (List ℕ))) → SendFirst streams sent left → IsSome streams → IsSome left
+known_left None left sent h some = absurd (false≢true some)
+known_left (Some streams) left sent h some = subst (λ (o : Option (List (List ℕ))). IsSome o) (sym h.2) refl
+
+sent_next : (streams left later : Option (List (List ℕ))) (pieces : List ServedPiece) (piece : ServedPiece)
+    → SendFirst streams (map (λ (p : ServedPiece). p.sent) pieces) left → ComesNext left (Some piece.sent) later
+    → SendFirst streams (map (λ (p : ServedPiece). p.sent) (pieces ++ piece ∷ [])) later
+sent_next None left later pieces piece h next = tt
+sent_next (Some streams) left later pieces piece h next =
+    let sent : ServedPiece → Option (List ℕ) = λ p. p.sent in
+    let n = subst (λ (o : Option (List (List ℕ))). ComesNext o (Some piece.sent) later) h.2 next in (
       n.1,
-      h.1 ∙ ap (λ l. map sent connections ++ map Some l) n.2
-          ∙ ap (λ o. map sent connections ++ o ∷ map Some n.1) (sym n.3)
-          ∙ sym (append_assoc (map sent connections) (connection.sent ∷ []) (map Some n.1))
-          ∙ ap (λ l. l ++ map Some n.1) (sym (map-append sent connections (connection ∷ []))),
+      h.1 ∙ ap (λ l. map sent pieces ++ map Some l) n.2
+          ∙ ap (λ o. map sent pieces ++ o ∷ map Some n.1) (sym n.3)
+          ∙ sym (append_assoc (map sent pieces) (piece.sent ∷ []) (map Some n.1))
+          ∙ ap (λ l. l ++ map Some n.1) (sym (map-append sent pieces (piece ∷ []))),
       n.4,
     )
 
@@ -93,9 +117,10 @@ pub serves_none : (is_operator : Bool) (limits : WorkerLimits) (shows : Moment �
     → client ≡ client_state begun.gate begun.number begun.queued client.known_close → IfSome begun.known_close (λ first. client.known_close ≡ Some first)
     → Serves is_operator limits shows streams streams begun [] client
 serves_none is_operator limits shows streams begun client stays learns = record {
-  connections = [];
+  pieces = [];
   last = begun;
   sent = sent_none streams;
+  whole = λ some. tt;
   each = refl;
   queued = sym (append-nil begun.queued);
   reported = refl;
@@ -109,9 +134,10 @@ pub serves_look : (is_operator : Bool) (limits : WorkerLimits) (shows : Moment �
     → looked ≡ client_state client.gate client.number client.queued looked.known_close → IfSome client.known_close (λ first. looked.known_close ≡ Some first)
     → Serves is_operator limits shows streams left begun reports looked
 serves_look is_operator limits shows streams left begun reports client looked s stays learns = record {
-  connections = s.connections;
+  pieces = s.pieces;
   last = s.last;
   sent = s.sent;
+  whole = s.whole;
   each = s.each;
   queued = s.queued;
   reported = s.reported;
@@ -119,62 +145,115 @@ serves_look is_operator limits shows streams left begun reports client looked s 
   learns = learns_on s.last.known_close client.known_close looked.known_close s.learns learns;
 }
 
--- one more session, before which the client knew of no close
-pub serves_next : (is_operator : Bool) (limits : WorkerLimits) (shows : Moment → Type 0) (streams left later : Option (List (List ℕ))) (begun : ClientState) (reports pushed : List Report) (looked : ClientState) (connection : Connection) (new : ClientState)
-    → Serves is_operator limits shows streams left begun reports looked → looked.known_close ≡ None → IsServed is_operator limits shows looked connection new
-    → ComesNext left (Some connection.sent) later → pushed ≡ reports ++ filter has_answers (connection.report ∷ [])
-    → Serves is_operator limits shows streams later begun pushed new
-serves_next is_operator limits shows streams left later begun reports pushed looked connection new s none served next kept =
+-- one more piece, before which the client knew of no close
+pub serves_next : (is_operator : Bool) (limits : WorkerLimits) (shows : Moment → Type 0) (streams left later : Option (List (List ℕ))) (begun : ClientState) (reports pushed : List Report) (looked : ClientState) (piece : ServedPiece) (new : ClientState)
+    → (s : Serves is_operator limits shows streams left begun reports looked) → looked.known_close ≡ None
+    → IsServed is_operator (limits_of limits.session (left_after_all (λ (place : ℕ). limits.session) s.pieces) piece) limits.greatest_age shows looked piece new
+    → ComesNext left (Some piece.sent) later → (IsSome left → piece.is_first ≡ true) → pushed ≡ reports ++ filter queued_in (piece.report ∷ [])
+    → (t : Serves is_operator limits shows streams later begun pushed new) × (t.pieces ≡ s.pieces ++ piece ∷ [])
+serves_next is_operator limits shows streams left later begun reports pushed looked piece new s none served next whole kept =
     let known = none_before s.last.known_close looked.known_close s.learns none in
     let same : looked ≡ s.last = s.stays ∙ ap (λ k. client_state s.last.gate s.last.number s.last.queued k) (none ∙ sym known) in
-    let report : Connection → Report = λ c. c.report in
-    let each = each_next is_operator limits shows begun s.connections s.last connection new s.each
-    (subst (λ (c : ClientState). IsServed is_operator limits shows c connection new) same served) in
+    let report : ServedPiece → Report = λ p. p.report in
+    let each = each_next is_operator limits shows (λ (place : ℕ). limits.session) begun s.pieces s.last piece new s.each
+    (subst (λ (c : ClientState). IsServed is_operator (limits_of limits.session (left_after_all (λ (place : ℕ). limits.session) s.pieces) piece) limits.greatest_age shows c piece new) same served) in (
+      record {
+        pieces = s.pieces ++ piece ∷ [];
+        last = new;
+        sent = sent_next streams left later s.pieces piece s.sent next;
+        whole = λ some. first_next s.pieces piece (s.whole some) (whole (known_left streams left _ s.sent some));
+        each = each;
+        queued = each_queued is_operator limits shows (λ (place : ℕ). limits.session) begun.number begun (s.pieces ++ piece ∷ []) new refl each;
+        reported = kept ∙ ap (λ l. l ++ filter queued_in (piece.report ∷ [])) s.reported
+            ∙ sym (filter-append queued_in (map report s.pieces) (piece.report ∷ []))
+            ∙ ap (filter queued_in) (sym (map-append report s.pieces (piece ∷ [])));
+        stays = refl;
+        learns = learns_self new.known_close;
+      },
+      refl,
+    )
+
+-- ---- what a worker has done so far
+
+-- it served pieces, and its table agrees with them
+pub record Worked (is_operator : Bool) (limits : WorkerLimits) (shows : Moment → Type 0) (streams left : Option (List (List ℕ))) (begun : ClientState) (reports : List Report) (table : ProgressTable) (client : ClientState) : Type 0 where
+  pub serves : Serves is_operator limits shows streams left begun reports client
+  pub agrees : AgreesWith limits.session table serves.pieces
+
+pub worked_none : (is_operator : Bool) (limits : WorkerLimits) (shows : Moment → Type 0) (streams : Option (List (List ℕ))) (begun : ClientState) (reports : List Report) (table : ProgressTable) (client : ClientState)
+    → client ≡ client_state begun.gate begun.number begun.queued client.known_close → IfSome begun.known_close (λ first. client.known_close ≡ Some first)
+    → reports ≡ [] → table.session ≡ limits.session → table.entries.items ≡ [] → table.counted ≡ 0
+    → Worked is_operator limits shows streams streams begun reports table client
+unfolding serves_none
+worked_none is_operator limits shows streams begun reports table client stays learns empty session entries counted =
+    subst (λ (l : List Report). Worked is_operator limits shows streams streams begun l table client) (sym empty)
+    (record { serves = serves_none is_operator limits shows streams begun client stays learns; agrees = agrees_none limits.session table session entries counted })
+
+-- a look at the close, and a table that says the same
+pub worked_look : (is_operator : Bool) (limits : WorkerLimits) (shows : Moment → Type 0) (streams left : Option (List (List ℕ))) (begun : ClientState) (reports reserved : List Report) (table grown : ProgressTable) (client looked : ClientState)
+    → Worked is_operator limits shows streams left begun reports table client
+    → looked ≡ client_state client.gate client.number client.queued looked.known_close → IfSome client.known_close (λ first. looked.known_close ≡ Some first)
+    → reserved ≡ reports → IsAsBefore table grown
+    → Worked is_operator limits shows streams left begun reserved grown looked
+unfolding serves_look
+worked_look is_operator limits shows streams left begun reports reserved table grown client looked w stays learns same as_before =
+    subst (λ (l : List Report). Worked is_operator limits shows streams left begun l grown looked) (sym same)
+    (record {
+      serves = serves_look is_operator limits shows streams left begun reports client looked w.serves stays learns;
+      agrees = agrees_same limits.session table grown w.serves.pieces as_before w.agrees;
+    })
+
+-- one more piece, which was served with what the table said was left
+pub worked_next : (is_operator : Bool) (limits : WorkerLimits) (shows : Moment → Type 0) (streams left later : Option (List (List ℕ))) (begun : ClientState) (reports pushed : List Report) (table noted : ProgressTable) (looked : ClientState) (piece : ServedPiece) (before : Progress) (queued : Bool) (new : ClientState)
+    → Worked is_operator limits shows streams left begun reports table looked → looked.known_close ≡ None
+    → before ≡ progress_before table.session table.entries.items piece.is_first piece.place
+    → IsServed is_operator before.left limits.greatest_age shows looked piece new
+    → ComesNext left (Some piece.sent) later → (IsSome left → piece.is_first ≡ true) → pushed ≡ reports ++ filter queued_in (piece.report ∷ [])
+    → queued ≡ has_queued piece.report.answers → piece.place < length table.entries.items
+    → noted.entries.items ≡ set table.entries.items piece.place (progress_after before piece.left queued)
+    → noted.session ≡ table.session → noted.counted ≡ table.counted + count_of before.is_counted queued
+    → Worked is_operator limits shows streams later begun pushed noted new
+worked_next is_operator limits shows streams left later begun reports pushed table noted looked piece before queued new w none is served next whole kept had in' entries session counted =
+    let allowed : before.left ≡ limits_of limits.session (left_after_all (λ (place : ℕ). limits.session) w.serves.pieces) piece =
+    ap (λ (p : Progress). p.left) (before_piece limits.session table w.serves.pieces piece before w.agrees is) in
+    let n = serves_next is_operator limits shows streams left later begun reports pushed looked piece new w.serves none
+    (subst (λ (l : SessionLimits). IsServed is_operator l limits.greatest_age shows looked piece new) allowed served) next whole kept in
     record {
-      connections = s.connections ++ connection ∷ [];
-      last = new;
-      sent = sent_next streams left later s.connections connection s.sent next;
-      each = each;
-      queued = each_queued is_operator limits shows begun.number begun (s.connections ++ connection ∷ []) new refl each;
-      reported = kept ∙ ap (λ l. l ++ filter has_answers (connection.report ∷ [])) s.reported
-          ∙ sym (filter-append has_answers (map report s.connections) (connection.report ∷ []))
-          ∙ ap (filter has_answers) (sym (map-append report s.connections (connection ∷ [])));
-      stays = refl;
-      learns = learns_self new.known_close;
+      serves = n.0;
+      agrees = subst (AgreesWith limits.session noted) (sym n.1)
+          (agrees_next limits.session table noted w.serves.pieces piece before queued w.agrees is had in' entries session counted);
     }
 
--- the same of a session before which the client looked for a close
-pub goes_on : (has is_operator : Bool) (limits : WorkerLimits) (shows : Moment → Type 0) (streams left middle later : Option (List (List ℕ))) (begun : ClientState) (reports reserved kept : List Report) (client looked : ClientState) (connection : Connection) (new : ClientState) (gate : GateId) (number : ℕ)
-    → Serves is_operator limits shows streams left begun reports client
+-- the same of a piece before which the client looked for a close
+pub goes_on : (has is_operator : Bool) (limits : WorkerLimits) (shows : Moment → Type 0) (streams left middle later : Option (List (List ℕ))) (begun : ClientState) (reports reserved kept : List Report) (table grown noted : ProgressTable) (client looked : ClientState) (piece : ServedPiece) (before : Progress) (queued : Bool) (new : ClientState) (gate : GateId) (number : ℕ)
+    → Worked is_operator limits shows streams left begun reports table client
     → looked ≡ client_state client.gate client.number client.queued looked.known_close → IfSome client.known_close (λ first. looked.known_close ≡ Some first) → looked.known_close ≡ None
-    → IsServed has limits shows looked connection new → has ≡ is_operator → ComesNext left (Some connection.sent) middle → later ≡ middle
-    → reserved ≡ reports → kept ≡ reserved ++ filter has_answers (connection.report ∷ []) → client.gate ≡ gate → client.number ≡ number
-    → (new.gate ≡ gate) × (new.number ≡ number) × Serves is_operator limits shows streams later begun kept new
-goes_on has is_operator limits shows streams left middle later begun reports reserved kept client looked connection new gate number s stays learns none served role next parted same listed of_gate named = (
+    → reserved ≡ reports → IsAsBefore table grown
+    → before ≡ progress_before grown.session grown.entries.items piece.is_first piece.place
+    → IsServed has before.left limits.greatest_age shows looked piece new → has ≡ is_operator
+    → ComesNext left (Some piece.sent) middle → later ≡ middle → (IsSome left → piece.is_first ≡ true) → kept ≡ reserved ++ filter queued_in (piece.report ∷ [])
+    → queued ≡ has_queued piece.report.answers → piece.place < length grown.entries.items
+    → noted.entries.items ≡ set grown.entries.items piece.place (progress_after before piece.left queued)
+    → noted.session ≡ grown.session → noted.counted ≡ grown.counted + count_of before.is_counted queued
+    → client.gate ≡ gate → client.number ≡ number
+    → (new.gate ≡ gate) × (new.number ≡ number) × Worked is_operator limits shows streams later begun kept noted new
+goes_on has is_operator limits shows streams left middle later begun reports reserved kept table grown noted client looked piece before queued new gate number w stays learns none listed as_before is served role next parted whole pushed had in' entries session counted of_gate named = (
   served.same.gate ∙ ap (λ (c : ClientState). c.gate) stays ∙ of_gate,
   served.same.number ∙ ap (λ (c : ClientState). c.number) stays ∙ named,
-  serves_next is_operator limits shows streams left later begun reports kept looked connection new
-      (serves_look is_operator limits shows streams left begun reports client looked s stays learns) none
-      (subst (λ (b : Bool). IsServed b limits shows looked connection new) role served)
-      (subst (λ (o : Option (List (List ℕ))). ComesNext left (Some connection.sent) o) (sym parted) next)
-      (listed ∙ ap (λ (l : List Report). l ++ filter has_answers (connection.report ∷ [])) same),
+  worked_next is_operator limits shows streams left later begun reserved kept grown noted looked piece before queued new
+      (worked_look is_operator limits shows streams left begun reports reserved table grown client looked w stays learns listed as_before) none is
+      (subst (λ (b : Bool). IsServed b before.left limits.greatest_age shows looked piece new) role served)
+      (subst (λ (o : Option (List (List ℕ))). ComesNext left (Some piece.sent) o) (sym parted) next)
+      whole pushed had in' entries session counted,
 )
 
+-- a piece counts for one at most
+pub count_one : (was queued : Bool) → count_of was queued ≤ 1
+count_one true queued = omega arith
+count_one false true = omega arith
+count_one false false = omega arith
+
 -- ---- a worker's steps
-
-none_kept : (answers : List Answer) (report : Report) → report.answers ≡ answers → (length answers == 0) ≡ true → [] ≡ filter has_answers (report ∷ [])
-none_kept [] report e none = ap (λ (l : List Answer). cond (are_some l) (report ∷ []) []) (sym e)
-none_kept (answer ∷ answers) report e none = absurd (omega (arith, eqb-true (length (answer ∷ answers)) 0 none))
-
-one_kept : (answers : List Answer) (report : Report) → report.answers ≡ answers → (length answers == 0) ≡ false → report ∷ [] ≡ filter has_answers (report ∷ [])
-one_kept [] report e some = absurd (true≢false some)
-one_kept (answer ∷ answers) report e some = ap (λ (l : List Answer). cond (are_some l) (report ∷ []) []) (sym e)
-
-pub kept_none : (report : Report) → (length report.answers == 0) ≡ true → [] ≡ filter has_answers (report ∷ [])
-kept_none report none = none_kept report.answers report refl none
-
-pub kept_one : (report : Report) → (length report.answers == 0) ≡ false → report ∷ [] ≡ filter has_answers (report ∷ [])
-kept_one report some = one_kept report.answers report refl some
 
 -- before a session, the closer knows of no close either
 pub knows_none_yet : (closer : Option CloseKnowledge) (cell : ℕ) (old new : Option Moment)
@@ -203,35 +282,44 @@ joined client operator closer knows none j =
 
 -- ---- numbers
 
-kept_numbers : (answers : List Answer) (report : Report) (rest : List Report) → report.answers ≡ answers
-    → reported_numbers (cond (has_answers report) (report ∷ rest) rest) ≡ queued_numbers report.answers ++ reported_numbers rest
-kept_numbers [] report rest e =
-    subst (λ (l : List Answer). reported_numbers (cond (are_some l) (report ∷ rest) rest) ≡ queued_numbers l ++ reported_numbers rest) (sym e) refl
-kept_numbers (answer ∷ answers) report rest e =
-    ap (λ (l : List Answer). reported_numbers (cond (are_some l) (report ∷ rest) rest)) e
+none_numbers : (answers : List Answer) → has_queued answers ≡ false → [] ≡ queued_numbers answers
+none_numbers [] e = refl
+none_numbers (Queued number ∷ answers) e = absurd (true≢false e)
+none_numbers (Full ∷ answers) e = none_numbers answers e
+none_numbers (Spent ∷ answers) e = none_numbers answers e
+none_numbers (Closing moment ∷ answers) e = none_numbers answers e
+none_numbers (Stale ∷ answers) e = none_numbers answers e
+none_numbers (EmptyHost ∷ answers) e = none_numbers answers e
+none_numbers (Bad cause ∷ answers) e = none_numbers answers e
+none_numbers (Down moment ∷ answers) e = none_numbers answers e
+
+kept_numbers : (has : Bool) (report : Report) (rest : List Report) → has_queued report.answers ≡ has
+    → reported_numbers (cond has (report ∷ rest) rest) ≡ queued_numbers report.answers ++ reported_numbers rest
+kept_numbers true report rest e = refl
+kept_numbers false report rest e = ap (λ l. l ++ reported_numbers rest) (none_numbers report.answers e)
 
 -- what was queued has the numbers that the reports answer with Queued, and these go on from the first ones
 abbrev Numbers : ClientState → List Report → ClientState → Type 0
 Numbers old reports new =
     (item_numbers new.queued ≡ item_numbers old.queued ++ reported_numbers reports) × (item_numbers new.queued ≡ numbers_after 0 (length new.queued))
 
-each_numbers : (is_operator : Bool) (limits : WorkerLimits) (shows : Moment → Type 0) (old : ClientState) (connections : List Connection) (new : ClientState)
-    → item_numbers old.queued ≡ numbers_after 0 (length old.queued) → ServesEach is_operator limits shows old connections new
-    → Numbers old (filter has_answers (map (λ (c : Connection). c.report) connections)) new
-each_numbers is_operator limits shows old [] new counted e =
+each_numbers : (is_operator : Bool) (limits : WorkerLimits) (shows : Moment → Type 0) (left : ℕ → SessionLimits) (old : ClientState) (pieces : List ServedPiece) (new : ClientState)
+    → item_numbers old.queued ≡ numbers_after 0 (length old.queued) → ServesEach is_operator limits shows left old pieces new
+    → Numbers old (filter queued_in (map (λ (p : ServedPiece). p.report) pieces)) new
+each_numbers is_operator limits shows left old [] new counted e =
     subst (λ (c : ClientState). Numbers old [] c) (sym e) (sym (append-nil (item_numbers old.queued)), counted)
-each_numbers is_operator limits shows old (connection ∷ connections) new counted e =
+each_numbers is_operator limits shows left old (piece ∷ pieces) new counted e =
     let middle = e.0 in
-    let x = served_extends is_operator limits shows old connection middle e.1 in
+    let x = served_extends is_operator (limits_of limits.session left piece) limits.greatest_age shows old piece middle e.1 in
     let more = x.0 in
-    let rest = filter has_answers (map (λ (c : Connection). c.report) connections) in
+    let rest = filter queued_in (map (λ (p : ServedPiece). p.report) pieces) in
     let next : item_numbers middle.queued ≡ numbers_after 0 (length middle.queued) =
     ap item_numbers x.1 ∙ numbers_go_on old.queued more counted x.3 ∙ ap (λ l. numbers_after 0 (length l)) (sym x.1) in
-    let r = each_numbers is_operator limits shows middle connections new next e.2 in (
+    let r = each_numbers is_operator limits shows (left_after left piece) middle pieces new next e.2 in (
       r.0 ∙ ap (λ l. item_numbers l ++ reported_numbers rest) x.1 ∙ ap (λ l. l ++ reported_numbers rest) (item_numbers-append old.queued more)
           ∙ ap (λ l. (item_numbers old.queued ++ l) ++ reported_numbers rest) x.2
-          ∙ append_assoc (item_numbers old.queued) (queued_numbers connection.report.answers) (reported_numbers rest)
-          ∙ ap (λ l. item_numbers old.queued ++ l) (sym (kept_numbers connection.report.answers connection.report rest refl)),
+          ∙ append_assoc (item_numbers old.queued) (queued_numbers piece.report.answers) (reported_numbers rest)
+          ∙ ap (λ l. item_numbers old.queued ++ l) (sym (kept_numbers (has_queued piece.report.answers) piece.report rest refl)),
       r.1,
     )
 
@@ -242,10 +330,10 @@ pub serves_numbers : (is_operator : Bool) (limits : WorkerLimits) (shows : Momen
 serves_numbers is_operator limits shows streams left begun reports ended fresh s =
     let counted : item_numbers begun.queued ≡ numbers_after 0 (length begun.queued) =
     subst (λ l. item_numbers l ≡ numbers_after 0 (length l)) (sym fresh) refl in
-    let n = each_numbers is_operator limits shows begun s.connections s.last counted s.each in
+    let n = each_numbers is_operator limits shows (λ (place : ℕ). limits.session) begun s.pieces s.last counted s.each in
     let same : ended.queued ≡ s.last.queued = ap (λ (c : ClientState). c.queued) s.stays in
     let first : item_numbers ended.queued ≡ reported_numbers reports =
-    ap item_numbers same ∙ n.0 ∙ ap (λ l. item_numbers l ++ reported_numbers (filter has_answers (map (λ (c : Connection). c.report) s.connections))) fresh
+    ap item_numbers same ∙ n.0 ∙ ap (λ l. item_numbers l ++ reported_numbers (filter queued_in (map (λ (p : ServedPiece). p.report) s.pieces))) fresh
     ∙ ap reported_numbers (sym s.reported) in
     (first, sym first ∙ ap item_numbers same ∙ n.1 ∙ ap (λ l. numbers_after 0 (length l)) (sym same))
 
@@ -256,39 +344,44 @@ keeps_close : (known : Option Moment) (has : Bool) (report : Report) (reports : 
 keeps_close known true report reports k met rest = (k, met, rest)
 keeps_close known false report reports k met rest = rest
 
-each_closes : (is_operator : Bool) (limits : WorkerLimits) (shows : Moment → Type 0) (old : ClientState) (connections : List Connection) (new : ClientState) (known : Option Moment)
-    → Stays new.known_close known → ServesEach is_operator limits shows old connections new
-    → EndsAtClose known (filter has_answers (map (λ (c : Connection). c.report) connections))
-each_closes is_operator limits shows old [] new known stays e = tt
-each_closes is_operator limits shows old (connection ∷ []) new known stays e =
+each_closes : (is_operator : Bool) (limits : WorkerLimits) (shows : Moment → Type 0) (left : ℕ → SessionLimits) (old : ClientState) (pieces : List ServedPiece) (new : ClientState) (known : Option Moment)
+    → Stays new.known_close known → ServesEach is_operator limits shows left old pieces new
+    → EndsAtClose known (filter queued_in (map (λ (p : ServedPiece). p.report) pieces))
+each_closes is_operator limits shows left old [] new known stays e = tt
+each_closes is_operator limits shows left old (piece ∷ []) new known stays e =
     let middle = e.0 in
-    keeps_close known (has_answers connection.report) connection.report []
-    (knows_later middle.known_close known connection.report
-    (λ first m. stays first (ap (λ (c : ClientState). c.known_close) e.2 ∙ m)) (served_knows is_operator limits shows old connection middle e.1))
+    keeps_close known (queued_in piece.report) piece.report []
+    (knows_later middle.known_close known piece.report
+    (λ first m. stays first (ap (λ (c : ClientState). c.known_close) e.2 ∙ m))
+    (served_knows is_operator (limits_of limits.session left piece) limits.greatest_age shows old piece middle e.1))
     (inr refl) tt
-each_closes is_operator limits shows old (connection ∷ next ∷ connections) new known stays e =
+each_closes is_operator limits shows left old (piece ∷ next ∷ pieces) new known stays e =
     let middle = e.0 in
-    let met = met_none middle.known_close connection.report e.2.1.knew_none (served_knows is_operator limits shows old connection middle e.1) in
-    keeps_close known (has_answers connection.report) connection.report _ (knows_none known connection.report met) (inl met)
-    (each_closes is_operator limits shows middle (next ∷ connections) new known stays e.2)
+    let met = met_none middle.known_close piece.report e.2.1.knew_none
+    (served_knows is_operator (limits_of limits.session left piece) limits.greatest_age shows old piece middle e.1) in
+    keeps_close known (queued_in piece.report) piece.report _ (knows_none known piece.report met) (inl met)
+    (each_closes is_operator limits shows (left_after left piece) middle (next ∷ pieces) new known stays e.2)
 
 pub serves_closes : (is_operator : Bool) (limits : WorkerLimits) (shows : Moment → Type 0) (streams left : Option (List (List ℕ))) (begun : ClientState) (reports : List Report) (ended : ClientState)
     → Serves is_operator limits shows streams left begun reports ended → EndsAtClose ended.known_close reports
 serves_closes is_operator limits shows streams left begun reports ended s =
     subst (EndsAtClose ended.known_close) (sym s.reported)
-    (each_closes is_operator limits shows begun s.connections s.last ended.known_close (stays_of s.last.known_close ended.known_close s.learns) s.each)
+    (each_closes is_operator limits shows (λ (place : ℕ). limits.session) begun s.pieces s.last ended.known_close (stays_of s.last.known_close ended.known_close s.learns) s.each)
 
 -- ---- the end
 
-pub ended_work : (is_operator : Bool) (limits : WorkerLimits) (shows : Moment → Type 0) (streams left later : Option (List (List ℕ))) (begun : ClientState) (reports kept : List Report) (looked ended : ClientState) (cause why : Cause)
-    → Serves is_operator limits shows streams left begun reports looked → ended ≡ looked → kept ≡ reports → why ≡ cause
-    → (cause ≡ NoMoreConnections → ComesNext left None later) → IsWork is_operator limits shows streams begun kept ended why
-ended_work is_operator limits shows streams left later begun reports kept looked ended cause why s same listed is none =
-    let serves = subst (λ (c : ClientState). Serves is_operator limits shows streams left begun kept c) (sym same)
-    (subst (λ (l : List Report). Serves is_operator limits shows streams left begun l looked) (sym listed) s) in
-    record {
+pub ended_work : (is_operator : Bool) (limits : WorkerLimits) (shows : Moment → Type 0) (streams left later : Option (List (List ℕ))) (begun : ClientState) (reports kept : List Report) (table : ProgressTable) (looked ended : ClientState) (cause why : Cause)
+    → Worked is_operator limits shows streams left begun reports table looked → ended ≡ looked → kept ≡ reports → why ≡ cause
+    → (cause ≡ NoMoreConnections → ComesNext left None later) → StopsAt limits.sessions cause table.counted looked.known_close
+    → IsWork is_operator limits shows streams begun kept ended why
+ended_work is_operator limits shows streams left later begun reports kept table looked ended cause why w same listed is none stops =
+    let whole : IsWork is_operator limits shows streams begun reports looked cause = record {
       left = left;
-      serves = serves;
-      all = λ e. none_left left later (none (sym is ∙ e));
-      closes = serves_closes is_operator limits shows streams left begun kept ended serves;
-    }
+      serves = w.serves;
+      all = λ e. none_left left later (none e);
+      stops = subst (λ (n : ℕ). StopsAt limits.sessions cause n looked.known_close) w.agrees.counted_is stops;
+      closes = serves_closes is_operator limits shows streams left begun reports looked w.serves;
+    } in
+    subst (λ (c : ClientState). IsWork is_operator limits shows streams begun kept c why) (sym same)
+    (subst (λ (l : List Report). IsWork is_operator limits shows streams begun l looked why) (sym listed)
+    (subst (λ (c : Cause). IsWork is_operator limits shows streams begun reports looked c) (sym is) whole))

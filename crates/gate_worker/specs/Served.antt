@@ -9,7 +9,6 @@ use Rattle.gate_queue.specs.Client.{ClientState, client_state}
 use Rattle.gate_reader.specs.declared.report.Report.{Report}
 use Rattle.gate_worker.specs.declared.limits.WorkerLimits.{WorkerLimits}
 use Rattle.gate_worker.specs.declared.worker.Cause.{Cause}
-use Rattle.gate_worker.specs.Stops.{StopsAt}
 use Rattle.gate_worker.specs.Work.{IsWork}
 
 -- the limits of a worker of operators
@@ -21,7 +20,6 @@ abbrev pub EndsSo : Bool → WorkerLimits → (Moment → Type 0) → Option (Li
     → ClientState → Cause → Type 0
 EndsSo is_operator limits shows streams begun reports ended cause =
     (ended.gate ≡ begun.gate) × (ended.number ≡ begun.number)
-    × StopsAt limits.sessions cause (length reports) ended.known_close
     × IsWork is_operator limits shows streams begun reports ended cause
 
 -- the worker of the client with this number served connections that sent these streams, with these limits and by a

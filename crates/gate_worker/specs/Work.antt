@@ -1,5 +1,6 @@
--- What a worker does: `IsWork`, sessions one after the other, each as gate_reader defines it. Own rules.
-use Rattle.std.specs.Prelude.{◌≡◌, ◌≢◌, ◌⊎◌, ℕ, List, [], ◌∷◌, ◌++◌, map, flat_map, filter, Bool, true, false, Option, Some, None, IfSome, IsSome, ⊤}
+-- What a worker does: `IsWork`, pieces of connections one after the other, each a session as gate_reader defines it. Own
+-- rules.
+use Rattle.std.specs.Prelude.{◌≡◌, ◌≢◌, ◌⊎◌, ◌==◌, if◌then◌else◌, ◌+◌, ℕ, List, [], ◌∷◌, ◌++◌, map, flat_map, filter, Bool, true, false, Option, Some, None, IfSome, IsSome, ⊤}
 use Rattle.std.specs.List.{AllByRecursion}
 use Rattle.gate_model.specs.declared.record.Moment.{Moment}
 use Rattle.gate_queue.specs.Client.{ClientState, client_state}
@@ -10,14 +11,17 @@ use Rattle.gate_streams.specs.Source.{Tally, SourceState}
 use Rattle.gate_streams.specs.Sink.{SinkState}
 use Rattle.gate_reader.specs.Report.{AreOpen}
 use Rattle.gate_reader.specs.Session.{ClientView, parties, Handled, SessionKind, LeadsTo, bytes_of, answers_of, queued_among}
-use Rattle.gate_reader.specs.Packets.{packets, IsPacketSession}
-use Rattle.gate_reader.specs.Lines.{OperatorView, lines, IsLineSession}
+use Rattle.gate_reader.specs.Packets.{packets}
+use Rattle.gate_reader.specs.Lines.{OperatorView, lines}
+use Rattle.gate_reader.specs.Pieces.{IsPacketPiece, IsFirstPacketPiece, IsLinePiece}
 use Rattle.gate_reader.specs.declared.report.Answer.{Answer}
-use Rattle.gate_reader.specs.declared.report.Answer.TheVariants.{Closing, Down}
+use Rattle.gate_reader.specs.declared.report.Answer.TheVariants.{Queued, Closing, Down}
 use Rattle.gate_reader.specs.declared.report.Report.{Report}
+use Rattle.gate_reader.specs.declared.report.SessionLimits.{SessionLimits}
 use Rattle.gate_reader.specs.declared.report.Stop.TheVariants.{Shutdown}
 use Rattle.gate_environment.specs.Streams.{SendFirst, AreSent}
 use Rattle.gate_worker.specs.declared.limits.WorkerLimits.{WorkerLimits}
+use Rattle.gate_worker.specs.Stops.{StopsAt}
 use Rattle.gate_worker.specs.declared.worker.Cause.{Cause}
 use Rattle.gate_worker.specs.declared.worker.Cause.TheVariants.{NoMoreConnections}
 
@@ -36,10 +40,11 @@ client_of number = record {
 abbrev pub operator_of : ℕ → OperatorView ClientState
 operator_of number = record { client = client_of number; closes = Closes }
 
--- the kind of session of a client with this number and these limits: lines if it is an operator's, and else packets
-abbrev pub kind_of : Bool → WorkerLimits → ℕ → SessionKind ClientState
-kind_of true limits number = lines (operator_of number) limits.session.items
-kind_of false limits number = packets (client_of number) limits.session.items limits.greatest_age
+-- the kind of session of a client with this number, these limits and this greatest age: lines if it is an operator's, and
+-- else packets
+abbrev pub kind_of : Bool → SessionLimits → ℕ → ℕ → SessionKind ClientState
+kind_of true session age number = lines (operator_of number) session.items
+kind_of false session age number = packets (client_of number) session.items age
 
 -- items stand at the front of what was sent, where that is known; the client handled them in order; these are their
 -- answers; and what is new in its queue is what they name, each with its body
@@ -51,73 +56,123 @@ pub record Means (kind : SessionKind ClientState) (old : ClientState) (sent : Op
   pub listed : answers ≡ answers_of items
   pub queued : new.queued ≡ old.queued ++ queued_among old.number items
 
--- a connection that was served: what it sent, where that is known, its items, and its report
-pub record Connection : Type 0 where
+-- a piece of a connection that was served: at which place, whether it was the first of its connection, what it sent, where
+-- that is known, its items, its report, and what it left of the limits of its connection
+pub record ServedPiece : Type 0 where
+  pub place : ℕ
+  pub is_first : Bool
   pub sent : Option (List ℕ)
   pub items : List Handled
   pub report : Report
+  pub left : SessionLimits
 
-abbrev pub connection_of : Option (List ℕ) → List Handled → Report → Connection
-connection_of sent items report = record { sent = sent; items = items; report = report }
+abbrev pub served_piece : ℕ → Bool → Option (List ℕ) → List Handled → Report → SessionLimits → ServedPiece
+served_piece place is_first sent items report left = record {
+  place = place;
+  is_first = is_first;
+  sent = sent;
+  items = items;
+  report = report;
+  left = left;
+}
 
--- a session with these limits, of lines if it is an operator's and else of packets, by a clock that may show these
--- moments
-abbrev pub IsSessionBy : Bool → WorkerLimits → (Moment → Type 0) → ClientState → ClientState → SourceState
-    → SourceState → SinkState → SinkState → Report → Type 0
-IsSessionBy true limits shows old new source_before source_after sink_before sink_after report =
-    IsLineSession (operator_of old.number) limits.session
+-- a session of such a piece, with these limits, by a clock that may show these moments: lines if it is an operator's, and
+-- else packets, before which an agent is greeted in its first piece
+abbrev pub IsSessionBy : Bool → Bool → SessionLimits → ℕ → (Moment → Type 0) → ClientState → ClientState → SourceState
+    → SourceState → SinkState → SinkState → Report → SessionLimits → Type 0
+IsSessionBy true is_first session age shows old new source_before source_after sink_before sink_after report left =
+    IsLinePiece (operator_of old.number) session
     (parties old (clock_within shows)) (parties new (clock_within shows))
-    source_before source_after sink_before sink_after report.answers report.stop
-IsSessionBy false limits shows old new source_before source_after sink_before sink_after report =
-    IsPacketSession (client_of old.number) limits.session limits.greatest_age
+    source_before source_after sink_before sink_after report.answers report.stop left
+IsSessionBy false true session age shows old new source_before source_after sink_before sink_after report left =
+    IsFirstPacketPiece (client_of old.number) session age
     (parties old (clock_within shows)) (parties new (clock_within shows))
-    source_before source_after sink_before sink_after report.answers report.stop
+    source_before source_after sink_before sink_after report.answers report.stop left
+IsSessionBy false false session age shows old new source_before source_after sink_before sink_after report left =
+    IsPacketPiece (client_of old.number) session age
+    (parties old (clock_within shows)) (parties new (clock_within shows))
+    source_before source_after report.answers report.stop left
 
--- the connection was served by such a session, which began while the client knew of no close. In short: its items mean
--- what its report answers and what was queued
-pub record IsServed (is_operator : Bool) (limits : WorkerLimits) (shows : Moment → Type 0) (old : ClientState)
-    (connection : Connection) (new : ClientState) : Type 0 where
+-- the piece was served with these limits, in a session that began while the client knew of no close. In short: its items
+-- mean what its report answers and what was queued
+pub record IsServed (is_operator : Bool) (limits : SessionLimits) (age : ℕ) (shows : Moment → Type 0)
+    (old : ClientState) (piece : ServedPiece) (new : ClientState) : Type 0 where
   pub tally : Option Tally
   pub source_after : SourceState
   pub sink_before : SinkState
   pub sink_after : SinkState
   pub knew_none : old.known_close ≡ None
   pub same : IsSameClient old new
-  pub session : IsSessionBy is_operator limits shows old new (record { left = connection.sent; tally = tally })
-      source_after sink_before sink_after connection.report
-  pub means : Means (kind_of is_operator limits old.number) old connection.sent connection.items
-      connection.report.answers new
+  pub session : IsSessionBy is_operator piece.is_first limits age shows old new
+      (record { left = piece.sent; tally = tally }) source_after sink_before sink_after piece.report piece.left
+  pub means : Means (kind_of is_operator limits age old.number) old piece.sent piece.items piece.report.answers new
 
--- ---- one session after the other
+-- ---- one piece after the other
 
--- the connections were served in order, the first from this state of the client on, the last up to that one
-abbrev pub ServesEach : Bool → WorkerLimits → (Moment → Type 0) → ClientState → List Connection → ClientState → Type 0
-ServesEach is_operator limits shows old [] new = new ≡ old
-ServesEach is_operator limits shows old (connection ∷ connections) new =
-    (middle : ClientState) × IsServed is_operator limits shows old connection middle
-    × ServesEach is_operator limits shows middle connections new
+-- the limits of a piece: those of a connection for its first one, and for another what the piece before it at its place
+-- left
+abbrev pub limits_of : SessionLimits → (ℕ → SessionLimits) → ServedPiece → SessionLimits
+limits_of session left piece = if piece.is_first then session else left piece.place
 
--- there are answers
-abbrev pub are_some : List Answer → Bool
-are_some [] = false
-are_some (answer ∷ answers) = true
+-- what is left at each place after this piece
+abbrev pub left_after : (ℕ → SessionLimits) → ServedPiece → ℕ → SessionLimits
+left_after left piece place = if place == piece.place then piece.left else left place
 
--- something was answered
-abbrev pub has_answers : Report → Bool
-has_answers report = are_some report.answers
+-- the pieces were served in order, the first from this state of the client on, the last up to that one, each with what
+-- is left of the limits of its connection
+abbrev pub ServesEach : Bool → WorkerLimits → (Moment → Type 0) → (ℕ → SessionLimits) → ClientState
+    → List ServedPiece → ClientState → Type 0
+ServesEach is_operator limits shows left old [] new = new ≡ old
+ServesEach is_operator limits shows left old (piece ∷ pieces) new =
+    (middle : ClientState)
+    × IsServed is_operator (limits_of limits.session left piece) limits.greatest_age shows old piece middle
+    × ServesEach is_operator limits shows (left_after left piece) middle pieces new
 
--- connections that sent the first of these streams were served, and the others are left; what was queued is what their
--- items name, in order; the reports are those of which something was answered. Of a close the client may have learned
--- after the last session
+-- an answer Queued is among them
+abbrev pub has_queued : List Answer → Bool
+has_queued [] = false
+has_queued (Queued number ∷ answers) = true
+has_queued (answer ∷ answers) = has_queued answers
+
+-- the connection of this piece was counted before it
+abbrev pub was_counted : (ℕ → Bool) → ServedPiece → Bool
+was_counted counted piece = if piece.is_first then false else counted piece.place
+
+-- which connections are counted after this piece, by their places: those of which something was queued
+abbrev pub counted_after : (ℕ → Bool) → ServedPiece → ℕ → Bool
+counted_after counted piece place =
+    if place == piece.place then (if was_counted counted piece then true else has_queued piece.report.answers) else counted place
+
+-- it is counted for the first time
+abbrev pub count_of : Bool → Bool → ℕ
+count_of true queued = 0
+count_of false true = 1
+count_of false false = 0
+
+-- how many connections there are of which something was queued
+abbrev pub counted_connections : (ℕ → Bool) → List ServedPiece → ℕ
+counted_connections counted [] = 0
+counted_connections counted (piece ∷ pieces) =
+    count_of (was_counted counted piece) (has_queued piece.report.answers)
+    + counted_connections (counted_after counted piece) pieces
+
+-- each of them is the first piece of its connection
+abbrev pub AreFirst : List ServedPiece → Type 0
+AreFirst pieces = AllByRecursion (λ piece. piece.is_first ≡ true) pieces
+
+-- pieces were served; where streams are known, they are connections that sent the first of these streams, and the others
+-- are left; what was queued is what their items name, in order; the reports are those of which something was queued. Of a
+-- close the client may have learned after the last session
 pub record Serves (is_operator : Bool) (limits : WorkerLimits) (shows : Moment → Type 0)
     (streams left : Option (List (List ℕ))) (begun : ClientState) (reports : List Report) (ended : ClientState)
     : Type 0 where
-  pub connections : List Connection
+  pub pieces : List ServedPiece
   pub last : ClientState
-  pub sent : SendFirst streams (map (λ connection. connection.sent) connections) left
-  pub each : ServesEach is_operator limits shows begun connections last
-  pub queued : last.queued ≡ begun.queued ++ flat_map (λ connection. queued_among begun.number connection.items) connections
-  pub reported : reports ≡ filter has_answers (map (λ connection. connection.report) connections)
+  pub sent : SendFirst streams (map (λ piece. piece.sent) pieces) left
+  pub whole : IsSome streams → AreFirst pieces
+  pub each : ServesEach is_operator limits shows (λ place. limits.session) begun pieces last
+  pub queued : last.queued ≡ begun.queued ++ flat_map (λ piece. queued_among begun.number piece.items) pieces
+  pub reported : reports ≡ filter (λ report. has_queued report.answers) (map (λ piece. piece.report) pieces)
   pub stays : ended ≡ client_state last.gate last.number last.queued ended.known_close
   pub learns : IfSome last.known_close (λ first. ended.known_close ≡ Some first)
 
@@ -149,11 +204,12 @@ EndsAtClose known (report ∷ reports) =
 
 -- a worker with these limits, of operators or of agents, by a clock that may show these moments, began with this client
 -- and ended with that one for this cause: its connections sent these streams, as far as it served them, and all where
--- they ended; and these are its reports
+-- they ended; these are its reports; and it ended where as many connections as allowed had something queued, or earlier
 pub record IsWork (is_operator : Bool) (limits : WorkerLimits) (shows : Moment → Type 0)
     (streams : Option (List (List ℕ))) (begun : ClientState) (reports : List Report) (ended : ClientState)
     (cause : Cause) : Type 0 where
   pub left : Option (List (List ℕ))
   pub serves : Serves is_operator limits shows streams left begun reports ended
   pub all : cause ≡ NoMoreConnections → AreSent left
+  pub stops : StopsAt limits.sessions cause (counted_connections (λ place. false) serves.pieces) ended.known_close
   pub closes : EndsAtClose ended.known_close reports

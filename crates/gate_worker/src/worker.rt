@@ -1,39 +1,41 @@
-ghost use Rattle.std.specs.Prelude.{◌≡◌, ◌+◌, ◌<◌, ◌≤◌, List, [], ◌∷◌, ◌++◌, filter, length, IfSome, IfOk, IfErr, OnOk, None, Some, is_some, vec_len, vec_capacity};
+ghost use Rattle.std.specs.Prelude.{◌≡◌, ℕ, ◌+◌, ◌<◌, ◌≤◌, List, [], ◌∷◌, ◌++◌, filter, length, true, IfSome, IfOk, IfErr, OnOk, None, Some, IsSome, IsTrue, is_some, vec_len, vec_capacity};
 ghost use Rattle.gate_queue.specs.Client.{client_state};
-ghost use Rattle.gate_reader.specs.Session.{Handled};
 ghost use Rattle.gate_worker.specs.Numbers.{item_numbers, numbers_after, reported_numbers};
 ghost use Rattle.gate_worker.specs.Stops.{StopsAt};
 ghost use Rattle.gate_environment.specs.Streams.{ComesNext};
-ghost use Rattle.gate_worker.specs.Work.{connection_of, has_answers, IsServed, IsWork};
+ghost use Rattle.gate_worker.specs.Work.{has_queued, IsWork};
+ghost use Rattle.gate_worker.specs.inner.Progress.{IsAsBefore};
 ghost use Rattle.gate_worker.specs.declared.worker.Cause.TheVariants.{NoMoreConnections};
 
 use crate::limits::WorkerLimits;
-use crate::waiting::Waiting;
-use gate_environment::times::{AGENT_ROOM_MILLIS, OPERATOR_ROOM_MILLIS};
-use gate_environment::{Connections, Hold, Point, SharedClock, Watch};
-use gate_queue::{Client, Closer, Ended, Gate, GateClient, GateOperator};
-use gate_reader::{Report, serve_lines, serve_packets};
-use gate_streams::{Sink, Source};
+use crate::progress::ProgressTable;
+use crate::serving::{Serving, end_of_piece, has_queued, serve};
+use gate_environment::times::MEMORY_TRIES;
+use gate_environment::{Connections, Hold, Piece, Point, Watch, pause};
+use gate_queue::{Client, Closer, Ended, Gate};
+use gate_reader::Report;
 use std::alloc::Global;
 use std::sync::Wait;
 use std::time::Clock;
 
-/// Why a worker ended. They are tested in this order. Own rules.
+/// Why a worker ended. They are tested in this order, for each piece; memory for its connection, which may
+/// be new, only once it has come. Own rules.
 #[derive(Clone, Copy, Debug)]
 pub enum Cause {
     /// The gate is closing.
     Closing,
-    /// As many connections as allowed were served, of each of which something was answered.
+    /// Something was queued of as many connections as allowed.
     TooManySessions,
-    /// There is no room for the report of one more connection.
+    /// For a second there was no memory for one more report, or for one more connection in the
+    /// worker's table.
     OutOfMemory,
     /// There are no more connections.
     NoMoreConnections,
 }
 
-/// What a worker returns: its client, which has ended, the report of each connection of which
-/// something was answered, and why it ended. The items that were queued for the client are those that
-/// the reports answer with Queued, numbered 1, 2 and so on.
+/// What a worker returns: its client, which has ended, the report of each piece of which something was
+/// queued, in the order in which they were served, and why it ended. The items that were queued for the
+/// client are those that the reports answer with Queued, numbered 1, 2 and so on.
 #[derive(Drop)]
 pub struct WorkerEnd {
     pub ended: Ended,
@@ -43,128 +45,86 @@ pub struct WorkerEnd {
     pub ghost counted: { reported_numbers reports.items ≡ numbers_after 0 (length ended.queued) },
 }
 
-// What a worker serves with.
-#[derive(Drop)]
-struct Serving<'a, R, K> {
-    rt: &'a R,
-    alloc: Global,
-    gate: &'a Gate,
-    clock: &'a K,
-    limits: WorkerLimits,
-}
-
-// Serves one connection: lines of an operator where there is a closer, else packets of an agent.
-fn serve<R: Wait + Clock, I: Source + Drop, O: Sink + Drop, K: Watch>(
-    serving: &Serving<'_, R, K>,
-    client: Client,
-    closer: Option<Closer>,
-    connection: &mut (I, O),
-) -> (Client, Option<Closer>, Report)
-    requires gate { client.gate ≡ serving.now.gate.now }
-    requires closer { IfSome closer (λ c. (c.cell ≡ serving.now.gate.now.cell)
-        × (c.known_close ≡ client.known_close)) }
-    requires open { client.known_close ≡ None }
-    ensures closer { IfSome result.1 (λ c. (c.cell ≡ serving.now.gate.now.cell)
-        × (c.known_close ≡ result.0.known_close)) }
-    ensures role { is_some result.1 ≡ is_some closer }
-    ensures served { (items : List Handled) × IsServed (is_some closer) serving.now.limits
-        (K.shows serving.now.clock.now) client (connection_of (I.state connection.old.0).left items result.2) result.0 }
+// Whether there is room for one more report. Where memory for it is missing, it is tried for a second.
+fn has_room<R: Wait + Clock>(rt: &R, reports: &mut Vec<Report>) -> bool
+    ensures reports { reports.new.items ≡ reports.old.items }
+    ensures room { IsTrue result → vec_len reports.new < vec_capacity reports.new }
 {
-    let Serving {
-        rt,
-        alloc,
-        gate,
-        clock,
-        limits,
-    } = *serving;
-    let mut clock = SharedClock(clock);
-    match closer {
-        Some(closer) => {
-            let joined = GateOperator::new(rt, alloc, gate, client, closer);
-            let mut operator = Waiting::new(rt, gate, joined, OPERATOR_ROOM_MILLIS);
-            let report = serve_lines(
-                alloc,
-                &mut connection.0,
-                &mut connection.1,
-                &mut clock,
-                &mut operator,
-                limits.session,
-            );
-            let (client, closer) = operator.into_client().into_parts();
-            (client, Some(closer), report)
+    for _ in 0..MEMORY_TRIES {
+        if reports.reserve(1).is_ok() {
+            return true;
         }
-        None => {
-            let lone = GateClient::new(rt, gate, client);
-            let mut agent = Waiting::new(rt, gate, lone, AGENT_ROOM_MILLIS);
-            let report = serve_packets(
-                alloc,
-                &mut connection.0,
-                &mut connection.1,
-                &mut clock,
-                &mut agent,
-                limits.session,
-                limits.greatest_age,
-            );
-            let waited = agent.into_client();
-            let ended = waited.into_parts();
-            (ended, None, report)
-        }
+        pause(rt);
     }
+    false
 }
 
-// The next connection to serve, with room for its report, or why the worker ends.
-fn next_connection<R, C: Connections, K>(
+// The next piece to serve, with room for its report and for its connection, or why the worker ends.
+fn next_piece<R: Wait + Clock, C: Connections, K>(
     serving: &Serving<'_, R, K>,
     client: &mut Client,
     reports: &mut Vec<Report>,
+    table: &mut ProgressTable,
     connections: &mut C,
-) -> Result<(C::In, C::Out), Cause>
+) -> Result<Piece<C::In, C::Out>, Cause>
     requires gate { client.old.gate ≡ serving.now.gate.now }
-    requires few { vec_len reports.old ≤ serving.now.limits.sessions }
+    requires few { table.old.counted ≤ serving.now.limits.sessions }
     ensures stays { client.new ≡ client_state
         client.old.gate client.old.number client.old.queued client.new.known_close }
     ensures knew { IfSome client.old.known_close (λ first. client.new.known_close ≡ Some first) }
     ensures open { OnOk result (client.new.known_close ≡ None) }
-    ensures next { IfOk result (λ connection. ComesNext (C.streams connections.old)
-        (Some (C.In.state connection.0).left) (C.streams connections.new)) }
+    ensures next { IfOk result (λ piece. ComesNext (C.streams connections.old)
+        (Some (C.In.state piece.input).left) (C.streams connections.new)) }
+    ensures whole { IfOk result (λ piece.
+        IsSome (C.streams connections.old) → piece.is_first ≡ true) }
     ensures none { IfErr result (λ cause. cause ≡ NoMoreConnections
         → ComesNext (C.streams connections.old) None (C.streams connections.new)) }
     ensures reports { reports.new.items ≡ reports.old.items }
     ensures room { OnOk result (vec_len reports.new < vec_capacity reports.new) }
-    ensures few { OnOk result (vec_len reports.new < serving.now.limits.sessions) }
+    ensures as_before { IsAsBefore table.old table.new }
+    ensures reached { IfOk result (λ piece. piece.place < length table.new.entries.items) }
+    ensures few { OnOk result (table.new.counted < serving.now.limits.sessions) }
     ensures stops { IfErr result (λ cause. StopsAt
-        serving.now.limits.sessions cause (vec_len reports.new) client.new.known_close) }
+        serving.now.limits.sessions cause table.new.counted client.new.known_close) }
 {
-    let gate = serving.gate;
+    let Serving {
+        rt,
+        gate,
+        limits,
+        ..
+    } = *serving;
     if client.look(gate).is_some() {
         return Err(Cause::Closing);
     }
-    if reports.len() == serving.limits.sessions as usize {
+    if table.counted() == limits.sessions {
         return Err(Cause::TooManySessions);
     }
-    if reports.reserve(1).is_err() {
+    if !has_room(rt, reports) {
         return Err(Cause::OutOfMemory);
     }
-    let Some(connection) = connections.next() else {
+    let Some(piece) = connections.next() else {
         return Err(Cause::NoMoreConnections);
     };
     if client.look(gate).is_some() {
         return Err(Cause::Closing);
     }
-    Ok(connection)
+    if !table.try_to_reach(rt, piece.place) {
+        return Err(Cause::OutOfMemory);
+    }
+    Ok(piece)
 }
 
-// Keeps the report of a connection of which something was answered, for which there is room.
-fn keep_report(reports: &mut Vec<Report>, report: Report)
+// Keeps the report of a piece of which something was queued, for which there is room.
+fn keep_report(reports: &mut Vec<Report>, report: Report, queued: bool)
     requires room { vec_len reports.old < vec_capacity reports.old }
-    ensures kept { reports.new.items
-        ≡ reports.old.items ++ filter has_answers (report ∷ []) }
-    ensures few { vec_len reports.new ≤ vec_len reports.old + 1 }
+    requires queued { queued ≡ has_queued report.answers }
+    ensures { reports.new.items ≡ reports.old.items
+        ++ filter (λ report. has_queued report.answers) (report ∷ []) }
 {
-    if report.answers.as_slice().is_empty() {
-        drop(report);
-    } else {
+    if queued {
         reports.push_reserved(report);
+    } else {
+        drop(report);
     }
 }
 
@@ -197,16 +157,19 @@ fn end_of(client: Client, reports: Vec<Report>, cause: Cause) -> WorkerEnd
     }
 }
 
-/// Serves connections one after another: as lines of an operator where there is a closer, else as
-/// packets of an agent.
+/// Serves pieces of connections one after another: as lines of an operator where there is a closer, else
+/// as packets of an agent.
 ///
-/// It ends where the gate is closing, where `limits.sessions` connections were served, where memory
-/// for one more report is missing, and where there are no more connections. It looks at the gate
-/// before it asks for a connection and after it; a connection that comes after the close isn't
-/// served. A connection of which nothing was answered isn't counted, and has no report. A packet for
-/// which the queue is full is submitted again for a minute at most, a line for 10 seconds, while items
-/// are taken from the queue. It waits for the connections, for room in the queue and for other threads
-/// at it. Own rule.
+/// What a connection may do, it may do in all of its pieces together. It goes on after a piece that was
+/// served to its end, and is over after a piece that stopped otherwise.
+///
+/// The worker ends where the gate is closing, where something was queued of `limits.sessions`
+/// connections, where for a second there was no memory for one more report or for one more connection in
+/// its table, and where there are no more connections. It looks at the gate before it asks for a piece
+/// and after it; a piece that comes after the close isn't served. A piece of which nothing was queued has
+/// no report, and a connection of which nothing was queued isn't counted. A packet for which the queue is
+/// full is submitted again for a minute at most, a line for 10 seconds, while items are taken from the
+/// queue. It waits for the connections, for room in the queue and for other threads at it. Own rule.
 pub fn run_worker<R: Wait + Clock, C: Connections + Drop, K: Watch, H: Hold + Drop>(
     rt: &R,
     alloc: Global,
@@ -223,11 +186,10 @@ pub fn run_worker<R: Wait + Clock, C: Connections + Drop, K: Watch, H: Hold + Dr
     requires fresh { client.queued ≡ [] }
     ensures gate { result.ended.gate ≡ gate.now }
     ensures number { result.ended.number ≡ client.number }
-    ensures stops { StopsAt
-        limits.sessions result.cause (vec_len result.reports) result.ended.known_close }
 
-    // Its reports are those of its connections, from the first on, each served with these limits by
-    // what the clock shows, and what is queued for its client is what they mean.
+    // Its reports are those of the pieces of which something was queued, from the first on, each served
+    // with what was left of these limits by what the clock shows, and what is queued for its client is
+    // what they mean. It ends at the first cause that there is.
     ensures work { IsWork (is_some closer) limits (K.shows clock.now) (C.streams connections) client
         result.reports.items result.ended result.cause }
 {
@@ -241,17 +203,27 @@ pub fn run_worker<R: Wait + Clock, C: Connections + Drop, K: Watch, H: Hold + Dr
     let mut client = client;
     let mut closer = closer;
     let mut reports = Vec::new(alloc);
+    let mut table = ProgressTable::new(alloc, limits.session);
     learn(&mut client, &closer);
     for _ in rt.forever() {
-        match next_connection(&serving, &mut client, &mut reports, &mut connections) {
-            Ok(mut connection) => {
+        match next_piece(
+            &serving,
+            &mut client,
+            &mut reports,
+            &mut table,
+            &mut connections,
+        ) {
+            Ok(mut piece) => {
                 hold.pass(Point::Session);
-                let (served, kept, report) = serve(&serving, client, closer, &mut connection);
-                client = served;
-                closer = kept;
-                let (input, output) = connection;
-                connections.part(input, output);
-                keep_report(&mut reports, report);
+                let place = piece.place;
+                let before = table.before(place, piece.is_first);
+                let served = serve(&serving, client, closer, &mut piece, before.left);
+                client = served.client;
+                closer = served.closer;
+                let queued = has_queued(served.report.answers.as_slice());
+                table.note(place, before, served.left, queued);
+                connections.part(piece, end_of_piece(&served.report.stop, queued));
+                keep_report(&mut reports, served.report, queued);
                 hold.pass(Point::Answered);
             }
             Err(cause) => {

@@ -38,9 +38,8 @@ pub struct Workers<A, O, H> {
 
 // Starts the operator's worker, and joins it: why it ended. None: it was not started.
 //
-// Where memory for its next report is missing, or it has served as many connections as it may,
-// nobody can shut the daemon down any more: the gate is closed then, as it is where it was not
-// started.
+// Where it has no memory to go on, or as many connections as it may had something queued, nobody can
+// shut the daemon down any more: the gate is closed then, as it is where it was not started.
 fn run_operator<
     's,
     E,

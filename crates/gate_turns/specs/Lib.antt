@@ -1,0 +1,4 @@
+pub mod Standing
+pub mod Turns
+pub mod Waiting
+pub mod inner

@@ -1,0 +1,3 @@
+-- For proofs and private functions alone.
+pub mod Counts
+pub mod Firsts
