@@ -1,2 +1,9 @@
+pub mod Addresses
+pub mod Asked
+pub mod Since
+pub mod Held
+pub mod Peers
+pub mod Table
 pub mod Waiting
-pub mod Lines
+pub mod Room
+pub mod Serving

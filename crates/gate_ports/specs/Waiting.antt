@@ -1,33 +1,43 @@
--- How long the peers of a port are waited for. Own rules; times are in milliseconds.
-use Rattle.std.specs.Prelude.{ℕ, Option, Some, None, Bool, true, false}
-use Rattle.gate_ports.specs.declared.peer.Role.{Role}
-use Rattle.gate_ports.specs.declared.peer.Role.TheVariants.{Operator, Reader}
-use Rattle.gate_ports.specs.declared.peer.Stage.{Stage}
-use Rattle.gate_ports.specs.declared.peer.Stage.TheVariants.{Open, Last, Parting}
+-- The peers of a worker that wait. Own rules; times are in milliseconds.
+use Rattle.std.specs.Prelude.{◌≡◌, ℕ, ◌<◌, ◌+◌, ◌-◌, ◌^◌, min, Bool, List, Option, Some, None, slice_get}
+use Rattle.std.specs.Option.{option_map}
+use Rattle.gate_turns.specs.Standing.{can_be_served}
+use Rattle.gate_turns.specs.Turns.{IsFirst, was_ready_before}
+use Rattle.gate_turns.specs.Waiting.{limit_of, IsLate}
+use Rattle.gate_turns.specs.declared.standing.Standing.{Standing}
+use Rattle.gate_ports.specs.declared.peers.Peers.{Peers}
 
--- for how long a peer that isn't ready to be served may owe what it owes: an operator the end of a line, or that it takes
--- its answers; the reader of a page that it takes it; and each of them the end of its side
-abbrev pub time_of : Role → Stage → ℕ
-time_of Operator Open = 60000
-time_of Operator Last = 60000
-time_of Operator Parting = 500
-time_of Reader Open = 10000
-time_of Reader Last = 10000
-time_of Reader Parting = 500
+-- the lesser of two times, where there are any
+abbrev pub earlier : Option ℕ → Option ℕ → Option ℕ
+earlier None second = second
+earlier (Some first) None = Some first
+earlier (Some first) (Some second) = Some (min first second)
 
--- the same once the daemon is to end
-abbrev pub last_time_of : Stage → ℕ
-last_time_of Open = 2000
-last_time_of Last = 2000
-last_time_of Parting = 500
+-- the greatest time that a clock shows, and a time that isn't after it
+abbrev pub in_time : ℕ → ℕ
+in_time time = min time (2 ^ 64 - 1)
 
--- for how long it may owe what it owes, if it owes anything: one that is ready owes nothing
-abbrev pub limit_of : Role → Stage → Bool → Bool → Option ℕ
-limit_of role stage true ending = None
-limit_of role stage false false = Some (time_of role stage)
-limit_of role stage false true = Some (last_time_of stage)
+-- when a peer is late, if it owes anything
+abbrev pub late_at_of : ℕ → Bool → Standing → Option ℕ
+late_at_of silence ending standing = option_map (λ limit. in_time (standing.since + limit)) (limit_of silence ending standing)
 
--- since when a peer owes what it owes, after bytes came: what ends no line gives no more time
-abbrev pub since_after : Bool → ℕ → ℕ → ℕ
-since_after true since now = now
-since_after false since now = since
+-- the peer at this place has owed what it owes for as long as it may
+abbrev pub IsLateAt : Peers → ℕ → Type 0
+IsLateAt peers place =
+    (standing : Standing)
+    × (slice_get peers.table.standings.items place ≡ Some (Some standing))
+    × IsLate peers.now peers.rules.silence peers.is_ending standing
+
+-- nobody at so many first places has
+abbrev pub IsNoneLate : Peers → ℕ → Type 0
+IsNoneLate peers count = (place : ℕ) → place < count → IsLateAt peers place → ⊥
+
+-- the peer at this place can be served, and came to that first
+abbrev pub IsFirstReady : List (Option Standing) → ℕ → Type 0
+IsFirstReady standings place = IsFirst can_be_served was_ready_before standings None place
+
+-- the time that was looked at, and what is owed by it, are the same
+pub record IsSameTime (old new : Peers) : Type 0 where
+  pub now : new.now ≡ old.now
+  pub ending : new.is_ending ≡ old.is_ending
+  pub rules : new.rules ≡ old.rules

@@ -1,163 +1,175 @@
-ghost use Rattle.std.specs.Prelude.{◌≡◌, length};
+ghost use Rattle.std.specs.Prelude.{◌≡◌, ◌≢◌, ◌≤◌, IsNone, IsSome};
+ghost use Rattle.gate_ports.specs.Serving.{last_time};
 
-use crate::port::Port;
-use gate_environment::Connections;
+use crate::port::Worker;
 use gate_environment::times::LAST_READER_MILLIS;
+use gate_environment::{Connections, Piece, PieceEnd};
 use gate_streams::{Sink, Source};
+use gate_turns::Role;
 use std::io;
 use std::sync::Wait;
-use std::time::{Clock, Duration, Instant};
+use std::sync::atomic::Ordering;
+use std::time::{Clock, Instant};
 
-/// What a peer of a port sends, whole lines of an operator. Its reads fail with TimedOut where the peer
-/// doesn't bring or take in time what it owes, and with ConnectionAborted where the daemon is to end. It ends
-/// where the peer ends, and where another peer can be served: then the peer is served again later.
+/// Those who send packets.
+#[derive(Clone, Copy)]
+pub struct Agents;
+
+/// Those who send lines.
+#[derive(Clone, Copy)]
+pub struct Operators;
+
+/// Those who get pages.
+#[derive(Clone, Copy)]
+pub struct Readers;
+
+/// The connections of agents, in pieces: each is greeted, and then served whenever it has brought whole
+/// packets. There are no more once the daemon is to end.
+pub type AgentConnections<'a, R> = PeerConnections<'a, R, Agents>;
+
+/// The connections of operators, in pieces: each is served whenever it has brought a whole line. There are no
+/// more once the daemon is to end and none has a line to serve.
+pub type OperatorConnections<'a, R> = PeerConnections<'a, R, Operators>;
+
+/// The connections of readers of pages, each of one piece. There are no more once the daemon is to end
+/// and none comes for half a second.
+pub type ReaderConnections<'a, R> = PeerConnections<'a, R, Readers>;
+
+/// What a peer of a port sends: whole packets of an agent, whole lines of an operator. A piece ends where
+/// nothing more is there by now, and where others can be served; no read waits. A read fails with
+/// ConnectionAborted where the daemon is to end.
 #[derive(Drop)]
 pub struct PeerInput<'a, R> {
     rt: &'a R,
-    port: &'a Port,
+    worker: &'a Worker,
 }
 
 /// What a peer of a port is sent. What the peer doesn't take at once is kept, and sent as it takes it.
 #[derive(Drop)]
 pub struct PeerOutput<'a, R> {
     rt: &'a R,
-    port: &'a Port,
+    worker: &'a Worker,
 }
 
-// The next peer that can be served, or None once the daemon is to end and none can be served within
-// this time.
-fn next_peer<'a, R: Wait + Clock>(
+/// The connections of one worker of a port, to peers of this kind.
+#[derive(Drop)]
+pub struct PeerConnections<'a, R, K: Copy> {
     rt: &'a R,
-    port: &'a Port,
-    last: Duration,
-) -> Option<(PeerInput<'a, R>, PeerOutput<'a, R>)> {
-    let mut most = Some(Duration::from_millis(0));
-    let mut ended = None;
-    for _ in rt.forever() {
-        // Before the look at the peers, so that none that waits by then is left out, and nobody waits
-        // without end after the wake.
-        let is_ending = port.is_ending();
-        if is_ending {
-            most = Some(time_left(rt, &mut ended, last));
-        }
-        if port.peers.lock(rt).next(rt, is_ending, most) {
-            return Some((PeerInput { rt, port }, PeerOutput { rt, port }));
-        }
-        if is_ending && most.is_none_or(|most| most.is_zero()) {
-            return None;
-        }
-        most = None;
-    }
-    unreachable!()
+    worker: &'a Worker,
+    _kind: K,
 }
 
-// What is left of a time, from the first call on; nothing where the clock can't be read.
-fn time_left<R: Clock>(rt: &R, began: &mut Option<Instant>, time: Duration) -> Duration {
+impl<'a, R, K: Copy> PeerConnections<'a, R, K> {
+    pub(crate) fn new(rt: &'a R, worker: &'a Worker, kind: K) -> PeerConnections<'a, R, K> {
+        PeerConnections {
+            rt,
+            worker,
+            _kind: kind,
+        }
+    }
+}
+
+// For how many milliseconds peers may still come once the daemon is to end.
+fn last_millis(role: Role) -> u64
+    ensures { result ≡ last_time role }
+{
+    match role {
+        Role::Agent | Role::Operator => 0,
+        Role::Reader => LAST_READER_MILLIS,
+    }
+}
+
+// What is left of a time in milliseconds, from the first call on; nothing where the clock can't be read.
+fn time_left<R: Clock>(rt: &R, began: &mut Option<Instant>, millis: u64) -> u64
+    ensures bound { result ≤ millis }
+    ensures first { IsNone began.old → result ≢ 0 → IsSome began.new }
+{
     match *began {
         Some(first) => match first.elapsed(rt) {
-            Ok(elapsed) => time.saturating_sub(elapsed),
-            Err(_) => Duration::from_millis(0),
+            Ok(elapsed) => {
+                millis.saturating_sub(u64::try_from(elapsed.as_millis()).unwrap_or(millis))
+            }
+            Err(_) => 0,
         },
         None => {
             *began = Instant::now(rt).ok();
-            if began.is_some() {
-                time
-            } else {
-                Duration::from_millis(0)
-            }
+            if began.is_some() { millis } else { 0 }
         }
     }
 }
 
-/// The connections of operators, each for as long as it has lines to serve and no other one has. There
-/// are no more once the daemon is to end and none has a line to serve.
-#[derive(Drop)]
-pub struct OperatorConnections<'a, R> {
-    rt: &'a R,
-    port: &'a Port,
-}
-
-impl<'a, R> OperatorConnections<'a, R> {
-    pub(crate) fn new(rt: &'a R, port: &'a Port) -> OperatorConnections<'a, R> {
-        OperatorConnections { rt, port }
-    }
-}
-
-impl<'a, R: Wait + Clock + Sync> Connections for OperatorConnections<'a, R> {
+impl<'a, R: Wait + Clock + Sync, K: Copy + Drop + Send> Connections for PeerConnections<'a, R, K> {
     type In = PeerInput<'a, R>;
 
     type Out = PeerOutput<'a, R>;
 
-    fn next(&mut self) -> Option<(PeerInput<'a, R>, PeerOutput<'a, R>)> {
-        next_peer(self.rt, self.port, Duration::from_millis(0))
+    fn next(&mut self) -> Option<Piece<PeerInput<'a, R>, PeerOutput<'a, R>>> {
+        let shared = &self.worker.shared;
+        let role = self.worker.rules.role;
+        let last = last_millis(role);
+        let mut ended = None;
+        for _ in self.rt.forever() {
+            // Before the look at the peers, so that none that waits by then is left out, and nobody waits
+            // without end after the wake.
+            let is_ending = shared.is_ending.load(Ordering::SeqCst);
+            let is_open = shared.is_open.load(Ordering::SeqCst);
+            if is_ending && role == Role::Agent {
+                return None;
+            }
+            let most = if is_ending {
+                Some(time_left(self.rt, &mut ended, last))
+            } else {
+                None
+            };
+            let next = self
+                .worker
+                .serving
+                .lock(self.rt)
+                .next(self.rt, is_open, is_ending, most);
+            if let Some((place, is_first)) = next {
+                return Some(Piece {
+                    place,
+                    is_first,
+                    input: PeerInput {
+                        rt: self.rt,
+                        worker: self.worker,
+                    },
+                    output: PeerOutput {
+                        rt: self.rt,
+                        worker: self.worker,
+                    },
+                });
+            }
+            if is_ending && most == Some(0) {
+                return None;
+            }
+        }
+        unreachable!()
     }
 
-    fn part(&mut self, _input: PeerInput<'a, R>, _output: PeerOutput<'a, R>) {
-        self.port.peers.lock(self.rt).part(self.rt);
+    fn part(&mut self, piece: Piece<PeerInput<'a, R>, PeerOutput<'a, R>>, end: PieceEnd)
+        ensures { self.new ≡ self.old }
+    {
+        let mut serving = self.worker.serving.lock(self.rt);
+        serving.part(self.rt, piece.is_first, end);
     }
 
     fn end(&mut self) {
-        self.port.peers.lock(self.rt).end(self.rt);
-    }
-}
-
-/// The connections of readers of pages. There are no more once the daemon is to end and none comes for
-/// half a second.
-#[derive(Drop)]
-pub struct ReaderConnections<'a, R> {
-    rt: &'a R,
-    port: &'a Port,
-}
-
-impl<'a, R> ReaderConnections<'a, R> {
-    pub(crate) fn new(rt: &'a R, port: &'a Port) -> ReaderConnections<'a, R> {
-        ReaderConnections { rt, port }
-    }
-}
-
-impl<'a, R: Wait + Clock + Sync> Connections for ReaderConnections<'a, R> {
-    type In = PeerInput<'a, R>;
-
-    type Out = PeerOutput<'a, R>;
-
-    fn next(&mut self) -> Option<(PeerInput<'a, R>, PeerOutput<'a, R>)> {
-        next_peer(
-            self.rt,
-            self.port,
-            Duration::from_millis(LAST_READER_MILLIS),
-        )
-    }
-
-    fn part(&mut self, _input: PeerInput<'a, R>, _output: PeerOutput<'a, R>) {
-        self.port.peers.lock(self.rt).part(self.rt);
-    }
-
-    fn end(&mut self) {
-        self.port.peers.lock(self.rt).end(self.rt);
+        self.worker.serving.lock(self.rt).end(self.rt);
     }
 }
 
 impl<'a, R: Wait + Clock> Source for PeerInput<'a, R> {
     fn take_some(&mut self, buf: &mut [u8]) -> io::Result<usize> {
-        let mut most = Some(Duration::from_millis(0));
-        for _ in self.rt.forever() {
-            let is_ending = self.port.is_ending();
-            if is_ending {
-                most = Some(Duration::from_millis(0));
-            }
-            let mut peers = self.port.peers.lock(self.rt);
-            if let Some(count) = peers.hand_out(self.rt, buf, is_ending, most)? {
-                return Ok(count);
-            }
-            most = None;
-        }
-        unreachable!()
+        let is_ending = self.worker.shared.is_ending.load(Ordering::SeqCst);
+        let mut serving = self.worker.serving.lock(self.rt);
+        serving.hand_out(self.rt, buf, is_ending)
     }
 }
 
 impl<'a, R: Wait + Clock> Sink for PeerOutput<'a, R> {
     fn put(&mut self, bytes: &[u8]) -> io::Result<()> {
-        self.port.peers.lock(self.rt).put(self.rt, bytes)
+        self.worker.serving.lock(self.rt).put(bytes)
     }
 
     fn deliver(&mut self) -> io::Result<()> {

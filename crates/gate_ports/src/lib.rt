@@ -1,19 +1,31 @@
-//! The daemon's ports over real sockets: of agents, whom workers serve one at a time each, and of
-//! operators and readers of pages, for all of whom one thread waits at once. No peer keeps another one
-//! waiting, nor the daemon from ending, for longer than the times of `gate_environment::times` allow.
+//! The daemon's ports over real sockets: of agents, of operators and of readers of pages. Each worker waits
+//! for all of its peers at once, and serves those that have brought something, in pieces. No peer keeps
+//! another one waiting, nor the daemon from ending, for longer than the times of `gate_environment::times`
+//! allow.
 #![tactic(auto)]
 
-mod agents;
+mod accepting;
 mod connections;
-mod lines;
+mod cutting;
+mod held;
 mod peer;
 mod peers;
 mod port;
 mod ports;
+mod reading;
+mod room;
+mod selector;
+mod served;
+mod serving;
+mod shared;
+mod standing;
 mod system_watch;
+mod table;
 
-pub use agents::{AgentConnections, AgentInput, AgentOutput, AgentsPort};
-pub use connections::{OperatorConnections, PeerInput, PeerOutput, ReaderConnections};
-pub use port::{OperatorsPort, PagesPort};
+pub use connections::{
+    AgentConnections, Agents, OperatorConnections, Operators, PeerConnections, PeerInput,
+    PeerOutput, ReaderConnections, Readers,
+};
+pub use port::{AgentsPort, OperatorsPort, PagesPort};
 pub use ports::Ports;
 pub use system_watch::SystemWatch;

@@ -1,48 +1,166 @@
-use crate::connections::{OperatorConnections, ReaderConnections};
-use crate::peer::Role;
-use crate::peers::{Peers, WAKER};
-use mio::{Poll, Waker};
+ghost use Rattle.std.specs.Prelude.{◌≡◌, ◌<◌, ◌↔◌, vec_len, IsSome, IfOk};
+ghost use Rattle.gate_turns.specs.Waiting.{silence_of};
+
+use crate::connections::{Agents, Operators, PeerConnections, Readers};
+use crate::peers::Peers;
+use crate::selector::Selector;
+use crate::serving::Serving;
+use crate::shared::{Rules, Shared};
+use gate_turns::Role;
+use libc::net::listen;
+use mio::Waker;
 use std::alloc::Global;
 use std::io;
 use std::net::{Net, TcpListener};
-use std::sync::Mutex;
-use std::sync::atomic::{AtomicBool, Ordering};
+use std::os::fd::AsRawFd;
+use std::sync::atomic::{AtomicBool, AtomicU64, Ordering};
+use std::sync::{Arc, Mutex};
 use std::time::Clock;
 
-/// A port for whose peers one thread waits.
+// How many connections wait at a listener until they are accepted.
+const BACKLOG: i32 = 4_096;
+
+/// A worker of a port: its peers, and what wakes it.
+#[derive(Drop)]
+pub(crate) struct Worker {
+    pub(crate) serving: Mutex<Serving>,
+    waker: Waker,
+    pub(crate) shared: Arc<Shared, Global>,
+    pub(crate) rules: Rules,
+}
+
+impl Worker {
+    fn new<R: Net + Clock>(
+        rt: &R,
+        alloc: Global,
+        rules: Rules,
+        shared: &Arc<Shared, Global>,
+    ) -> io::Result<Worker>
+        ensures { IfOk result (λ worker. worker.rules ≡ rules) }
+    {
+        let (selector, waker) = Selector::new(rt, alloc)?;
+        let peers = Peers::new(rt, alloc, rules, Arc::try_clone(shared)?, selector)?;
+        Ok(Worker {
+            serving: Mutex::new(Serving::new(peers)),
+            waker,
+            shared: Arc::try_clone(shared)?,
+            rules,
+        })
+    }
+}
+
+/// What a port is told.
+#[derive(Clone, Copy)]
+pub(crate) enum Call {
+    /// To accept connections, and to serve them.
+    Open,
+    /// That the daemon is to end.
+    End,
+}
+
+/// A port with its workers.
 #[derive(Drop)]
 pub(crate) struct Port {
-    pub(crate) peers: Mutex<Peers>,
-    waker: Waker,
-    is_ending: AtomicBool,
+    shared: Arc<Shared, Global>,
+    workers: Vec<Worker>,
+    rules: Rules,
 }
 
 impl Port {
     fn new<R: Net + Clock>(
         rt: &R,
         alloc: Global,
-        role: Role,
         listener: TcpListener,
-    ) -> io::Result<Port> {
+        workers: u32,
+        rules: Rules,
+    ) -> io::Result<Port>
+        ensures workers { IfOk result (λ port. vec_len port.workers ≡ workers) }
+        ensures rules { IfOk result (λ port. port.rules ≡ rules) }
+    {
         listener.set_nonblocking(true)?;
-        let poll = Poll::new(rt)?;
-        let waker = Waker::new(poll.registry(), WAKER)?;
-        let listener = mio::net::TcpListener::from_std(listener);
-        Ok(Port {
-            peers: Mutex::new(Peers::new(rt, alloc, role, listener, poll)?),
-            waker,
+        if listen(listener.as_raw_fd(), BACKLOG) < 0 {
+            return Err(io::Error::from_raw_os_error(os::errno()));
+        }
+        let shared = Shared {
+            listener,
+            count: AtomicU64::new(0),
+            workers: AtomicU64::new(u64::from(workers)),
+            is_open: AtomicBool::new(false),
             is_ending: AtomicBool::new(false),
+        };
+        let shared = Arc::new(alloc, shared)?;
+        let mut waiting = Vec::with_capacity(alloc, workers as usize)?;
+        for _ in 0..workers {
+            waiting.push(Worker::new(rt, alloc, rules, &shared)?)?;
+        }
+        Ok(Port {
+            shared,
+            workers: waiting,
+            rules,
         })
     }
 
-    // Wakes the thread that waits, which then looks whether the daemon is to end.
-    pub(crate) fn end(&self) {
-        self.is_ending.store(true, Ordering::SeqCst);
-        let _ = self.waker.wake();
+    // The worker of this number, from 0.
+    fn worker(&self, number: usize) -> Option<&Worker>
+        ensures { IsSome result ↔ (number < vec_len self.now.workers) }
+    {
+        if number < self.workers.len() {
+            Some(&self.workers[number])
+        } else {
+            None
+        }
     }
 
-    pub(crate) fn is_ending(&self) -> bool {
-        self.is_ending.load(Ordering::SeqCst)
+    /// Tells the port this, and wakes all of its workers.
+    pub(crate) fn tell(&self, call: Call) {
+        match call {
+            Call::Open => self.shared.is_open.store(true, Ordering::SeqCst),
+            Call::End => self.shared.is_ending.store(true, Ordering::SeqCst),
+        }
+        for worker in &self.workers {
+            let _ = worker.waker.wake();
+        }
+    }
+}
+
+/// The port of agents: up to 4,096 are open at once, or as many as the system has descriptors for. Each is
+/// greeted at once, and served once it has brought a whole packet, in the order in which that came. One
+/// more comes in place of the one that has been silent for the longest time, of the address with the most
+/// connections. One that is silent until its packets would be too old is let go, and none before 60 seconds.
+#[derive(Drop)]
+pub struct AgentsPort(pub(crate) Port);
+
+impl AgentsPort {
+    /// The port of this listener, for so many workers, whose packets are too old at this age in seconds. It
+    /// fails where the system has no descriptors for waiting, or memory is missing.
+    pub fn new<R: Net + Clock>(
+        rt: &R,
+        alloc: Global,
+        listener: TcpListener,
+        workers: u32,
+        greatest_age: u32,
+    ) -> io::Result<AgentsPort>
+        ensures workers { IfOk result (λ port. vec_len port.0.workers ≡ workers) }
+        ensures role { IfOk result (λ port. port.0.rules.role ≡ Role.Agent) }
+        ensures silence { IfOk result (λ port. port.0.rules.silence ≡ silence_of greatest_age) }
+    {
+        let rules = Rules::of_agents(greatest_age);
+        Ok(AgentsPort(Port::new(rt, alloc, listener, workers, rules)?))
+    }
+
+    /// The connections of the worker of this number, from 0. Once all workers have ended theirs, the port is
+    /// closed.
+    pub fn connections<'a, R>(
+        &'a self,
+        rt: &'a R,
+        worker: usize,
+    ) -> Option<PeerConnections<'a, R, Agents>>
+        ensures { IsSome result ↔ (worker < vec_len self.now.0.workers) }
+    {
+        match self.0.worker(worker) {
+            Some(worker) => Some(PeerConnections::new(rt, worker, Agents)),
+            None => None,
+        }
     }
 }
 
@@ -50,7 +168,10 @@ impl Port {
 /// in the order in which it ended. One more comes in place of the one that has owed the end of a line, or
 /// the taking of an answer, for the longest time.
 #[derive(Drop)]
-pub struct OperatorsPort(Port);
+pub struct OperatorsPort {
+    pub(crate) port: Port,
+    ghost one: { vec_len port.workers ≡ 1 },
+}
 
 impl OperatorsPort {
     /// The port of this listener. It fails where the system has no descriptors for waiting, or memory is
@@ -59,24 +180,27 @@ impl OperatorsPort {
         rt: &R,
         alloc: Global,
         listener: TcpListener,
-    ) -> io::Result<OperatorsPort> {
-        Ok(OperatorsPort(Port::new(rt, alloc, Role::Operator, listener)?))
+    ) -> io::Result<OperatorsPort>
+        ensures { IfOk result (λ port. port.port.rules.role ≡ Role.Operator) }
+    {
+        let rules = Rules::of_others(Role::Operator);
+        let port = Port::new(rt, alloc, listener, 1, rules)?;
+        Ok(OperatorsPort { port })
     }
 
     /// The connections of the operators' worker.
-    pub fn connections<'a, R>(&'a self, rt: &'a R) -> OperatorConnections<'a, R> {
-        OperatorConnections::new(rt, &self.0)
-    }
-
-    pub(crate) fn end(&self) {
-        self.0.end();
+    pub fn connections<'a, R>(&'a self, rt: &'a R) -> PeerConnections<'a, R, Operators> {
+        PeerConnections::new(rt, &self.port.workers[0], Operators)
     }
 }
 
 /// The port of the readers of pages: up to 256 are open at once, and each gets its page in the order in
 /// which they came. One more comes in place of the one that has taken the longest time for its page.
 #[derive(Drop)]
-pub struct PagesPort(Port);
+pub struct PagesPort {
+    pub(crate) port: Port,
+    ghost one: { vec_len port.workers ≡ 1 },
+}
 
 impl PagesPort {
     /// The port of this listener. It fails where the system has no descriptors for waiting, or memory is
@@ -85,16 +209,16 @@ impl PagesPort {
         rt: &R,
         alloc: Global,
         listener: TcpListener,
-    ) -> io::Result<PagesPort> {
-        Ok(PagesPort(Port::new(rt, alloc, Role::Reader, listener)?))
+    ) -> io::Result<PagesPort>
+        ensures { IfOk result (λ port. port.port.rules.role ≡ Role.Reader) }
+    {
+        let rules = Rules::of_others(Role::Reader);
+        let port = Port::new(rt, alloc, listener, 1, rules)?;
+        Ok(PagesPort { port })
     }
 
     /// The connections that get pages.
-    pub fn connections<'a, R>(&'a self, rt: &'a R) -> ReaderConnections<'a, R> {
-        ReaderConnections::new(rt, &self.0)
-    }
-
-    pub(crate) fn end(&self) {
-        self.0.end();
+    pub fn connections<'a, R>(&'a self, rt: &'a R) -> PeerConnections<'a, R, Readers> {
+        PeerConnections::new(rt, &self.port.workers[0], Readers)
     }
 }

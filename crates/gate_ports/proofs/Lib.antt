@@ -1,0 +1,4 @@
+mod Whole
+mod Begun
+mod Handing
+mod Late

@@ -1,0 +1,5 @@
+use Rattle.std.proofs.Common.{refl}
+use Rattle.gate_ports.proofs.serving.Serving.serve_first_ready.Goals as goal
+
+pub returns-clause-served : goal.returns-clause-served
+returns-clause-served c = (_, refl, record { place = refl; none = refl; greeted = refl })

@@ -1,0 +1,81 @@
+-- What can be done for a peer, and that its bytes are handed out in order, each once. Own rules.
+use Rattle.std.specs.Prelude.{◌≡◌, ℕ, ◌≤◌, ◌||◌, ◌&&◌, ◌==◌, not, nat_lt, Bool, true, false, List, [], ◌++◌, length, take, drop, IsNone}
+use Rattle.gate_turns.specs.declared.standing.Role.{Role}
+use Rattle.gate_turns.specs.declared.standing.Role.TheVariants.{Agent, Operator, Reader}
+use Rattle.gate_turns.specs.declared.standing.Stage.{Stage}
+use Rattle.gate_turns.specs.declared.standing.Stage.TheVariants.{Open, Last, Parting}
+use Rattle.gate_turns.specs.declared.standing.Standing.{Standing}
+use Rattle.gate_ports.specs.declared.peer.Peer.{Peer}
+
+-- something whole is there to be served
+abbrev pub is_whole : Peer → Bool
+is_whole peer = nat_lt 0 peer.held.whole
+
+-- it took all that was written to it
+abbrev pub is_sent : Peer → Bool
+is_sent peer = length peer.unsent.items == 0
+
+-- whether it can be served, by its role: an agent also to be greeted, a reader at once
+abbrev pub can_begin_as : Role → Peer → Bool
+can_begin_as Agent peer = peer.is_new || (is_whole peer && is_sent peer)
+can_begin_as Operator peer = is_whole peer && is_sent peer
+can_begin_as Reader peer = true
+
+abbrev pub can_begin : Peer → Bool
+can_begin peer = can_begin_as peer.held.role peer
+
+-- what a reader sends isn't read
+abbrev pub is_read : Role → Bool
+is_read Agent = true
+is_read Operator = true
+is_read Reader = false
+
+-- more of it is awaited
+abbrev pub is_awaited : Peer → Bool
+is_awaited peer = is_read peer.held.role && not peer.has_ended && not (is_whole peer) && is_sent peer
+
+-- it was served, has ended, and nothing is left of it to serve
+abbrev pub is_spent : Peer → Bool
+is_spent peer = peer.has_ended && not peer.is_new && not (is_whole peer)
+
+-- something is left to do that isn't reported again
+abbrev pub is_interrupted : Stage → Peer → Bool
+is_interrupted Open peer = peer.may_read && is_awaited peer
+is_interrupted Last peer = false
+is_interrupted Parting peer = peer.may_read
+
+-- the bytes of an agent that were kept, and those that came since, are those that were handed out, and then those that are
+-- kept now: none is left out, and none is handed out twice
+abbrev pub HandsOn : Peer → ℕ → List ℕ → Peer → Type 0
+HandsOn old count buffer new =
+    old.held.role ≡ Agent → IsNone new.failure
+    → (came : List ℕ) × (take count buffer ++ new.held.bytes.items ≡ old.held.bytes.items ++ came)
+
+-- so many bytes at the front of the buffer were handed out
+pub record HandsOut (old : Peer) (count : ℕ) (buffer : List ℕ) (new : Peer) : Type 0 where
+  pub room : count ≤ length buffer
+  pub in_order : HandsOn old count buffer new
+
+-- all but what was taken from the front is left
+abbrev pub Sends : List ℕ → List ℕ → Type 0
+Sends old new = (count : ℕ) × (new ≡ drop count old)
+
+-- a read changes neither who the peer is nor what is left for it, and a failure stays
+pub record IsSameBy (old new : Peer) : Type 0 where
+  pub role : new.held.role ≡ old.held.role
+  pub is_new : new.is_new ≡ old.is_new
+  pub unsent : new.unsent.items ≡ old.unsent.items
+  pub failure : IsNone new.failure → IsNone old.failure
+
+-- what came was kept, and nothing handed out
+pub record IsRead (old new : Peer) : Type 0 where
+  pub same : IsSameBy old new
+  pub kept : HandsOn old 0 [] new
+
+-- what an agent sends gives it no more time, and nobody another role, order or address
+pub record KeepsTime (old new : Standing) : Type 0 where
+  pub role : new.role ≡ old.role
+  pub order : new.order ≡ old.order
+  pub address : new.address ≡ old.address
+  pub is_ready : new.is_ready ≡ old.is_ready
+  pub since : old.role ≡ Agent → old.stage ≡ Open → new.since ≡ old.since
