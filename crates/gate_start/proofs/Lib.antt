@@ -1,2 +1,3 @@
+pub mod KeptSteps
 pub mod ConfiguringSteps
 pub mod Steps

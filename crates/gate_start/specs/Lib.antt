@@ -1,3 +1,4 @@
+pub mod Kept
 pub mod AfterServing
 pub mod BeforeServing
 pub mod Fault

@@ -11,7 +11,10 @@ use std::io::ErrorKind;
 use std::net::{Net, SocketAddr, TcpListener, TcpStream};
 use std::time::Clock;
 
-// How many descriptors are needed beside those of the agents' workers, at least.
+// How many descriptors each agents' worker needs, at least: two that it waits with, and an agent's.
+const WORKER_DESCRIPTORS: u32 = 3;
+
+// How many are needed beside those, at least.
 const SPARE_DESCRIPTORS: u32 = 16;
 
 /// A port, with the address that it is bound to. Where a configuration has port 0, the system chose the
@@ -84,8 +87,8 @@ fn grants_descriptors(alloc: Global, listener: &TcpListener, count: u32) -> io::
 /// Binds the addresses of agents, of operators and of pages, in this order, each once.
 ///
 /// Bind names the first address that can't be bound, or at which the system doesn't grant what its port
-/// waits with. It names that of the agents where the system doesn't grant a descriptor for each agents'
-/// worker and 16 more. Own rule.
+/// waits with. It names that of the agents where the system doesn't grant three descriptors for each
+/// agents' worker and 16 more. Nobody is served at the ports until they are opened. Own rule.
 pub(crate) fn listen<R: Net<Listener = TcpListener, Stream = TcpStream> + Clock>(
     rt: &R,
     alloc: Global,
@@ -97,9 +100,11 @@ pub(crate) fn listen<R: Net<Listener = TcpListener, Stream = TcpStream> + Clock>
     ensures err { IfErr result (IsBindEnd (IsAddressIn config.now)) }
 {
     let agents = bind(rt, alloc, &config.agents, |listener| {
-        let count = config.workers.saturating_add(SPARE_DESCRIPTORS);
+        let of_workers = config.workers.saturating_mul(WORKER_DESCRIPTORS);
+        let count = of_workers.saturating_add(SPARE_DESCRIPTORS);
         grants_descriptors(alloc, &listener, count)?;
-        AgentsPort::new(listener)
+        let greatest_age = config.limits.greatest_age;
+        AgentsPort::new(rt, alloc, listener, config.workers, greatest_age)
     })?;
     let operators = bind(rt, alloc, &config.operators, |listener| {
         OperatorsPort::new(rt, alloc, listener)

@@ -23,7 +23,7 @@ unknown_replay rules input output errors errors_after status words_fault.OutOfMe
     record { fault = Some replay_fault.OutOfMemory; status_is = k.status_is; ended = inl refl; reported = k.reported }
 
 -- the daemon
-pub unknown_serve : (path : List ℕ) (output errors errors_after : SinkState) (status : ℕ) (found : WordsFault) (asked : Option Asked) → (not_asked found ≡ Err words_fault.BadArguments → asked ≡ None) → asked ≡ Some (serve path) → IsRefusal found errors errors_after status → IsServeRun output output errors errors_after status
-unknown_serve path output errors errors_after status words_fault.BadArguments asked refused is k = let e = refused refl in absurd (cc)
-unknown_serve path output errors errors_after status words_fault.OutOfMemory asked refused is k =
-    record { reports = []; fault = Some fault.OutOfMemory; status_is = k.status_is; ended = inl refl; reported = k.reported }
+pub unknown_serve : (path : List ℕ) (input : Option (List ℕ)) (output errors errors_after : SinkState) (status : ℕ) (found : WordsFault) (asked : Option Asked) → (not_asked found ≡ Err words_fault.BadArguments → asked ≡ None) → asked ≡ Some (serve path) → IsRefusal found errors errors_after status → IsServeRun input output output errors errors_after status
+unknown_serve path input output errors errors_after status words_fault.BadArguments asked refused is k = let e = refused refl in absurd (cc)
+unknown_serve path input output errors errors_after status words_fault.OutOfMemory asked refused is k =
+    record { reports = []; fault = Some fault.OutOfMemory; status_is = k.status_is; ended = inl refl; middle = errors; taken = inl refl; reported = k.reported }

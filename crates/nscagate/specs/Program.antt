@@ -8,6 +8,7 @@ use Rattle.gate_streams.specs.Sink.{SinkState}
 use Rattle.gate_reader.specs.declared.report.Report.{Report}
 use Rattle.gate_start.specs.declared.fault.ServeFault.{ServeFault}
 use Rattle.gate_start.specs.Fault.{status_of, message_of}
+use Rattle.gate_start.specs.Kept.{IsInputTaken}
 use Rattle.nscagate.specs.Serve.{ServeEnds}
 
 -- the program ends with this status, after a line on the cause
@@ -20,11 +21,14 @@ abbrev pub IsRefused : SinkState → SinkState → ℕ → Type 0
 IsRefused errors errors_after status =
     IsRefusal BadArguments errors errors_after status ⊎ IsRefusal OutOfMemory errors errors_after status
 
--- the daemon, with what is known of the output and of the errors before and after it, ends with this status, and its
--- clients have some reports
-pub record IsServeRun (output output_after errors errors_after : SinkState) (status : ℕ) : Type 0 where
+-- the daemon, with what is known of its input, and of the output and of the errors before and after it, ends with this
+-- status, and its clients have some reports; what isn't taken of the input is named first
+pub record IsServeRun (remaining : Option (List ℕ)) (output output_after errors errors_after : SinkState) (status : ℕ)
+    : Type 0 where
   pub reports : List (ℕ × List Report)
   pub fault : Option ServeFault
   pub status_is : status ≡ status_at_end status_of fault
   pub ended : ServeEnds output output_after reports fault
-  pub reported : IsFaultReported message_of fault errors errors_after
+  pub middle : SinkState
+  pub taken : IsInputTaken remaining errors middle
+  pub reported : IsFaultReported message_of fault middle errors_after

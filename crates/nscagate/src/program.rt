@@ -1,4 +1,4 @@
-ghost use Rattle.std.specs.Prelude.{◌≡◌, ◌≢◌, ℕ, List, Some, None, map, string_bytes};
+ghost use Rattle.std.specs.Prelude.{◌≡◌, ℕ, List, Some, None, map, string_bytes};
 ghost use Rattle.gate_replay.specs.Allowed.{IsAllowed};
 ghost use Rattle.gate_words.specs.Words.{asked_of, replay, serve};
 ghost use Rattle.gate_replay.specs.Replay.{IsReplayRun};
@@ -19,11 +19,11 @@ use std::time::Clock;
 /// Runs the program with the words after its name, and returns the exit status.
 ///
 /// `replay` replays the script on `input`, as `run_replay` does. `serve --config PATH`, in any
-/// spelling that `clap` reads, runs the daemon, as `serve` does; the line on `errors` reports its
-/// fault. Any other words, or none, are refused with status 2 and the line `nscagate: bad arguments`
-/// on `errors`: nothing is read and nothing printed. Memory may run out before the words are known:
-/// the status is 3 and the line `nscagate: OutOfMemory`. That a line can't be written to `errors`
-/// changes nothing. Own rules.
+/// spelling that `clap` reads, runs the daemon, as `serve` does, which takes what `input` holds where
+/// standard input is a regular file; the last line on `errors` reports its fault. Any other words, or
+/// none, are refused with status 2 and the line `nscagate: bad arguments` on `errors`: nothing is read
+/// and nothing printed. Memory may run out before the words are known: the status is 3 and the line
+/// `nscagate: OutOfMemory`. That a line can't be written to `errors` changes nothing. Own rules.
 pub fn run_program<
     T: Files + Net<Listener = TcpListener, Stream = TcpStream> + Threads + Wait + Clock + Sync,
     R: Read,
@@ -34,17 +34,20 @@ pub fn run_program<
         (R.remaining input.old) (W.state output.old) (W.state output.new) (E.state errors.old)
         (E.state errors.new) result }
     ensures serve { (path : List ℕ) → asked_of (map string_bytes words.now) ≡ Some (serve path)
-        → IsServeRun (W.state output.old) (W.state output.new) (E.state errors.old)
-        (E.state errors.new) result }
+        → IsServeRun (R.remaining input.old) (W.state output.old) (W.state output.new)
+        (E.state errors.old) (E.state errors.new) result }
     ensures refused { asked_of (map string_bytes words.now) ≡ None → IsRefused (E.state errors.old)
         (E.state errors.new) result }
 
-    ensures unread { asked_of (map string_bytes words.now) ≢ Some replay → input.new ≡ input.old }
+    ensures unread { asked_of (map string_bytes words.now) ≡ None → input.new ≡ input.old }
     ensures unprinted { asked_of (map string_bytes words.now) ≡ None → output.new ≡ output.old }
 {
     match read_words(alloc, words) {
         Ok(Request::Replay) => run_replay(rt, alloc, input, output, errors),
-        Ok(Request::Serve(path)) => end_with(&serve(rt, alloc, path, output).fault, errors),
+        Ok(Request::Serve(path)) => {
+            let served = serve(rt, alloc, path, input, output, errors);
+            end_with(&served.fault, errors)
+        }
         Err(fault) => end_with(&Some(fault), errors),
     }
 }

@@ -1,22 +1,26 @@
-ghost use Rattle.std.specs.Prelude.{◌≡◌, IfErr, IfOk, vec_len};
+ghost use Rattle.std.specs.Prelude.{◌≡◌, reverse, IfErr, IfOk, vec_len};
+ghost use Rattle.std.specs.List.{concat};
 ghost use Rattle.gate_worker.specs.Answered.{reports_of_each};
 ghost use Rattle.gate_opening.specs.Faults.{IsGatewayFault};
+ghost use Rattle.gate_start.specs.Kept.{IsInputTaken};
 ghost use Rattle.nscagate.specs.Serve.{ServeEnds, worker_limits};
 ghost use Rattle.nscagate.specs.inner.Serving.{HasRun};
 
 use gate_config::{Config, Limits};
 use gate_daemon::{Endpoints, Finished, GatewayFault, GatewaySettings, run_gateway};
-use gate_environment::NoHold;
+use gate_kept::{Kept, KeptFirst, LineTurn, Opens, Order, PacketTurn, Part, TakenCount, pieces_of};
+use gate_model::Text;
 use gate_ports::{
     AgentConnections, AgentsPort, OperatorConnections, Ports, ReaderConnections, SystemWatch,
 };
 use gate_reader::SessionLimits;
-use gate_start::{Served, end, start, without_reports};
+use gate_start::{Served, end, start, take_kept, without_reports};
 use gate_streams::Sink;
 use gate_table::ObjectTable;
 use gate_worker::{Endpoint, WorkerLimits};
 use std::alloc::{AllocError, Global};
 use std::fs::Files;
+use std::io::Read;
 use std::net::{Net, TcpListener, TcpStream};
 use std::sync::Wait;
 use std::thread::Threads;
@@ -46,12 +50,48 @@ fn gateway_settings(workers: u32, limits: Limits, table: ObjectTable) -> Gateway
     }
 }
 
-fn endpoint<C>(connections: C) -> Endpoint<C, NoHold> {
+fn endpoint<'a, C>(connections: C) -> Endpoint<C, TakenCount<'a>>
+    ensures { result.connections ≡ connections }
+{
     Endpoint {
         connections,
-        hold: NoHold,
+        hold: TakenCount::none(),
     }
 }
+
+// The ports, which are opened to peers once what is kept was served.
+#[derive(Clone, Copy)]
+struct Opening<'a>(&'a Ports);
+
+impl<'a> Opens for Opening<'a> {
+    fn open(&self) {
+        self.0.open();
+    }
+}
+
+// What is kept for the workers, in pieces that a session may serve.
+#[derive(Drop)]
+struct KeptPieces {
+    packets: Vec<Text>,
+    lines: Vec<Text>,
+}
+
+fn kept_pieces(alloc: Global, kept: Kept, limits: Limits) -> Result<KeptPieces, AllocError>
+    ensures packets { IfOk result (λ pieces.
+        concat (reverse pieces.packets.items) ≡ kept.packets.items) }
+    ensures lines { IfOk result (λ pieces. concat (reverse pieces.lines.items) ≡ kept.lines.items) }
+{
+    let most = limits.items.min(limits.reads).max(1);
+    let packets = pieces_of(alloc, kept.packets.as_slice(), most, Part::Packets)?;
+    let lines = pieces_of(alloc, kept.lines.as_slice(), most, Part::Lines)?;
+    Ok(KeptPieces { packets, lines })
+}
+
+// The agents' connections of a worker, after the packets that are kept for the first one.
+type Agents<'a, R> = KeptFirst<AgentConnections<'a, R>, PacketTurn<'a>>;
+
+// Those of the operators, after the lines that are kept.
+type Operators<'a, R> = KeptFirst<OperatorConnections<'a, R>, LineTurn<'a, R, Opening<'a>>>;
 
 // An endpoint for each agents' worker.
 fn agents_endpoints<'a, R>(
@@ -59,23 +99,36 @@ fn agents_endpoints<'a, R>(
     alloc: Global,
     port: &'a AgentsPort,
     workers: u32,
-) -> Result<Vec<Endpoint<AgentConnections<'a, R>, NoHold>>, AllocError>
+    packets: Vec<Text>,
+    order: &'a Order,
+) -> Result<Vec<Endpoint<Agents<'a, R>, TakenCount<'a>>>, AllocError>
     ensures { IfOk result (λ endpoints. vec_len endpoints ≡ workers) }
 {
     let mut endpoints = Vec::with_capacity(alloc, workers as usize)?;
-    for _ in 0..workers {
-        endpoints.push_reserved(endpoint(port.connections(rt, alloc)));
+    let mut packets = Some(packets);
+    for worker in 0..workers {
+        // The port was opened for these workers, so that each has its own.
+        let Some(connections) = port.connections(rt, worker as usize) else {
+            return Err(AllocError);
+        };
+        let first = match packets.take() {
+            Some(packets) => KeptFirst::new(packets, PacketTurn::of(order), connections),
+            None => KeptFirst::new(Vec::new(alloc), PacketTurn::none(), connections),
+        };
+        endpoints.push_reserved(endpoint(first));
     }
     Ok(endpoints)
 }
 
-// Runs a gateway of these agents' workers on these ports until it is closed.
+// Runs a gateway of these workers on these ports until it is closed.
 fn run_on<'a, R: Net<Listener = TcpListener, Stream = TcpStream> + Threads + Wait + Clock + Sync>(
     rt: &'a R,
     alloc: Global,
     config: Config,
     ports: &'a Ports,
-    agents: Vec<Endpoint<AgentConnections<'a, R>, NoHold>>,
+    agents: Vec<Endpoint<Agents<'a, R>, TakenCount<'a>>>,
+    operators: Operators<'a, R>,
+    order: &'a Order,
 ) -> Result<Finished, GatewayFault>
     requires { vec_len agents ≡ config.workers }
     ensures ran { IfOk result (HasRun config) }
@@ -84,33 +137,71 @@ fn run_on<'a, R: Net<Listener = TcpListener, Stream = TcpStream> + Threads + Wai
 {
     // Its type keeps each port to its own peers.
     let endpoints: Endpoints<
-        AgentConnections<'_, R>,
-        OperatorConnections<'_, R>,
+        Agents<'_, R>,
+        Operators<'_, R>,
         ReaderConnections<'_, R>,
-        NoHold,
+        TakenCount<'a>,
     > = Endpoints {
         agents,
-        operator: endpoint(ports.operators.connections(rt)),
+        operator: endpoint(operators),
         pages: ports.pages.connections(rt),
-        applier: NoHold,
+        applier: TakenCount::of(order),
     };
     let settings = gateway_settings(config.workers, config.limits, config.table);
     run_gateway(rt, alloc, settings, endpoints, &SystemWatch { rt }, ports)
 }
 
-// Runs a gateway on these ports until it is closed.
-fn run<R: Net<Listener = TcpListener, Stream = TcpStream> + Threads + Wait + Clock + Sync>(
+// Runs a gateway on these ports until it is closed, which first takes what is kept.
+fn run_kept<R: Net<Listener = TcpListener, Stream = TcpStream> + Threads + Wait + Clock + Sync>(
     rt: &R,
     alloc: Global,
     config: Config,
-    ports: Ports,
+    ports: &Ports,
+    kept: Kept,
 ) -> Result<Finished, GatewayFault>
     ensures ran { IfOk result (HasRun config) }
     ensures fault { IfErr result
         (IsGatewayFault config.workers config.limits.capacity config.limits.limit config.table) }
 {
-    match agents_endpoints(rt, alloc, &ports.agents, config.workers) {
-        Ok(agents) => run_on(rt, alloc, config, &ports, agents),
+    let order = Order::new();
+    let opening = Opening(ports);
+    let items = kept.count();
+    let Ok(KeptPieces { packets, lines }) = kept_pieces(alloc, kept, config.limits) else {
+        drop(config);
+        return Err(GatewayFault::OutOfMemory);
+    };
+    let lines_turn = LineTurn::new(rt, &order, &opening, items);
+    let operators = KeptFirst::new(lines, lines_turn, ports.operators.connections(rt));
+    match agents_endpoints(rt, alloc, &ports.agents, config.workers, packets, &order) {
+        Ok(agents) => run_on(rt, alloc, config, ports, agents, operators, &order),
+        Err(_) => {
+            drop(config);
+            Err(GatewayFault::OutOfMemory)
+        }
+    }
+}
+
+// Runs a gateway on these ports until it is closed, which first takes what the input holds.
+fn run<
+    R: Files + Net<Listener = TcpListener, Stream = TcpStream> + Threads + Wait + Clock + Sync,
+    I: Read,
+    E: Sink,
+>(
+    rt: &R,
+    alloc: Global,
+    config: Config,
+    ports: Ports,
+    input: &mut I,
+    errors: &mut E,
+) -> Result<Finished, GatewayFault>
+    ensures ran { IfOk result (HasRun config) }
+    ensures fault { IfErr result
+        (IsGatewayFault config.workers config.limits.capacity config.limits.limit config.table) }
+    ensures taken { IsInputTaken (I.remaining input.old) (E.state errors.old)
+        (E.state errors.new) }
+{
+    match take_kept(rt, alloc, input, errors) {
+        Ok(kept) => run_kept(rt, alloc, config, &ports, kept),
         Err(_) => {
             drop(config);
             Err(GatewayFault::OutOfMemory)
@@ -120,8 +211,9 @@ fn run<R: Net<Listener = TcpListener, Stream = TcpStream> + Threads + Wait + Clo
 
 /// Runs the daemon as the file of this path configures it, until an operator shuts it down: it
 /// binds the addresses of agents, operators and pages, in this order, and prints them as they are
-/// bound, each on a line. As many workers as are configured serve packets side by side, of clients
-/// 1, 2 and so on; the operator is the client after them. In the end it prints the log page, also
+/// bound, each on a line. Before it serves anybody it takes what `input` holds, where standard input is
+/// a regular file, and names on `errors` what of it isn't taken. As many workers as are configured serve
+/// packets side by side, of clients 1, 2 and so on; the operator is the client after them. In the end it prints the log page, also
 /// where not all that was queued could be applied. What the clients were answered is returned.
 ///
 /// Unreadable, Config and Bind come before anything is printed: the file can't be read, it
@@ -134,14 +226,18 @@ fn run<R: Net<Listener = TcpListener, Stream = TcpStream> + Threads + Wait + Clo
 /// itself, applies all, prints the log page and ends with OutOfMemory. Own rules.
 pub fn serve<
     R: Files + Net<Listener = TcpListener, Stream = TcpStream> + Threads + Wait + Clock + Sync,
+    I: Read,
     W: Sink,
->(rt: &R, alloc: Global, path: &str, output: &mut W) -> Served
-    ensures { ServeEnds (W.state output.old) (W.state output.new)
+    E: Sink,
+>(rt: &R, alloc: Global, path: &str, input: &mut I, output: &mut W, errors: &mut E) -> Served
+    ensures ended { ServeEnds (W.state output.old) (W.state output.new)
         (reports_of_each result.reports.items) result.fault }
+    ensures taken { IsInputTaken (I.remaining input.old) (E.state errors.old)
+        (E.state errors.new) }
 {
     match start(rt, alloc, path, output) {
         Ok((config, ports)) => {
-            let ran = run(rt, alloc, config, ports);
+            let ran = run(rt, alloc, config, ports, input, errors);
             end(alloc, ran, output)
         }
         Err(fault) => without_reports(alloc, fault),

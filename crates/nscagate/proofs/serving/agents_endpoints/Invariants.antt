@@ -2,9 +2,9 @@ use Rattle.std.proofs.Common.{◌≡◌, ◌≤◌, vec_len}
 use Rattle.std.specs.Prelude.{vec_capacity}
 use Rattle.nscagate.proofs.serving.agents_endpoints.Given as goal
 
-abbrev pub invariant-loop : goal.invariant-loop
-invariant-loop g l = record {
-  made : vec_len l.endpoints ≡ l.counter;
+abbrev pub invariant-loop-worker : goal.invariant-loop-worker
+invariant-loop-worker g l = record {
+  made : vec_len l.endpoints ≡ l.worker;
   room : l.workers ≤ vec_capacity l.endpoints;
-  within : l.counter ≤ l.workers;
+  within : l.worker ≤ l.workers;
 }

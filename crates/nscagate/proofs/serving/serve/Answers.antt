@@ -6,15 +6,15 @@ use Rattle.gate_start.specs.declared.fault.ServeFault.{ServeFault}
 use Rattle.nscagate.proofs.Steps.{ends_before, ends_on}
 use Rattle.nscagate.proofs.serving.serve.Goals as goal
 
-pub returns-in-Ok : goal.returns-in-Ok
-returns-in-Ok g c =
+pub returns-in-Ok-clause-ended : goal.returns-in-Ok-clause-ended
+returns-in-Ok-clause-ended g c =
     let state = g.W.Sink.state in
     subst (λ (reports : List (ℕ × List Report)). ServeEnds (state c.args.output.now) (state c.end.new.output) reports c.end.result.fault) (sym c.end.ensures.reports)
     (ends_on c.run-ran.result c.end.result.fault c.in-Ok.config (state c.args.output.now) (state c.start.new.output) (state c.end.new.output)
     c.in-Ok.ensures.ok c.run-ran.ensures.ran c.run-ran.ensures.fault c.end.ensures.ended)
 
-pub returns-in-Err : goal.returns-in-Err
-returns-in-Err g c =
+pub returns-in-Err-clause-ended : goal.returns-in-Err-clause-ended
+returns-in-Err-clause-ended g c =
     let before = g.W.Sink.state c.args.output.now in
     let after = g.W.Sink.state c.start.new.output in
     let end = c.without_reports in

@@ -1,0 +1,5 @@
+pub mod Kept
+pub mod Written
+pub mod Pieces
+pub mod First
+pub mod inner
