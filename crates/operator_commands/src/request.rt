@@ -82,7 +82,7 @@ pub enum Request {
     Shutdown,
 }
 
-/// What is asked for. A gateway is asked for all but `test-config` and `log`.
+/// What is asked for. A gateway is asked for all but `test-config`, `log` and `restore`.
 #[derive(Drop)]
 pub enum Task {
     Command(Request),
@@ -117,14 +117,11 @@ pub enum Task {
         log: Option<Text>,
         pid: Option<Text>,
     },
-    /// `restore PAGE [--log FILE] [--agents ADDRESS] [--old] [--dry-run] [--pid PID]`
+    /// `restore PAGE [--log FILE] [--old]`
     Restore {
         page: Text,
         log: Option<Text>,
-        agents: Option<Text>,
         old: bool,
-        dry_run: bool,
-        pid: Option<Text>,
     },
 }
 

@@ -1,5 +1,4 @@
 pub mod PrintedSteps
-pub mod BackSteps
 mod NameSteps
 mod ProspectSteps
 mod FaultSteps

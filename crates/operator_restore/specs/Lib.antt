@@ -1,12 +1,8 @@
 pub mod Escapes
 pub mod Printed
-pub mod Markers
 pub mod Pages
 pub mod Kept
 pub mod Naming
 pub mod Prospect
 pub mod Faults
-pub mod Outbox
-pub mod Pending
-pub mod Back
 pub mod inner

@@ -9,7 +9,7 @@ use Rattle.status_reading.specs.declared.page.StatusPage.{StatusPage}
 use Rattle.restore_plan.specs.declared.fates.Fate.{Fate}
 use Rattle.restore_plan.specs.declared.fates.Fate.TheVariants.{Sent, Left}
 use Rattle.restore_plan.specs.declared.fates.Cause.{Cause}
-use Rattle.restore_plan.specs.declared.fates.Cause.TheVariants.{NoSuchObject, TooOld, Over, NoTrigger, Changed}
+use Rattle.restore_plan.specs.declared.fates.Cause.TheVariants.{NoSuchObject, TooOld, Over, NoTrigger}
 use Rattle.page_return.specs.declared.comparing.Missing.{Missing}
 
 abbrev pub named_line : List ℕ → List ℕ → List ℕ
@@ -25,7 +25,6 @@ cause_text NoSuchObject = codes "the gateway has no such object"
 cause_text TooOld = codes "the result is older than its object's freshness"
 cause_text Over = codes "its window is over"
 cause_text NoTrigger = codes "its trigger isn't scheduled again"
-cause_text Changed = codes "the object has another state now"
 
 -- what stands before a command that is left out
 abbrev pub left_front : Cause → List ℕ

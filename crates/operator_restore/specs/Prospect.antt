@@ -119,5 +119,5 @@ pub record IsPageProspect (fresh : List ObjectLine) (text : List ℕ) (old : Boo
 
 -- the line that names what is restored from, where there is a log and a page of this age, or none
 abbrev pub source_line : Option ℕ → List ℕ
-source_line None = codes "restoring from a log without a page\n"
-source_line (Some age) = codes "restoring from a log, and a page that is " ++ decimal age ++ codes " seconds old\n"
+source_line None = codes "nscagatectl: restoring from a log without a page\n"
+source_line (Some age) = codes "nscagatectl: restoring from a log, and a page that is " ++ decimal age ++ codes " seconds old\n"

@@ -57,7 +57,6 @@ fn cause_text(cause: Cause) -> &'static [u8]
         Cause::TooOld => b"the result is older than its object's freshness",
         Cause::Over => b"its window is over",
         Cause::NoTrigger => b"its trigger isn't scheduled again",
-        Cause::Changed => b"the object has another state now",
     }
 }
 

@@ -1,15 +1,12 @@
 //! What a status page says of the gateway that wrote it.
 
 ghost use Rattle.std.specs.Prelude.{◌≡◌, ◌≢◌, IfErr, IfOk, map};
-ghost use Rattle.std.specs.List.{list_all};
 ghost use Rattle.gate_table.specs.Faults.{IsFaultless, IsFaultOf};
-ghost use Rattle.operator_restore.specs.Pages.{kept_service, kept_line, kept_lines, is_unmarked, is_fresh};
-ghost use Rattle.operator_restore.specs.Markers.{is_marker};
+ghost use Rattle.operator_restore.specs.Pages.{kept_service, kept_line, kept_lines};
 
-use crate::markers::is_marker;
 use gate_model::{ObjectLine, Text};
 use gate_table::{ObjectTable, TableFault};
-use status_reading::{ShownAcknowledgement, ShownComment, ShownObject, StatusPage, plain_bytes};
+use status_reading::{ShownObject, StatusPage, plain_bytes};
 use std::alloc::{AllocError, Global};
 
 /// The name of a service that a field shows. A host's is empty.
@@ -62,43 +59,4 @@ pub fn kept_table(alloc: Global, page: &StatusPage<'_>) -> Result<ObjectTable, T
         Ok(table) => Ok(table),
         Err(refused) => Err(refused.cause),
     }
-}
-
-/// Whether the object isn't acknowledged.
-fn is_unmarked(row: &ShownObject<'_>) -> bool
-    ensures { result ≡ is_unmarked row.now }
-{
-    match row.acknowledgement {
-        ShownAcknowledgement::Missing => true,
-        ShownAcknowledgement::Normal | ShownAcknowledgement::Sticky => false,
-    }
-}
-
-/// Whether no object is acknowledged.
-fn are_unmarked(rows: &[ShownObject<'_>]) -> bool
-    ensures { result ≡ list_all is_unmarked rows.now }
-{
-    for row in rows {
-        if !is_unmarked(row) {
-            return false;
-        }
-    }
-    true
-}
-
-/// Whether each comment is a marker.
-fn are_markers(rows: &[ShownComment<'_>]) -> bool
-    ensures { result ≡ list_all is_marker rows.now }
-{
-    rows.iter().all(|row| is_marker(row))
-}
-
-/// Whether no operator's command stands on the page: no downtime, no acknowledgement, and no comment
-/// but the markers of restores that were killed. Own rule.
-pub fn is_fresh(page: &StatusPage<'_>) -> bool
-    ensures { result ≡ is_fresh page.now }
-{
-    are_markers(page.comments.as_slice())
-        && page.downtimes.is_empty()
-        && are_unmarked(page.objects.as_slice())
 }

@@ -402,9 +402,12 @@ fn log_source(
         line.items ≡ source_line (option_map (λ one. age_of one now) page.now)) }
 {
     let Some(page) = page else {
-        return Vec::from_slice(alloc, b"restoring from a log without a page\n");
+        return Vec::from_slice(alloc, b"nscagatectl: restoring from a log without a page\n");
     };
-    let mut line = Vec::from_slice(alloc, b"restoring from a log, and a page that is ")?;
+    let mut line = Vec::from_slice(
+        alloc,
+        b"nscagatectl: restoring from a log, and a page that is ",
+    )?;
     push_number(&mut line, u64::from(age_of(page, now)))?;
     line.extend_from_slice(b" seconds old\n")?;
     Ok(line)

@@ -1,3 +1,2 @@
 mod RestoredSteps
 pub mod StopSteps
-pub mod LineSteps

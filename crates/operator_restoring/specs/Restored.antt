@@ -1,21 +1,18 @@
--- What the status 0 of `restore` means: `AreSent` and `IsRestored`, where a gateway shows some texts, and some results and
--- some other commands were sent to it; and the status 1: `IsNamed`. Own rules.
-use Rattle.std.specs.Prelude.{◌≡◌, ◌≤◌, ◌⊎◌, ℕ, ◌+◌, min, Bool, List, map}
+-- What `restore` prints: `IsRestoreEnd`. Own rules.
+use Rattle.std.specs.Prelude.{◌≡◌, ◌≤◌, ◌⊎◌, ℕ, ◌+◌, ◌==◌, Bool, false, List, ◌++◌, length, map, codes, if◌then◌else◌}
 use Rattle.gate_model.specs.declared.object.ObjectLine.{ObjectLine}
 use Rattle.gate_model.specs.declared.record.Moment.{Moment}
-use Rattle.gate_model.specs.declared.submission.Body.{Body}
 use Rattle.gate_grammar.specs.declared.commands.Command.{Command}
-use Rattle.status_reading.specs.declared.page.StatusPage.{StatusPage}
-use Rattle.restore_plan.specs.Changed.{fates_on}
-use Rattle.page_return.specs.declared.comparing.Missing.{Missing}
-use Rattle.page_return.specs.declared.returning.Unforeseen.{Unforeseen}
+use Rattle.gate_streams.specs.Sink.{SinkState, Delivers}
+use Rattle.gate_kept.specs.Written.{IsWritten}
+use Rattle.operator_commands.specs.declared.request.Task.{Task}
+use Rattle.operator_commands.specs.declared.request.Task.TheVariants.{Restore}
 use Rattle.operator_effects.specs.declared.watching.Next.{Next}
 use Rattle.operator_effects.specs.declared.watching.Next.TheVariants.{Page, Gone, Over}
 use Rattle.operator_ports.specs.Commands.{entered_at}
 use Rattle.operator_restore.specs.declared.prospect.Prospect.{Prospect}
-use Rattle.operator_restore.specs.Naming.{left_count, row_count}
-use Rattle.operator_restore.specs.Prospect.{sent_by, IsTextOf, IsLogProspect, IsPageProspect, until_of}
-use Rattle.operator_restore.specs.Back.{IsBackOn, IsCompared}
+use Rattle.operator_restore.specs.Naming.{command_line}
+use Rattle.operator_restore.specs.Prospect.{IsLogProspect, IsPageProspect}
 
 -- what is read next is a text that the gateway shows, where it is a page
 abbrev pub IsShown : (List ℕ → Type 0) → Next → Type 0
@@ -23,27 +20,9 @@ IsShown shows (Page text) = shows text.items
 IsShown shows Gone = Unit {0}
 IsShown shows Over = Unit {0}
 
--- the gateway shows a page on which each row of this text is again, but where an object has a newer result
-pub record IsShownBack (shows : List ℕ → Type 0) (kept : List ℕ) : Type 0 where
-  pub page : StatusPage
-  pub is_page : IsTextOf kept page
-  pub text : List ℕ
-  pub shown : shows text
-  pub back : IsBackOn page text
-
--- so many rows of this text are missing on a page that the gateway shows, and weren't foreseen to be: at most 2^64 - 1
-pub record AreMissing (shows : List ℕ → Type 0) (kept : List ℕ) (foreseen : Missing) (rows : ℕ) : Type 0 where
-  pub page : StatusPage
-  pub is_page : IsTextOf kept page
-  pub text : List ℕ
-  pub shown : shows text
-  pub found : Unforeseen
-  pub compared : IsCompared page foreseen text found
-  pub count : rows ≡ min (row_count found.missing) 18446744073709551615
-
 -- ---- what is planned
 
--- this is what is sent of some log, as planned at this moment
+-- this is what is restored of some log, as planned at this moment
 pub record IsOfLog (now : Moment) (prospect : Prospect) : Type 0 where
   pub fresh : List ObjectLine
   pub configured : List ObjectLine
@@ -57,51 +36,47 @@ pub record IsOfPage (old : Bool) (now : Moment) (prospect : Prospect) : Type 0 w
   pub text : List ℕ
   pub planned : IsPageProspect fresh text old now prospect
 
--- this is what is sent of some log or some page
+-- this is what is restored of some log or some page
 unfoldable pub IsPlannedAt : Bool → Moment → Prospect → Type 0
 IsPlannedAt old now prospect = IsOfLog now prospect ⊎ IsOfPage old now prospect
 
--- it was planned when the commands were entered, or anew once the time of such a plan was over
-pub record IsPlanned (old : Bool) (entered : Moment) (prospect : Prospect) : Type 0 where
-  pub moment : Moment
-  pub since : (moment ≡ entered) ⊎ ((until_of entered).0 ≤ moment.0)
-  pub planned : IsPlannedAt old moment prospect
+-- ---- what is printed
 
--- ---- what is sent
+-- all that is restored: results first, and then the other commands, entered at this moment
+abbrev pub commands_of : Moment → Prospect → List Command
+commands_of entered prospect = map (entered_at entered) (prospect.results.items ++ prospect.others.items)
 
--- the results of the plan of this moment were sent
-pub record AreSent (results : List Body → Type 0) (old : Bool) (entered : Moment) : Type 0 where
+-- the line that names a command that can't be written
+abbrev pub left_line : Command → List ℕ
+left_line one = command_line (codes "neither a packet nor a line holds it: ") one.body
+
+-- the text was printed of which a gateway takes each of these commands that can be written; the status is 0 where nothing is
+-- named, neither of what was kept nor of these
+pub record IsPrinted (prospect : Prospect) (entered : Moment) (before after : SinkState) (status : ℕ) : Type 0 where
+  pub text : List ℕ
+  pub left : List Command
+  pub written : IsWritten (commands_of entered prospect) text left
+  pub printed : Delivers before after text
+  pub status_is : status ≡ (if prospect.named + length left == 0 then 0 else 1)
+
+-- the same of what was planned at some moment
+pub record IsRestored (old : Bool) (before after : SinkState) (status : ℕ) : Type 0 where
+  pub entered : Moment
   pub prospect : Prospect
   pub planned : IsPlannedAt old entered prospect
-  pub sent : results prospect.results.items
+  pub printed : IsPrinted prospect entered before after status
 
--- of these commands those were sent, entered at this moment, that a gateway over these objects is sent once it shows some
--- page, where this one was foreseen; so many are left out
-pub record IsSentOn (shows : List ℕ → Type 0) (others : List Command → Type 0) (table : List ObjectLine) (entered : Moment) (foreseen : List ℕ) (commands : List Body) (left : ℕ)
-    : Type 0 where
-  pub page : StatusPage
-  pub is_page : IsTextOf foreseen page
-  pub text : List ℕ
-  pub shown : shows text
-  pub shown_page : StatusPage
-  pub is_shown : IsTextOf text shown_page
-  pub sent : others (map (entered_at entered) (sent_by (fates_on table page shown_page commands)))
-  pub count : left ≡ left_count (fates_on table page shown_page commands)
+-- nothing was printed
+pub record IsNothingPrinted (before after : SinkState) (status : ℕ) : Type 0 where
+  pub bad : 2 ≤ status
+  pub same : after ≡ before
 
--- nothing was to be named of what was kept, nothing else is left out, and the gateway shows each row of it again
-pub record IsRestored (shows : List ℕ → Type 0) (others : List Command → Type 0) (table : List ObjectLine) (old : Bool) (entered : Moment) : Type 0 where
-  pub prospect : Prospect
-  pub planned : IsPlanned old entered prospect
-  pub none_named : prospect.named ≡ 0
-  pub sent : IsSentOn shows others table entered prospect.shown.items prospect.others.items 0
-  pub back : IsShownBack shows prospect.kept.items
+-- what is restored was printed, or nothing
+abbrev pub IsRestoreEnd : Bool → SinkState → SinkState → ℕ → Type 0
+IsRestoreEnd old before after status =
+    IsRestored old before after status ⊎ IsNothingPrinted before after status
 
--- something is named: of what was kept, or as left out, or as missing
-pub record IsNamed (shows : List ℕ → Type 0) (others : List Command → Type 0) (table : List ObjectLine) (old : Bool) (entered : Moment) : Type 0 where
-  pub prospect : Prospect
-  pub planned : IsPlanned old entered prospect
-  pub left : ℕ
-  pub sent : IsSentOn shows others table entered prospect.shown.items prospect.others.items left
-  pub rows : ℕ
-  pub missing : AreMissing shows prospect.kept.items prospect.foreseen rows
-  pub some : 1 ≤ prospect.named + left + rows
+-- whether the words ask for a page that is old
+abbrev pub is_old_asked : Task → Bool
+is_old_asked (Restore page log old) = old
+is_old_asked other = false

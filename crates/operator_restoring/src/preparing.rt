@@ -1,8 +1,7 @@
-//! What restoring sends, of the files that were kept.
+//! What is restored, of the files that were kept.
 
 ghost use Rattle.std.specs.Prelude.{Bool, IfOk};
-ghost use Rattle.gate_model.specs.declared.record.Moment.{Moment};
-ghost use Rattle.operator_restoring.specs.Restored.{IsPlannedAt, IsPlanned};
+ghost use Rattle.operator_restoring.specs.Restored.{IsPlannedAt};
 
 use crate::restore_fault::RestoreFault;
 use gate_model::Moment;
@@ -10,10 +9,9 @@ use gate_table::ObjectTable;
 use kept_files::{is_newer, read_file};
 use operator_commands::Options;
 use operator_restore::{Prospect, Tables, look_ahead, look_ahead_by_page};
-use operator_setup::{configuration, now};
+use operator_setup::configuration;
 use std::alloc::Global;
 use std::fs::Files;
-use std::time::Clock;
 
 /// The paths of what was kept, and whether a page without a log may be old.
 #[derive(Clone, Copy)]
@@ -128,7 +126,7 @@ fn by_kept<F: Files>(
     }
 }
 
-/// What restoring would send, planned at this moment.
+/// What is restored, planned at this moment.
 pub fn prospect_of<F: Files>(
     files: &F,
     alloc: Global,
@@ -142,33 +140,4 @@ pub fn prospect_of<F: Files>(
         Some(printed) => by_printed(files, alloc, options, kept.page, printed.as_slice(), now),
         None => by_kept(files, alloc, options, kept, now),
     }
-}
-
-/// What is sent after the results, planned anew where the time is over by which it was to be sent.
-/// Appends the lines of what is named then.
-pub fn in_time<R: Clock + Files>(
-    rt: &R,
-    alloc: Global,
-    options: &Options,
-    kept: KeptFiles<'_>,
-    prospect: Prospect,
-    lines: &mut Vec<u8>,
-) -> Result<Prospect, RestoreFault>
-    ensures { IfOk result (λ found. (entered : Moment) → IsPlanned kept.entry.old entered prospect
-        → IsPlanned kept.entry.old entered found) }
-{
-    let Ok(now) = now(rt) else {
-        drop(prospect);
-        return Err(RestoreFault::NoClock);
-    };
-    if now.0 < prospect.until.0 {
-        return Ok(prospect);
-    }
-    let named = prospect.named;
-    drop(prospect);
-    let anew = prospect_of(rt, alloc, options, kept, now)?;
-    if anew.named > named {
-        lines.extend_from_slice(anew.lines.as_slice())?;
-    }
-    Ok(anew)
 }

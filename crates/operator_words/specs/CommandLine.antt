@@ -126,18 +126,15 @@ test_config = with_word (codes "file") true (new_app (codes "test-config"))
 abbrev pub log : App
 log = with_flag (codes "json") (with_option (codes "since") false (with_word (codes "file") true (new_app (codes "log"))))
 
--- `NAME PAGE [--log FILE] [--pid PID]`
-abbrev pub on_page : List ℕ → App
-on_page name =
-    with_option (codes "pid") false (with_option (codes "log") false (with_word (codes "page") true (asking name)))
+-- with `PAGE [--log FILE]`
+abbrev pub on_page : App → App
+on_page app = with_option (codes "log") false (with_word (codes "page") true app)
 
 abbrev pub stop : App
-stop = on_page (codes "stop")
+stop = with_option (codes "pid") false (on_page (asking (codes "stop")))
 
 abbrev pub restore : App
-restore =
-    with_flag (codes "dry-run")
-    (with_flag (codes "old") (with_option (codes "agents") false (on_page (codes "restore"))))
+restore = with_flag (codes "old") (on_page (with_option (codes "config") false (new_app (codes "restore"))))
 
 -- ---- the program
 

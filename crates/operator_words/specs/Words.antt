@@ -42,9 +42,7 @@ keeping_on name found =
     if bytes_eq name (codes "stop") then
     Some (task.Stop (text_in (codes "page") found) (option_in (codes "log") found) (option_in (codes "pid") found))
     else if bytes_eq name (codes "restore") then
-    Some
-    (task.Restore (text_in (codes "page") found) (option_in (codes "log") found) (option_in (codes "agents") found)
-    (is_set (codes "old") found) (is_set (codes "dry-run") found) (option_in (codes "pid") found))
+    Some (task.Restore (text_in (codes "page") found) (option_in (codes "log") found) (is_set (codes "old") found))
     else None
 
 -- what another subcommand that is no command asks for

@@ -286,44 +286,39 @@ fn log<'a>(alloc: Global) -> Result<Command<'a>, AllocError>
     add(command, flag(alloc, "json", "Print JSON, an object a line"))
 }
 
-// A subcommand on a page that is kept.
-fn on_page<'a>(alloc: Global, name: &'a str, about: &'a str) -> Result<Command<'a>, AllocError>
-    ensures { IfOk result (IsCommand (on_page name.entry.now)) }
+// Adds the page that is kept, and the log.
+fn on_page<'a>(
+    alloc: Global,
+    command: Result<Command<'a>, AllocError>,
+) -> Result<Command<'a>, AllocError>
+    ensures { (app : App) → IfOk command.entry (IsCommand app)
+        → IfOk result (IsCommand (on_page app)) }
 {
     let page = word(alloc, "page", true, "The file of the status page");
-    let command = add(asking(alloc, name, about), page);
-    let command = add(
+    let command = add(command, page);
+    add(
         command,
         option(alloc, "log", false, "The file of the log page"),
-    );
-    add(command, option(alloc, "pid", false, "The daemon's process"))
+    )
 }
 
 fn stop<'a>(alloc: Global) -> Result<Command<'a>, AllocError>
     ensures { IfOk result (IsCommand stop) }
 {
-    on_page(
-        alloc,
-        "stop",
-        "Keep what the daemon shows, and shut it down",
-    )
+    let about = "Keep what the daemon shows, and shut it down";
+    let command = on_page(alloc, asking(alloc, "stop", about));
+    add(command, option(alloc, "pid", false, "The daemon's process"))
 }
 
 fn restore<'a>(alloc: Global) -> Result<Command<'a>, AllocError>
     ensures { IfOk result (IsCommand restore) }
 {
-    let agents = option(alloc, "agents", false, "The address of the agents' port");
-    let command = add(on_page(alloc, "restore", "Restore what was kept"), agents);
-    let old = flag(
-        alloc,
-        "old",
-        "Restore a page that is older than ten minutes",
-    );
-    let command = add(command, old);
-    add(
-        command,
-        flag(alloc, "dry-run", "Print the lines, and send none"),
-    )
+    let about = "Print what was kept, for the input of nscagate serve";
+    let command = Ok(begun(alloc, "restore", about));
+    let config = option(alloc, "config", false, "The daemon's configuration");
+    let command = on_page(alloc, add(command, config));
+    let help = "Restore a page that is older than ten minutes";
+    add(command, flag(alloc, "old", help))
 }
 
 // The program without its subcommands.

@@ -109,10 +109,7 @@ fn keeping_on(alloc: Global, name: &str, found: &ArgMatches<'_>) -> Result<Optio
         "restore" => Task::Restore {
             page: text_in(alloc, found, "page")?,
             log: option_in(alloc, found, "log")?,
-            agents: option_in(alloc, found, "agents")?,
             old: is_set(found, "old"),
-            dry_run: is_set(found, "dry-run"),
-            pid: option_in(alloc, found, "pid")?,
         },
         _ => return Ok(None),
     }))

@@ -1,2 +1,1 @@
 pub mod AmongSteps
-pub mod ReturnSteps

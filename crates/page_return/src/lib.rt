@@ -4,7 +4,5 @@
 
 mod again;
 mod comparing;
-mod returning;
 
 pub use comparing::{Missing, find_missing};
-pub use returning::{Unforeseen, find_unforeseen};

@@ -3,6 +3,5 @@ pub mod Entries
 pub mod Plan
 pub mod Rehearsal
 pub mod PagePlan
-pub mod Changed
 pub mod Scheduling
 pub mod Acceptance

@@ -25,9 +25,6 @@ pub enum Cause {
     /// The downtime entry waits for an entry that isn't scheduled again.
     #[error("its trigger isn't scheduled again")]
     NoTrigger,
-    /// The object's state is another than the one that was acknowledged.
-    #[error("the object has another state now")]
-    Changed,
 }
 
 /// What becomes of the command for what stands of a record.

@@ -3,7 +3,6 @@
 //! shows.
 #![tactic(auto)]
 
-mod changed;
 mod entries;
 mod fates;
 mod objects;
@@ -11,7 +10,6 @@ mod page_plan;
 mod plan;
 mod rehearsal;
 
-pub use changed::fates_on;
 pub use fates::{Cause, Fate};
 pub use page_plan::plan_of_page;
 pub use plan::{Plan, commands_of, plan_of};

@@ -1,4 +1,4 @@
-use gate_environment::{Connections, Wake, Watch};
+use gate_environment::{Connections, Piece, Wake, Watch};
 use gate_model::Moment;
 use gate_reader::SessionLimits;
 use gate_streams::Sink;
@@ -31,12 +31,17 @@ impl<'a> Connections for Sending<'a> {
 
     type Out = Nowhere;
 
-    fn next(&mut self) -> Option<(&'a [u8], Nowhere)> {
+    fn next(&mut self) -> Option<Piece<&'a [u8], Nowhere>> {
         if self.connections == 0 {
             return None;
         }
         self.connections -= 1;
-        Some((self.bytes, Nowhere))
+        Some(Piece {
+            place: 0,
+            is_first: true,
+            input: self.bytes,
+            output: Nowhere,
+        })
     }
 }
 

@@ -2,7 +2,7 @@ ghost use Rattle.std.specs.Prelude.{◌≡◌, IfSome};
 
 use crate::parts::packet_of;
 use gate_daemon::GatewaySettings;
-use gate_environment::{Connections, Wake, Watch};
+use gate_environment::{Connections, Piece, Wake, Watch};
 use gate_model::Moment;
 use gate_packet::{PACKET_SIZE, encode};
 use gate_reader::SessionLimits;
@@ -28,12 +28,17 @@ impl<'a> Connections for Sending<'a> {
 
     type Out = Vec<u8>;
 
-    fn next(&mut self) -> Option<(&'a [u8], Vec<u8>)> {
+    fn next(&mut self) -> Option<Piece<&'a [u8], Vec<u8>>> {
         if self.connections == 0 {
             return None;
         }
         self.connections -= 1;
-        Some((self.bytes, Vec::new(self.alloc)))
+        Some(Piece {
+            place: 0,
+            is_first: true,
+            input: self.bytes,
+            output: Vec::new(self.alloc),
+        })
     }
 }
 

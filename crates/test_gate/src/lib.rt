@@ -49,6 +49,8 @@ mod submitting;
 #[cfg(test)]
 mod texts;
 #[cfg(test)]
+mod turns;
+#[cfg(test)]
 mod waking;
 #[cfg(test)]
 mod workers;

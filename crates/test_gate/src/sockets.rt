@@ -54,7 +54,7 @@ fn talk<R: Net<Listener = TcpListener, Stream = TcpStream>>(
 fn serve<R: Threads + Wait + Clock + Sync>(rt: &R, alloc: Global, ports: &Ports) -> Option<usize> {
     let mut of_agents = Vec::with_capacity(alloc, 1).ok()?;
     of_agents.push_reserved(Endpoint {
-        connections: ports.agents.connections(rt, alloc),
+        connections: ports.agents.connections(rt, 0)?,
         hold: NoHold,
     });
     let endpoints = Endpoints {
@@ -87,7 +87,7 @@ fn ports_of<R: Net<Listener = TcpListener, Stream = TcpStream> + Clock>(
     alloc: Global,
 ) -> io::Result<(Ports, (SocketAddr, SocketAddr, SocketAddr))> {
     let (agents, first) = bound(rt)?;
-    let agents = AgentsPort::new(agents)?;
+    let agents = AgentsPort::new(rt, alloc, agents, 1, 30)?;
     let (operators, second) = bound(rt)?;
     let operators = OperatorsPort::new(rt, alloc, operators)?;
     let (pages, third) = bound(rt)?;
@@ -106,6 +106,7 @@ fn is_served<R: Net<Listener = TcpListener, Stream = TcpStream> + Threads + Wait
     bytes: &[u8],
 ) -> io::Result<bool> {
     let (ports, addresses) = ports_of(rt, alloc)?;
+    ports.open();
     let (answered, records) = thread::join(
         rt,
         || talk(rt, addresses, bytes),

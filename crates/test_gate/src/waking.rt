@@ -1,6 +1,6 @@
 use crate::fakes::{AlwaysAt, is_reached, packet, settings};
 use gate_daemon::{Endpoints, run_gateway};
-use gate_environment::{Connections, Hold, Point, Wake};
+use gate_environment::{Connections, Hold, Piece, PieceEnd, Point, Wake};
 use gate_worker::Endpoint;
 use std::alloc::Global;
 use std::sync::Wait;
@@ -90,22 +90,28 @@ impl<'a> Connections for OnePeer<'a> {
 
     type Out = Vec<u8>;
 
-    fn next(&mut self) -> Option<(&'a [u8], Vec<u8>)> {
+    fn next(&mut self) -> Option<Piece<&'a [u8], Vec<u8>>> {
         if !self.is_left {
             return None;
         }
         self.is_left = false;
         match self.woken {
             Some(woken) if !is_reached(woken, 1) => None,
-            _ => Some((self.bytes, Vec::new(self.alloc))),
+            _ => Some(Piece {
+                place: 0,
+                is_first: true,
+                input: self.bytes,
+                output: Vec::new(self.alloc),
+            }),
         }
     }
 
-    fn part(&mut self, _input: &'a [u8], output: Vec<u8>) {
-        if output.as_slice() == LAST_PAGE {
+    fn part(&mut self, piece: Piece<&'a [u8], Vec<u8>>, _end: PieceEnd) {
+        let written = piece.output.as_slice();
+        if written == LAST_PAGE {
             self.seen.last_pages.fetch_add(1, Ordering::SeqCst);
         }
-        if output.as_slice().starts_with(b"status") {
+        if written.starts_with(b"status") {
             self.seen.shown.fetch_add(1, Ordering::SeqCst);
         }
     }

@@ -1,10 +1,9 @@
 use gate_grammar::read_line;
+use gate_kept::{read_kept, write_kept};
 use gate_model::Moment;
 use operator_lines::sent_lines;
 use operator_ports::entered_at;
-use operator_restore::{
-    compare, is_pending, is_whole, kept_gateway, kept_table, log_part, look_ahead_by_page,
-};
+use operator_restore::{is_whole, kept_gateway, kept_table, log_part, look_ahead_by_page};
 use page_return::find_missing;
 use restore_plan::{commands_of, page_of, plan_of, plan_of_page, rehearse};
 use status_reading::read_status_page;
@@ -58,7 +57,11 @@ static AGAIN: &str = "status 1200\nobject;web1;;DOWN;1200;fresh;sticky;0;do\\x07
 
 static RESULT: &str = "[1200] PROCESS_HOST_CHECK_RESULT;web1;1;down";
 
-// A gateway that has a newer result, and no command yet.
+static COMMENT: &str = "[1200] ADD_HOST_COMMENT;web1;0;ann;hi";
+
+static SHUTDOWN: &str = "[1200] SHUTDOWN_PROGRAM";
+
+// A gateway with another result, and no command yet.
 static NEWER: &str = "status 1300\nobject;web1;;UP;1250;fresh;-;0;up\n";
 
 // What is named before the kept page is restored at 1300.
@@ -118,33 +121,33 @@ fn a_page_is_restored_without_a_log(rt: HostRuntime) {
 }
 
 #[test]
-fn a_newer_result_stays(rt: HostRuntime) {
+fn rows_are_missing(rt: HostRuntime) {
     let alloc = rt.alloc();
-    let fresh = read_status_page(alloc, FRESH.as_bytes()).expect(&rt, "a page");
+    let kept = read_status_page(alloc, KEPT.as_bytes()).expect(&rt, "a page");
     let newer = read_status_page(alloc, NEWER.as_bytes()).expect(&rt, "a page");
-    let table = kept_table(alloc, &fresh).expect(&rt, "the objects of a gateway");
-    let result = read_line(alloc, RESULT.as_bytes()).expect(&rt, "a command");
-    assert!(rt; is_pending(&table, &fresh, &result.body));
-    assert!(rt; !is_pending(&table, &newer, &result.body));
-    drop(result);
-    drop(table);
+    let missing = find_missing(alloc, &kept, &newer).expect(&rt, "memory");
+    assert!(rt; missing.objects.as_slice() == [0].as_slice());
+    assert!(rt; missing.comments.as_slice() == [0, 1, 2, 3, 4, 5].as_slice());
+    assert!(rt; missing.downtimes.as_slice() == [0, 1, 2, 3].as_slice());
+    drop(missing);
     drop(newer);
-    drop(fresh);
+    drop(kept);
 }
 
 #[test]
-fn rows_are_missing_or_newer(rt: HostRuntime) {
+fn what_is_restored_is_written_and_read_again(rt: HostRuntime) {
     let alloc = rt.alloc();
-    let kept = read_status_page(alloc, KEPT.as_bytes()).expect(&rt, "a page");
-    let again = read_status_page(alloc, AGAIN.as_bytes()).expect(&rt, "a page");
-    let foreseen = find_missing(alloc, &kept, &again).expect(&rt, "memory");
-    let found = compare(alloc, &kept, &foreseen, NEWER.as_bytes()).expect(&rt, "a page");
-    assert_eq!(rt; found.newer, 1);
-    assert!(rt; found.missing.objects.is_empty());
-    assert!(rt; found.missing.comments.as_slice() == [0, 1, 2, 4, 5].as_slice());
-    assert!(rt; found.missing.downtimes.as_slice() == [0, 2, 3].as_slice());
-    drop(found);
-    drop(foreseen);
-    drop(again);
+    let result = read_line(alloc, RESULT.as_bytes()).expect(&rt, "a command");
+    let comment = read_line(alloc, COMMENT.as_bytes()).expect(&rt, "a command");
+    let shutdown = read_line(alloc, SHUTDOWN.as_bytes()).expect(&rt, "a command");
+    let commands = vec![in alloc; shutdown, comment, result].expect(&rt, "memory");
+    let written = write_kept(alloc, commands.as_slice()).expect(&rt, "memory");
+    assert_eq!(rt; written.left.len(), 1);
+    let kept = read_kept(alloc, written.text.as_slice()).expect(&rt, "memory");
+    assert_eq!(rt; kept.packets.len(), 4304);
+    assert!(rt; kept.lines.as_slice() == b"[1200] ADD_HOST_COMMENT;web1;0;ann;hi\n".as_slice());
+    assert!(rt; kept.faults.is_empty());
     drop(kept);
+    drop(written);
+    drop(commands);
 }
