@@ -139,7 +139,7 @@ def refuse(folder):
 def play_little_memory(_, folder):
     """Whichever request for the first boards is refused, the page goes on."""
     if len(sys.argv) < 3:
-        print("little memory ... skipped: there is no library that refuses memory")
+        print("little memory ... skipped: cc is not installed")
         return
     found = {}
 
@@ -168,7 +168,7 @@ def play_little_memory(_, folder):
 def play_a_thread_too_few(_, folder):
     """Whichever of its threads isn't started, the daemon ends by itself, and reports it."""
     if len(sys.argv) < 3:
-        print("a thread too few ... skipped: there is no library that refuses one")
+        print("a thread too few ... skipped: cc is not installed")
         return
     program = os.path.join(folder, "..", "thread_too_few")
     workers = 3

@@ -24,14 +24,15 @@ AT_ONCE = 24  # daemons side by side; where none of them meets a refusal, there 
 ROUNDS = 4  # whose request a number is depends on the threads, so each is refused as often; more often until all ENDS came
 NAMED = ("nscagate: OutOfMemory\n", "nscagate: Spawn\n")
 OUT_OF_MEMORY = "status 3 nscagate: OutOfMemory"
-ENDS = ("status 0", OUT_OF_MEMORY, f"{OUT_OF_MEMORY} after a log page")  # the last one where no operator could be served any more
+ENDS = ("status 0", OUT_OF_MEMORY)
+STARVED = 1.5  # seconds; memory for a report is tried for one, and then for a board
 COMMENT = "[1] ADD_HOST_COMMENT;web1;0;ann;hi"
 
 
 class Refused:
     """A daemon of which the request of one number is refused, and what came of it."""
 
-    def __init__(self, folder, number):
+    def __init__(self, folder, number, **more):
         self.folder = os.path.join(folder, str(number))
         os.mkdir(self.folder)
         self.mark = os.path.join(self.folder, "refused")
@@ -40,7 +41,7 @@ class Refused:
             file.write(CONFIGURATION)
         self.deadline = time.monotonic() + TIME_LIMIT
         self.errors = open(os.path.join(self.folder, "errors"), "w+b")
-        settings = dict(os.environ, LD_PRELOAD=sys.argv[2], FAIL_ALLOC=str(number), FAIL_ALLOC_MARK=self.mark)
+        settings = dict(os.environ, LD_PRELOAD=sys.argv[2], FAIL_ALLOC=str(number), FAIL_ALLOC_MARK=self.mark, **more)
         self.process = subprocess.Popen([sys.argv[1], "serve", "--config", configuration], env=settings,
                                         stdout=subprocess.PIPE, stderr=self.errors)
         self.addresses = {}
@@ -93,6 +94,18 @@ class Refused:
         self.until(is_shown)
         self.until(lambda: self.exchange("operators", b"[1] SHUTDOWN_PROGRAM\n") == b"closing\n")
 
+    def starve(self, refusing):
+        """Has comments queued, and refuses large requests while this file is there, until the operators' worker has no memory for one more
+        report."""
+        for number in range(20):
+            if number == 5:
+                open(refusing, "w", encoding="ascii").close()
+            if not self.exchange("operators", COMMENT.encode() + b"\n").startswith(b"queued"):
+                break
+            self.queued = True
+        time.sleep(STARVED)
+        os.remove(refusing)
+
     def faults_of(self, status, log, errors):
         """What is wrong with its end; nothing where all is well."""
         if status == 3 and errors in NAMED:
@@ -110,13 +123,13 @@ class Refused:
             return f"the result is lost: {log!r}"
         return ""
 
-    def run(self):
+    def run(self, play):
         """How it ended in a word, and what is wrong with it."""
         killer = threading.Timer(TIME_LIMIT, self.process.kill)
         killer.start()
         try:
             if self.read_addresses():
-                self.play()
+                play(self)
             rest, _ = self.process.communicate()
         finally:
             killer.cancel()
@@ -134,7 +147,7 @@ class Refused:
 def run_one(folder, number):
     """The number, whether its daemon met a refusal, how it ended, and what is wrong."""
     refused = Refused(folder, number)
-    ended, wrong = refused.run()
+    ended, wrong = refused.run(Refused.play)
     return number, os.path.exists(refused.mark), ended, wrong
 
 
@@ -156,6 +169,15 @@ def run_round():
     return found
 
 
+def run_starved():
+    """Where memory for an operator's report is missing for longer than it is tried, nobody could close the gate any more."""
+    with tempfile.TemporaryDirectory() as folder:
+        refusing = os.path.join(folder, "refusing")
+        refused = Refused(folder, 0, FAIL_ALLOC_LARGE="700", FAIL_ALLOC_WHILE=refusing)
+        ended, wrong = refused.run(lambda daemon: daemon.starve(refusing))
+    check("no memory for an operator's report", (ended, wrong, refused.queued), (f"{OUT_OF_MEMORY} after a log page", "", True))
+
+
 def missing_in(found):
     """Which of the ends no daemon had that met a refusal."""
     return [end for end in ENDS if not any(is_met and ended == end for _, is_met, ended, _ in found)]
@@ -171,6 +193,7 @@ def main():
             if number < ROUNDS or missing_in(found):
                 found += run_round()
         check("ends that no daemon had", missing_in(found), [])
+        run_starved()
     met = collections.Counter(ended for _, is_met, ended, _ in found if is_met)
     print(f"the daemon met {sum(met.values())} refusals: " + ", ".join(f"{count} {ended}" for ended, count in met.items()))
     for number, _, ended, wrong in found:

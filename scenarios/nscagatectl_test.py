@@ -595,9 +595,12 @@ class PrintingDaemon:
             file.write(TABLE.replace("127.0.0.1:0", "127.0.0.1:%d") % tuple(ports))
         self.begin()
 
-    def begin(self):
-        with open(self.log, "wb") as log:
-            self.process = subprocess.Popen([self.program, "serve", "--config", self.config], stdout=log)
+    def begin(self, kept=b""):
+        text = os.path.join(self.folder, "text")
+        with open(text, "wb") as file:
+            file.write(kept)
+        with open(self.log, "wb") as log, open(text, "rb") as file:
+            self.process = subprocess.Popen([self.program, "serve", "--config", self.config], stdin=file, stdout=log)
         end = time.monotonic() + TIME_LIMIT
         while os.path.getsize(self.log) < 60 and time.monotonic() < end:
             time.sleep(0.02)
@@ -607,6 +610,12 @@ class PrintingDaemon:
         self.process.wait()
 
 
+def planned(program, daemon, page):
+    """The status of a restore, the text that it prints, and its errors without ages."""
+    ran = subprocess.run([program, "restore", page, "--config", daemon.config], capture_output=True, timeout=TIME_LIMIT, check=False)
+    return ran.returncode, ran.stdout, re.sub(r"\d+ seconds old", "N seconds old", ran.stderr.decode("ascii"))
+
+
 def without_ages(ran):
     status, output, errors = ran
     return status, *(re.sub(r"\d+ seconds old", "N seconds old", text) for text in (output, errors))
@@ -614,8 +623,7 @@ def without_ages(ran):
 
 BY_PAGE = ("nscagatectl: restoring from a page that is N seconds old, without a log: "
            "passive checks that were disabled are enabled\n")
-BY_LOG = "restoring from a log, and a page that is N seconds old\n"
-SHOWN_AGAIN = "restored: each row is shown again\n"
+BY_LOG = "nscagatectl: restoring from a log, and a page that is N seconds old\n"
 
 
 def play_keeping(program, daemon_program, folder):
@@ -635,15 +643,13 @@ def play_keeping(program, daemon_program, folder):
     check("a page that can't be kept", (status, f"the page can't be kept in {folder}/none/page; " in output), (1, True))
     check("pages of two gateways", ctl("check", "a=127.0.0.1:1", "b=127.0.0.1:1", "--keep", page), unknown("bad words"))
     daemon.kill()
-    check("nobody is restored to", ctl("restore", page, "--wait=1"), (3, "", BY_PAGE + "nscagatectl: the gateway serves no page\n"))
-    daemon.begin()
-    status, output, errors = ctl("restore", page, "--dry-run")
-    check("what would be sent", (status, re.sub(r"^\[\d+\] ([A-Z_]+;[^;]+).*", r"\1", output, flags=re.MULTILINE), errors),
-          (0, "PROCESS_SERVICE_CHECK_RESULT;web1\nACKNOWLEDGE_SVC_PROBLEM;web1\nSCHEDULE_HOST_DOWNTIME;web1\n", BY_PAGE))
-    check("a page is restored", ctl("restore", page), (0, SHOWN_AGAIN, BY_PAGE))
+    status, text, errors = planned(program, daemon, page)
+    check("a page is planned", (status, errors), (0, BY_PAGE))
+    check("a packet of its result", (text[:2], text[14:19], text[78:83], text[206:219]), (b"\0\3", b"web1\0", b"HTTP\0", b"timeout; 10s\0"))
+    check("lines of the others", re.sub(r"^\[\d+\] ([A-Z_]+;[^;]+).*", r"\1", text[4304:].decode("ascii"), flags=re.MULTILINE),
+          "ACKNOWLEDGE_SVC_PROBLEM;web1\nSCHEDULE_HOST_DOWNTIME;web1\n")
+    daemon.begin(text)
     check("its downtime is there", ctl("cancel", "1"), (0, "cancelled: downtime 1\n", ""))
-    check("a gateway that isn't fresh", ctl("restore", page),
-          (2, "", BY_PAGE + "nscagatectl: the gateway is no fresh one: operators' commands stand on its page\n"))
     ctl("passive", "off", "web1")
     check("a stop", ctl("stop", page, "--log", daemon.log, "--pid", str(daemon.process.pid)),
           (0, "stopped: all that was queued is kept\n", ""))
@@ -651,29 +657,31 @@ def play_keeping(program, daemon_program, folder):
     daemon.process.wait()
     written = os.path.getmtime(page + ".log")
     os.utime(page, (written + 1, written + 1))
-    check("a page that is newer than its log", ctl("restore", page, "--dry-run")[2], BY_PAGE)
+    check("a page that is newer than its log", planned(program, daemon, page)[2], BY_PAGE)
     os.utime(page, (written - 1, written - 1))
-    daemon.begin()
-    check("a log is restored", ctl("restore", page), (0, BY_LOG + SHOWN_AGAIN, ""))
+    status, text, errors = planned(program, daemon, page)
+    check("a log is planned", (status, errors), (0, BY_LOG))
+    daemon.begin(text)
     check("its setting is there", ctl("result", "web1", "--state=UP", "--output=x", "--wait=1"),
           (1, "", "nscagatectl: web1: queued, and not shown in time\n"))
-    check("a log is restored once", os.path.exists(page + ".log"), False)
+    os.remove(page + ".log")
     play_faulty_files(ctl, page)
     check("nothing to stop", ctl("stop", page, "--wait=1", "--operators=127.0.0.1:1"),
           (3, "", "nscagatectl: SHUTDOWN_PROGRAM was not answered by closing\n"))
     daemon.kill()
-    daemon.begin()
-    play_one_missing_row(ctl, page)
-    daemon.kill()
+    play_one_missing_row(program, daemon, ctl, page)
 
 
-def play_one_missing_row(ctl, page):
+def play_one_missing_row(program, daemon, ctl, page):
     """The comment of an acknowledgement that is over is restored as a user's: its row is the one that is named."""
     row = f"comment;1;web1;;ack;0;{int(time.time())};ann;over\n"
     with open(page, "w", encoding="ascii") as file:
         file.write(f"status {int(time.time())}\nobject;web1;;PENDING;-;fresh;-;0;\n{row}")
-    check("one row isn't shown again", ctl("restore", page), (1, "", f"{BY_PAGE}nscagatectl: not to be shown again: {row}"))
+    status, text, errors = planned(program, daemon, page)
+    check("one row isn't shown again", (status, errors), (1, f"{BY_PAGE}nscagatectl: not to be shown again: {row}"))
+    daemon.begin(text)
     check("its comment is there", re.search(r"^comment;\d+;web1;;user;0;\d+;ann;over$", ctl("status")[1], re.M) is not None, True)
+    daemon.kill()
 
 
 def play_faulty_files(ctl, page):

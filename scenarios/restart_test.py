@@ -1,4 +1,4 @@
-"""Plays days of a daemon that nscagatectl stops and restores: python3 restart_test.py PROGRAM CTL [PART].
+"""Plays days of a daemon that nscagatectl stops, and hands to the next one: python3 restart_test.py PROGRAM CTL [PART].
 Ends with a line 'N passed, M failed'."""
 import os
 import re
@@ -45,7 +45,6 @@ freshness = 2
 
 CONFIGURATION = HEAD + OBJECTS
 STOPPED = (0, "stopped: all that was queued is kept\n", "")
-RESTORED = (0, "restored: each row is shown again\n", "")
 EVERY_BYTE = "".join(chr(byte) for byte in range(1, 256) if chr(byte) not in "\n\r\t ;") + "\t\\\\x0a\\"
 program = ctl = folder = ""
 
@@ -53,12 +52,14 @@ program = ctl = folder = ""
 class Logged(Daemon):
     """A daemon that prints to the file `log`, after what earlier runs printed, as the unit has it."""
 
-    def __init__(self, configuration):
-        path, log = os.path.join(folder, "gateway.toml"), os.path.join(folder, "log")
+    def __init__(self, configuration, kept=b""):
+        path, log, text = (os.path.join(folder, name) for name in ("gateway.toml", "log", "text"))
         write(path, configuration)
-        with open(log, "ab") as file:
+        with open(text, "wb") as file:
+            file.write(kept)
+        with open(log, "ab") as file, open(text, "rb") as kept_file:
             self.earlier = file.tell()
-            self.process = subprocess.Popen([program, "serve", "--config", path], stdout=file, stderr=subprocess.PIPE)
+            self.process = subprocess.Popen([program, "serve", "--config", path], stdin=kept_file, stdout=file, stderr=subprocess.PIPE)
         end = time.monotonic() + TIME_LIMIT
         while self.printed().count("\n") < 3 and time.monotonic() < end:
             time.sleep(0.01)
@@ -74,8 +75,9 @@ class Logged(Daemon):
         return read(os.path.join(folder, "log"))[self.earlier:]
 
 
-def start(configuration=CONFIGURATION):
-    return Logged(configuration)
+def start(configuration=CONFIGURATION, kept=b""):
+    """A daemon of this configuration, which is handed this text."""
+    return Logged(configuration, kept)
 
 
 def send(daemon, *packets):
@@ -100,8 +102,8 @@ def control(*words):
     return ran.returncode, ran.stdout.decode("latin-1"), ran.stderr.decode("latin-1")
 
 
-def addresses(daemon, operators=None):
-    return ["--config", os.path.join(folder, "gateway.toml"), "--operators", operators or f"127.0.0.1:{daemon.ports['operators']}",
+def addresses(daemon):
+    return ["--config", os.path.join(folder, "gateway.toml"), "--operators", f"127.0.0.1:{daemon.ports['operators']}",
             "--pages", f"127.0.0.1:{daemon.ports['pages']}"]
 
 
@@ -115,8 +117,28 @@ def stop(daemon, kept, *words):
     return status, ended[0]
 
 
-def restore(daemon, kept, *words, operators=None):
-    return control("restore", *addresses(daemon, operators), "--agents", f"127.0.0.1:{daemon.ports['agents']}", *words, kept)
+def plan(kept, *words):
+    """The status of a restore of the files that are kept, the text that it prints, and its errors."""
+    ran = subprocess.run([ctl, "restore", "--config", os.path.join(folder, "gateway.toml"), *words, kept], capture_output=True, timeout=200,
+                         check=False)
+    return ran.returncode, ran.stdout, ran.stderr.decode("latin-1")
+
+
+def restore(kept, *words, configuration=CONFIGURATION):
+    """A daemon that is handed what the files say; the status of the restore, and its errors."""
+    write(os.path.join(folder, "gateway.toml"), configuration)
+    status, text, errors = plan(kept, *words)
+    return start(configuration, text), status, errors
+
+
+def parts(text):
+    """The packets of a text that is kept, each as host, service, code and output, and its lines."""
+    packets = []
+    while text[:1] == b"\0":
+        host, service, output = (text[first:last].split(b"\0", 1)[0].decode("latin-1") for first, last in ((14, 78), (78, 206), (206, 4302)))
+        packets.append((host, service, int.from_bytes(text[12:14], "big", signed=True), output))
+        text = text[4304:]
+    return packets, text.decode("latin-1")
 
 
 def read(path):
@@ -229,13 +251,10 @@ def play_a_day(*words):
     page = read(kept)
     check("the kept page has entry 8 without the one above", [entry[0] for entry in rows(page)["downtime"]],
           ["1", "2", "3", "4", "6", "7", "8", "9", "10", "12", "13", "14"])
-    config = os.path.join(folder, "gateway.toml")
-    status, output, errors = control("restore", "--config", config, "--dry-run", kept)
-    check("a dry run", (status, output.count("\n") > 20, "PENDING" in output), (1, True, False))
-    daemon = start()
-    status, output, errors = restore(daemon, kept)
-    said = "restoring from a log, and a page that is N seconds old\n" if "--log" in words else ""
-    check("a restore", (status, re.sub(r"\d+ seconds", "N seconds", output)), (1, said))
+    daemon, status, errors = restore(kept)
+    said = "nscagatectl: restoring from a log, and a page that is N seconds old\n" if "--log" in words else \
+        "nscagatectl: restoring from a page that is N seconds old, without a log: passive checks that were disabled are enabled\n"
+    check("a restore", (status, re.sub(r"\d+ seconds", "N seconds", errors).startswith(said)), (1, True))
     restored = daemon.page()
     compare_day("a day", page, restored, errors)
     return daemon, restored, kept
@@ -265,14 +284,11 @@ def play_the_next_day(daemon, page, kept):
     write(kept, daemon.page())
     daemon.process.kill()
     daemon.end()
-    daemon = start()
-    check("a page that was restored", restore(daemon, kept)[:2], RESTORED[:2])
+    os.remove(kept + ".log") if os.path.exists(kept + ".log") else None
+    daemon, status, _ = restore(kept)
+    check("a page that was restored", status, 0)
     restored = daemon.page()
     compare("the next day", page, restored)
-    status, output, errors = restore(daemon, kept)
-    check("what was restored isn't restored twice", (status, output, errors.splitlines()[1:]),
-          (2, "", ["nscagatectl: the gateway is no fresh one: operators' commands stand on its page"]))
-    check("nothing was sent twice", meaning(daemon.page()), meaning(restored))
     # What hangs on an entry is deleted with it.
     entry = next(row[0] for row in rows(restored)["downtime"] if row[10].startswith("waits; "))
     ask(daemon, f"[1] DEL_SVC_DOWNTIME;{entry}", "[1] ADD_HOST_COMMENT;db1;0;ann;the last one")
@@ -323,11 +339,10 @@ def play_a_quick_restart():
     time.sleep(0.5)
     began = time.monotonic()
     check("a quick stop", stop(daemon, kept, "--pid", str(daemon.process.pid), "--log", os.path.join(folder, "log"))[0], STOPPED)
-    daemon = start(configuration)
+    daemon, status, errors = restore(kept, configuration=configuration)
     served = time.monotonic()
-    status, output, errors = restore(daemon, kept, "--wait", "100")
-    check("a quick restore", (status, re.sub(r"\d+", "N", output), errors),
-          (0, "restoring from a log, and a page that is N seconds old\nrestored: each row is shown again\n", ""))
+    check("a quick restore", (status, re.sub(r"\d+", "N", errors)), (0, "nscagatectl: restoring from a log, and a page that is N seconds old\n"))
+    daemon.page_with("comment 1999\n")
     took = time.monotonic() - served
     time.sleep(0.2)
     probe.is_stopped = True
@@ -335,7 +350,7 @@ def play_a_quick_restart():
     print(f"a restart took {served - began:.2f} s, in which senders were refused for {probe.longest:.2f} s; "
           f"2,000 comments were there again after {took:.2f} s more")
     check("senders are refused for seconds at most", probe.longest < 5, True)
-    check("lines are sent many at a time", took < 20, True)
+    check("lines are taken at once", took < 20, True)
     check("all comments are there", len(rows(daemon.page())["comment"]), 2000)
     daemon.process.kill()
     daemon.end()
@@ -364,34 +379,65 @@ def play_a_busy_end():
     check("each comment of the log is kept", (counted > 0, f"log {counted}" in ended[1].split("\n")), (True, True))
 
 
-def play_newer_results():
-    """What the daemon was sent before the page was restored stays; it ends an acknowledgement as it does at any time."""
-    kept = os.path.join(folder, "kept")
-    moment = int(time.time()) - 10
-    write(kept, f"status {moment}\n"
-          f"object;web1;;DOWN;{moment};fresh;normal;0;old\n"
-          f"object;web1;HTTP;CRITICAL;{moment};fresh;sticky;0;old\n"
-          f"object;web1;a\\\\b;WARNING;{moment};fresh;normal;0;old\n"
-          f"object;db1;;DOWN;{moment};fresh;normal;0;old\n"
-          f"object;gone;;DOWN;{moment};fresh;-;0;old\n"
-          f"comment;3;web1;;ack;0;{moment};ann;over\n"
-          f"comment;4;web1;HTTP;ack;0;{moment};ann;stays\n"
-          f"comment;5;web1;a\\\\b;ack;1;{moment};ann;stays as a note\n"
-          f"comment;6;db1;;ack;0;{moment};ann;stays too\n"
-          f"comment;7;gone;;user;0;{moment};ann;x\n")
-    daemon = start()
-    send(daemon, ("web1", "", 0, "new"), ("web1", "HTTP", 1, "new"), ("web1", "a\\b", 2, "new"),
-         ("db1", "", 2, "newest"))
-    status, _, errors = restore(daemon, kept, "--wait", "2")
+def play_an_early_agent():
+    """An agent and an operator that connect while the text is taken are served after it: a newer result stays, and ends an acknowledgement."""
+    moment = int(time.time())
+    kept = write(os.path.join(folder, "kept"), f"status {moment}\n"
+                 f"object;web1;;DOWN;{moment};fresh;normal;0;old\nobject;web1;HTTP;CRITICAL;{moment};fresh;sticky;0;old\n"
+                 f"object;gone;;DOWN;{moment};fresh;-;0;old\n"
+                 f"comment;3;web1;;ack;1;{moment};ann;first\ncomment;4;web1;HTTP;ack;0;{moment};ann;stays\n"
+                 f"comment;7;gone;;user;0;{moment};ann;x\n")
+    daemon, status, errors = restore(kept)
+    send(daemon, ("web1", "", 0, "new"), ("web1", "HTTP", 1, "new too"))
     left_out = re.findall(r"not sent, since the gateway has no such object: (\w+);gone;", errors)
     check("an object that is gone is reported", (status, left_out), (1, ["PROCESS_HOST_CHECK_RESULT", "ADD_HOST_COMMENT"]))
     objects, comments, _ = meaning(daemon.page())
-    check("new results stay", [(one[0], one[1], one[2], one[4]) for one in objects if one[6].startswith("new")],
-          [("web1", "", "UP", "-"), ("web1", "HTTP", "WARNING", "-"), ("web1", "a\\\\b", "CRITICAL", "-"),
-           ("db1", "", "UNREACHABLE", "-")])
-    check("no state is acknowledged that nobody has seen", sorted((one[2], one[5]) for one in comments),
-          [("user", "over"), ("user", "stays"), ("user", "stays as a note"), ("user", "stays too")])
-    check("and each is named", len(re.findall("not sent, since the object has another state now: ACKNOWLEDGE_", errors)), 4)
+    check("new results stay", [(one[0], one[1], one[2], one[4], one[6]) for one in objects if one[6].startswith("new")],
+          [("web1", "", "UP", "-", "new"), ("web1", "HTTP", "WARNING", "sticky", "new too")])
+    check("acknowledgements came before them", sorted((one[2], one[5]) for one in comments), [("ack", "first"), ("ack", "stays")])
+    ask(daemon, "[1] SHUTDOWN_PROGRAM")
+    log = daemon.end()[1]
+    check("all that was kept is applied first", re.findall(r"PROCESS_HOST_CHECK_RESULT;web1;(\d);(\w+) -> Accepted", log), [("1", "old"), ("0", "new")])
+
+
+def kept_packet(host, service, code, output):
+    return packet(4294967295, host, service, code, output)
+
+
+# What a text may hold beside good packets and lines, and how each fault is named.
+FAULTY_TEXTS = {
+    "a packet of another version": (b"\0\4" + kept_packet(b"web1", b"", 0, b"x")[2:], "packet 1: BadVersion"),
+    "a packet with a wrong check word": (kept_packet(b"web1", b"", 0, b"x")[:-3] + b"zzz", "packet 1: BadCheckWord"),
+    "a packet that may become stale": (packet(1000, b"web1", b"", 0, b"x"), "packet 1: Stale"),
+    "a packet without a host": (kept_packet(b"", b"", 0, b"x"), "packet 1: EmptyHost"),
+    "a packet that is cut": (kept_packet(b"web1", b"", 0, b"x")[:4303], "packet 1: it is cut"),
+    "a NUL": (b"\0", "packet 1: it is cut"),
+    "no command": (b"[1] RESTART_PROGRAM\n", "line 1: UnknownCommand"),
+    "an empty line": (b"\n", "line 1: NoTime"),
+    "a bad number": (b"[1] DEL_HOST_COMMENT;x\n", "line 1: BadNumber 1"),
+    "a shutdown": (b"[1] SHUTDOWN_PROGRAM\n", "line 1: SHUTDOWN_PROGRAM"),
+    "a line that is cut": (b"[1] ADD_HOST_COMMENT;web1;0;ann;x", "line 1: it is cut"),
+}
+
+
+def play_texts():
+    """What of a text isn't taken is named, and the rest is taken."""
+    for what, (text, named) in FAULTY_TEXTS.items():
+        daemon = start(kept=text)
+        ask(daemon, "[1] SHUTDOWN_PROGRAM")
+        check(what, daemon.end()[2], f"nscagate: kept: {named}\n")
+    good = kept_packet(b"web1", b"", 1, b"down") + packet(1000, b"db1", b"", 0, b"up") + kept_packet(b"web1", b"HTTP", 2, b"two\nlines")
+    daemon = start(kept=good + b"[1] ACKNOWLEDGE_HOST_PROBLEM;web1;2;0;0;ann;on it\nx\n[1] ADD_SVC_COMMENT;web1;HTTP;0;ann;hi\n[1]")
+    objects, comments, _ = meaning(daemon.page())
+    check("the rest is taken", [(one[0], one[1], one[2], one[4], one[6]) for one in objects[:2]],
+          [("web1", "", "DOWN", "sticky", "down"), ("web1", "HTTP", "CRITICAL", "-", "two\\x0alines")])
+    check("so are its lines", [one[5] for one in comments], ["hi", "on it"] if comments[0][5] == "hi" else ["on it", "hi"])
+    ask(daemon, "[1] SHUTDOWN_PROGRAM")
+    check("each fault is named once, in order", daemon.end()[2],
+          "nscagate: kept: packet 2: Stale\nnscagate: kept: line 2: NoTime\nnscagate: kept: line 4: it is cut\n")
+    many = b"".join(b"[1] ADD_HOST_COMMENT;web1;1;ann;%d\n" % number for number in range(30))
+    daemon = start(CONFIGURATION.replace("limit = 100_000", "limit = 100_000\nitems = 7"), many)
+    check("more than a session may have", len(rows(daemon.page_with(";29\n"))["comment"]), 30)
     daemon.process.kill()
     daemon.end()
 
@@ -442,9 +488,9 @@ def play_time_passes():
     for entry, kind, trigger, starts, ends, lasts, begin, _ in ENTRIES:
         shown = begin if begin == "-" else now + begin
         page += f"downtime;{entry};web1;;{kind};{trigger};{now + starts};{now + ends};{lasts};{shown};bob;entry {entry}\n"
-    config = write(os.path.join(folder, "passes.toml"), CONFIGURATION)
-    _, output, errors = control("restore", "--config", config, "--dry-run", write(os.path.join(folder, "passes"), page))
-    found, refused = scheduled(output, now)
+    write(os.path.join(folder, "gateway.toml"), CONFIGURATION)
+    _, text, errors = plan(write(os.path.join(folder, "passes"), page))
+    found, refused = scheduled(parts(text)[1], now)
     check("lines of entries that are over", refused, [])
     for entry, *_, sent in ENTRIES:
         text = f"entry {entry}"
@@ -479,29 +525,23 @@ FAULTY_PAGES = {
 
 
 def play_faulty_pages():
-    """A page that is cut off, or is none, is refused whole, before anything is sent."""
-    daemon = start()
-    config = os.path.join(folder, "gateway.toml")
+    """Of a page that is cut off, or is none, nothing is printed."""
+    write(os.path.join(folder, "gateway.toml"), CONFIGURATION)
     for what, text in FAULTY_PAGES.items():
         kept = os.path.join(folder, "faulty")
         if text is None:
             kept += ".none"
         else:
             write(kept, text)
-        status, output, errors = restore(daemon, kept, "--old")
-        check(f"a faulty page: {what}", (status, output, errors[:13], errors.count("\n")), (2, "", "nscagatectl: ", 1))
-        dry = control("restore", "--config", config, "--old", "--dry-run", kept)
-        check(f"a faulty page in a dry run: {what}", dry[:2], (2, ""))
+        status, output, errors = plan(kept, "--old")
+        check(f"a faulty page: {what}", (status, output, errors[:13], errors.count("\n")), (2, b"", "nscagatectl: ", 1))
     write(kept, GOOD_PAGE + "closing;95\n")
-    status, output, errors = restore(daemon, kept)
+    status, output, errors = plan(kept)
     named = re.fullmatch(r"nscagatectl: there is no kept log, and the kept page is \d+ seconds old: --old restores it\n", errors)
-    check("a good page that is old", (status, output, named is not None), (2, "", True))
-    output = control("restore", "--config", config, "--old", "--dry-run", kept)[1]
-    check("the page that they are made of is good",
-          output.count("SCHEDULE_HOST_DOWNTIME;web1;50;4000000000;1;0;0;bob;x\n"), 1)
-    check("nothing was sent", ask(daemon, "[1] ADD_HOST_COMMENT;web1;0;ann;x"), ["queued 1"])
-    daemon.process.kill()
-    daemon.end()
+    check("a good page that is old", (status, output, named is not None), (2, b"", True))
+    packets, lines = parts(plan(kept, "--old")[1])
+    check("the page that they are made of is good", (packets, lines.count("SCHEDULE_HOST_DOWNTIME;web1;50;4000000000;1;0;0;bob;x\n")),
+          ([], 1))
 
 
 def play_faulty_words():
@@ -509,18 +549,13 @@ def play_faulty_words():
     config = write(os.path.join(folder, "words.toml"), CONFIGURATION)
     faulty = write(os.path.join(folder, "faulty.toml"), 'host = [{nam = "web1"}]\n')
     page = write(os.path.join(folder, "page"), f"status {int(time.time())}\n")
-    for name in ("stop", "restore"):
-        for words in ((), ("--wait",), ("--wait", "x", page), ("--wait", "0", page), ("--colour", page), (page, page),
-                      ("--config", none, page), ("--config", faulty, page), ("--pages", "web1:5669", page)):
+    common = ((), ("--colour", page), (page, page), ("--config", none, page), ("--config", faulty, page))
+    for name, others in (("stop", (("--wait",), ("--wait", "x", page), ("--wait", "0", page), ("--pages", "web1:5669", page))),
+                         ("restore", (("--wait", "1", page), ("--pid", "1", page), ("--dry-run", page)))):
+        for words in common + others:
             status, output, errors = control(name, *words)
             check(f"{name} {words}", (status, output, errors != ""), (2, "", True))
-    closed = ["--config", config, "--pages", "127.0.0.1:9", "--operators", "127.0.0.1:9"]
-    check("a restore without a daemon", control("restore", *closed, "--wait", "1", page)[0], 3)
-    with subprocess.Popen(["true"]) as ended:
-        ended.wait()
-        status, output, errors = control("restore", *closed, "--pid", str(ended.pid), page)
-        check("a restore whose daemon has ended", (status, output, errors.splitlines()[1:]),
-              (3, "", ["nscagatectl: the gateway has ended"]))
+    check("a restore of a page without objects", control("restore", "--config", config, page)[:2], (0, ""))
 
 
 def play_a_full_disk():
@@ -534,90 +569,13 @@ def play_a_full_disk():
     check("the page before stays", read(kept), "old\n")
 
 
-def refuse_first(address, refused):
-    """The address of an operators' port that answers `full` to the first of these lines that come, so many times each,
-    and passes all others on to this one."""
-    server = socket.create_server(("127.0.0.1", 0))
-
-    def serve():
-        while True:
-            connection, _ = server.accept()
-            with connection, socket.create_connection(address) as daemon, daemon.makefile("r") as answers:
-                for line in connection.makefile("rb"):
-                    name = line.decode("latin-1").strip("\n").split(" ", 1)[1]
-                    if refused.get(name, 0) > 0:
-                        refused[name] -= 1
-                        connection.sendall(b"full\n")
-                    else:
-                        daemon.sendall(line)
-                        connection.sendall(answers.readline().encode())
-    threading.Thread(target=serve, daemon=True).start()
-    return f"127.0.0.1:{server.getsockname()[1]}"
-
-
-def play_a_full_queue():
-    """A line that finds the queue full is sent again, and named where it stays so."""
-    now = int(time.time())
-    kept = write(os.path.join(folder, "full"), f"status {now}\nobject;web1;;DOWN;{now};fresh;normal;0;down\n"
-                 f"object;web1;HTTP;CRITICAL;{now};fresh;sticky;0;timeout\nobject;db1;;DOWN;{now};fresh;-;0;gone\n"
-                 f"comment;1;web1;;ack;1;{now};ann;on it\ncomment;2;web1;HTTP;ack;0;{now};ann;on it\n"
-                 f"comment;3;web1;;user;1;{now};ann;one\ncomment;4;web1;;user;1;{now};ann;two\n")
-    for times, expected in ((1, RESTORED[:2]), (99, (3, ""))):
-        daemon = start()
-        operators = refuse_first(("127.0.0.1", daemon.ports["operators"]), {"ADD_HOST_COMMENT;web1;1;ann;one": times})
-        status, output, errors = restore(daemon, kept, operators=operators)
-        check("a queue that is full", (status, output), expected)
-        check("it is named", "nscagatectl: the queue is full: ADD_HOST_COMMENT;web1;1;ann;one\n" in errors, times > 1)
-        check("the acknowledgements are there", [one[4] for one in meaning(daemon.page_with(";sticky;"))[0][:2]], ["normal", "sticky"])
-        daemon.process.kill()
-        daemon.end()
-
-
-def kill_at_its_marker(daemon, kept):
-    """A restore that is killed once the daemon shows its comment, before it sees that page."""
-    with socket.create_server(("127.0.0.1", 0)) as server:
-        server.settimeout(TIME_LIMIT)
-        words = [*addresses(daemon)[:-1], f"127.0.0.1:{server.getsockname()[1]}", "--agents", f"127.0.0.1:{daemon.ports['agents']}"]
-        with subprocess.Popen([ctl, "restore", *words, kept], stdout=subprocess.DEVNULL, stderr=subprocess.DEVNULL) as restoring:
-            while True:
-                connection, _ = server.accept()
-                with connection:
-                    page = daemon.page()
-                    if ";nscagatectl;results are restored: " in page:
-                        restoring.kill()
-                        return
-                    connection.sendall(page.encode("latin-1"))
-
-
-def play_a_killed_restore():
-    """A restore that is killed leaves its comment; the next one deletes it, and restores all."""
-    now = int(time.time())
-    kept = write(os.path.join(folder, "killed"), f"status {now}\nobject;web1;;DOWN;{now};fresh;normal;0;down\n"
-                 f"object;db1;;DOWN;{now};fresh;-;0;gone\ncomment;1;web1;;ack;1;{now};ann;on it\n")
-    daemon = start()
-    kill_at_its_marker(daemon, kept)
-    page = daemon.page()
-    check("no result came before the comment", (page.count(";PENDING;"), len(rows(page)["comment"])), (6, 1))
-    check("a restore after one that was killed", restore(daemon, kept)[:2], RESTORED[:2])
-    check("its comment is deleted", [row[7] for row in rows(daemon.page())["comment"]], ["on it"])
-    # Another author's comment with this text is one of an operator.
-    daemon.process.kill()
-    daemon.end()
-    daemon = start()
-    ask(daemon, "[1] ADD_HOST_COMMENT;web1;0;ann;results are restored: 1")
-    daemon.page_with(";results are restored: 1\n")
-    check("an operator's comment stands in its way", restore(daemon, kept)[0], 2)
-    daemon.process.kill()
-    daemon.end()
-
-
 def play_a_full_log():
-    """Lines that the daemon refuses are reported by their lines of the page."""
-    daemon = start(HEAD.replace("capacity = 256", "capacity = 1") + OBJECTS.replace("limit = 100_000", "limit = 1"))
+    """Where the log has no room for all that is kept, the daemon takes what it has room for, and can be stopped."""
+    configuration = HEAD.replace("capacity = 256", "capacity = 1") + OBJECTS.replace("limit = 100_000", "limit = 1")
     lines = "".join(f"comment;{number};web1;;user;0;90;ann;{number}\n" for number in range(1, 5))
     kept = write(os.path.join(folder, "kept"), "status 100\nobject;web1;;PENDING;-;fresh;-;0;\n" + lines)
-    status, _, errors = restore(daemon, kept, "--old")
-    check("a full log", (status, "nscagatectl: the queue is full: ADD_HOST_COMMENT;web1;0;ann;3\n" in errors), (3, True))
+    daemon, status, _ = restore(kept, "--old", configuration=configuration)
+    check("it is planned all the same", status, 0)
     status, ended = stop(daemon, kept)
     check("a stop with a full log", (status, ended[0], ended[2]), (STOPPED, 3, "nscagate: LogFull\n"))
     check("the page of a full log is kept", [row[7] for row in rows(read(kept))["comment"]], ["1"])
@@ -634,9 +592,8 @@ def play_ends():
 
 
 def play_pages():
-    play_a_full_queue()
-    play_a_killed_restore()
-    play_newer_results()
+    play_an_early_agent()
+    play_texts()
     play_time_passes()
     play_faulty_pages()
     play_faulty_words()

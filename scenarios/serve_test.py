@@ -278,7 +278,7 @@ def let_go_of(connection):
 
 
 def send_in_pieces(daemon, name, pieces):
-    """Sends these pieces on one connection with pauses between them, each of which takes a read, and leaves it open."""
+    """Sends these pieces on one connection with pauses between them, and leaves it open."""
     connection = daemon.connect(name)
     if name == "agents":
         read_exactly(connection, 132)
@@ -309,10 +309,10 @@ def play_limits_of_a_session(program, folder):
           (output.split("\n", 1)[0], re.findall(r"(\d+) seconds old", output)), ("log 4", ["30"]))
     daemon = Daemon(program, folder, "workers = 2\nreads = 2\n" + CONFIGURATION)
     one = packet(1000, b"web1", b"HTTP", 2, b"in pieces", 512)
-    with send_in_pieces(daemon, "agents", [one[:300], one[300:600], one[600:]]) as connection:
-        check("a session of more reads than it may is let go of", let_go_of(connection), True)
-    with send_in_pieces(daemon, "agents", [one[:300], one[300:]]):
-        check("a session of as many reads as it may is served", "in pieces" in daemon.page_with("in pieces"), True)
+    with send_in_pieces(daemon, "agents", [one] * 3) as connection:
+        check("an agent is let go of after as many reads as it may take", let_go_of(connection), True)
+    with send_in_pieces(daemon, "agents", [one[:300], one[300:600], one[600:]]):
+        check("a packet that comes in parts takes one read", "in pieces" in daemon.page_with("in pieces"), True)
     with send_in_pieces(daemon, "operators", [comment.encode() + b"\n"] * 2) as connection:
         try:
             answers = read_all(connection)
@@ -321,7 +321,7 @@ def play_limits_of_a_session(program, folder):
         check("an operator is let go of after as many reads as it may take", answers, b"queued 1\nqueued 2\n")
     check("the last session closes", ask(daemon, "[1] SHUTDOWN_PROGRAM"), ["closing"])
     status, output, _ = daemon.end()
-    check("the status with few reads", (status, output.split("\n", 1)[0]), (0, "log 3"))
+    check("the status with few reads", (status, output.split("\n", 1)[0]), (0, "log 5"))
 
 
 def play_three_addresses(program, folder):

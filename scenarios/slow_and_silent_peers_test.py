@@ -113,28 +113,6 @@ def play_used_up_sessions(program, folder):
     check("used up sessions: all is logged", output.split("\n", 1)[0], "log 3")
 
 
-def play_a_trickle(program, folder):
-    """A sender of a byte every 4 seconds is let go of after 8 seconds."""
-    daemon = Daemon(program, folder, CONFIGURATION)
-    with daemon.connect("agents") as trickle:
-        read_exactly(trickle, 132)
-        began = time.monotonic()
-        lost = False
-        while not lost and time.monotonic() - began < 20.0:
-            try:
-                trickle.sendall(b"\0")
-                trickle.settimeout(4.0)
-                lost = trickle.recv(1) == b""
-            except socket.timeout:
-                pass
-            except OSError:
-                lost = True
-        took = time.monotonic() - began
-    check("a trickle is let go of", lost and 7.0 < took < 9.5, True)
-    check("the sender after it is served", send_one(daemon, b"after the trickle", SENDER), True)
-    shut_down(daemon, "a trickle", 3.0)
-
-
 def play_a_trickle_at_the_end(program, folder):
     """A shutdown doesn't wait for a sender that is served."""
     daemon = Daemon(program, folder, CONFIGURATION)
@@ -142,64 +120,6 @@ def play_a_trickle_at_the_end(program, folder):
         read_exactly(trickle, 132)
         trickle.sendall(b"\0")
         shut_down(daemon, "a trickle at the end", 3.0)
-
-
-def play_a_silent_sender(program, folder):
-    """A sender that comes after a silent one is served after a second."""
-    daemon = Daemon(program, folder, CONFIGURATION)
-    client = shutil.which("send_nsca") or shutil.which("send_nsca", path="/usr/sbin")
-    with daemon.connect("agents") as silent:
-        read_exactly(silent, 132)
-        began = time.monotonic()
-        if client is None:
-            served = send_one(daemon, b"after the silence", SENDER)
-        else:
-            settings = os.path.join(folder, "send_nsca.cfg")
-            with open(settings, "w", encoding="ascii") as file:
-                file.write("encryption_method=0\n")
-            ran = subprocess.run([client, "-H", daemon.hosts["agents"], "-p", str(daemon.ports["agents"]), "-c", settings],
-                                 input="web1\tHTTP\t1\tafter the silence\n", capture_output=True, text=True, timeout=TIME_LIMIT,
-                                 check=False)
-            served = ran.returncode == 0
-        took = time.monotonic() - began
-    print(f"a silent sender: the next one was served after {took:.2f} s", flush=True)
-    check("a silent sender: the next one is served", served and 0.9 < took < 3.0, True)
-    check("a silent sender: its result is shown", "after the silence" in daemon.page_with("after the silence"), True)
-    shut_down(daemon, "a silent sender", 3.0)
-
-
-def play_many_silent_senders(program, folder):
-    """A sender that comes after 100 silent ones is greeted before it gives up, where there are 16 workers."""
-    daemon = Daemon(program, folder, limited(workers=16))
-    silent = [daemon.connect("agents") for _ in range(100)]
-    began = time.monotonic()
-    served = send_one(daemon, b"after 100", SENDER)
-    took = time.monotonic() - began
-    print(f"many silent senders: the next one was greeted after {took:.2f} s", flush=True)
-    check("many silent senders: the next one is greeted", served, True)
-    check("many silent senders: its result is shown", "after 100" in daemon.page_with("after 100"), True)
-    for connection in silent:
-        connection.close()
-    shut_down(daemon, "many silent senders", 3.0)
-
-
-def play_a_steady_sender(program, folder):
-    """A sender of a packet every 9 seconds keeps the next one out for a second, and is served for as long as it is alone."""
-    daemon = Daemon(program, folder, CONFIGURATION)
-    with daemon.connect("agents") as steady:
-        moment = int.from_bytes(read_exactly(steady, 132)[128:], "big")
-        for number in range(2):
-            steady.sendall(packet(moment, b"web1", b"HTTP", 1, b"steady %d" % number))
-            time.sleep(9.0)
-        steady.sendall(packet(moment, b"web1", b"HTTP", 1, b"steady 2"))
-        began = time.monotonic()
-        check("a steady sender: the next one is served", send_one(daemon, b"the next one", SENDER), True)
-        took = time.monotonic() - began
-    print(f"a steady sender: the next one waited {took:.2f} s", flush=True)
-    check("a steady sender: the next one waits for a second", took < 3.0, True)
-    check("a steady sender: the next one's result is shown", "the next one" in daemon.page_with("the next one"), True)
-    output = shut_down(daemon, "a steady sender", 3.0)[1]
-    check("a steady sender: all is logged", output.split("\n", 1)[0], "log 4")
 
 
 def end_at_once(daemon, how):
@@ -683,7 +603,7 @@ def starved_daemon(program, folder, configuration, large):
     """A daemon, and a file: while it is there, requests for so many bytes or more are refused. None where that can't be done."""
     compiler = shutil.which("cc") or shutil.which("gcc")
     if compiler is None:
-        print("without memory ... skipped: there is no C compiler", flush=True)
+        print("without memory ... skipped: cc is not installed", flush=True)
         return None
     library = os.path.join(folder, "fail_alloc.so")
     source = os.path.join(os.path.dirname(os.path.abspath(__file__)), "fail_alloc.c")

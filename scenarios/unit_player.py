@@ -55,7 +55,7 @@ class Unit:
     def __init__(self, program, ctl, folder, configuration):
         self.folder = folder
         self.programs = {"nscagate": program, "nscagatectl": ctl, "systemctl": os.path.join(folder, "bin", "systemctl")}
-        for name in ("bin", "state", "logs", "counts"):
+        for name in ("bin", "state", "logs", "counts", "run"):
             os.makedirs(os.path.join(folder, name))
         self.config = os.path.join(folder, "gateway.toml")
         self.page = os.path.join(folder, "state", "page")
@@ -85,6 +85,8 @@ class Unit:
             prefix, line = re.fullmatch(r"([-+]*)(.*)", line).groups()
             line = line.replace("%%", "%").replace("/etc/nscagate/gateway.toml", self.config)
             line = line.replace("/var/log/nscagate", os.path.join(self.folder, "logs"))
+            line = line.replace("/run/nscagate/", os.path.join(self.folder, "run", ""))
+            line = line.replace("exec /usr/bin/nscagate ", f"exec {self.programs['nscagate']} ")
             words = shlex.split(line.replace("/var/lib/nscagate", os.path.join(self.folder, "state")))
             words[0] = self.programs.get(os.path.basename(words[0]), words[0])
             found.append(("-" not in prefix, words))
@@ -102,16 +104,14 @@ class Unit:
                 return False
         return True
 
-    def start(self, meanwhile=lambda: None):
-        """Starts the daemon, and runs what the unit has before and after it; what was written to the journal."""
+    def start(self):
+        """Starts the daemon, and runs what the unit has before it; what was written to the journal."""
         self.journal = ""
         self.run("ExecStartPre")
         [(_, words)] = self.commands("ExecStart")
         with open(self.log, "ab") as log:
             self.daemon = Served(words, log, self.configuration)
         self.environment["MAINPID"] = str(self.daemon.process.pid)
-        meanwhile()
-        self.run("ExecStartPost")
         self.daemon.wait_until_serving()
         return self.journal
 
