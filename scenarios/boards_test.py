@@ -11,7 +11,7 @@ import threading
 import time
 import traceback
 
-from daemon_clients import CONFIGURATION, TIME_LIMIT, Daemon, ask, check, end_tests, packet, read_exactly
+from daemon_clients import CONFIGURATION, TIME_LIMIT, Daemon, ask, check, end_tests, packet, read_exactly, run_plays
 
 
 def send(daemon, output):
@@ -201,20 +201,7 @@ def main():
                     " FAIL_ALLOC_MARK=\"$folder/refused\"")
             wrapped(sys.argv[1], folder, "thread_too_few",
                     f"export LD_PRELOAD='{sys.argv[2]}' FAIL_THREAD=\"$(basename \"$(dirname \"$3\")\")\"")
-
-        def run(play):
-            own = os.path.join(folder, play.__name__)
-            os.mkdir(own)
-            try:
-                play(sys.argv[1], own)
-            except Exception:  # a play that breaks off has failed
-                check(f"{play.__name__} ... {traceback.format_exc()}", "broken off", "ended")
-
-        plays = [threading.Thread(target=run, args=(play,)) for play in PLAYS]
-        for play in plays:
-            play.start()
-        for play in plays:
-            play.join()
+        run_plays(PLAYS, sys.argv[1], folder)
     end_tests()
 
 

@@ -6,7 +6,9 @@ import socket
 import struct
 import subprocess
 import sys
+import threading
 import time
+import traceback
 import zlib
 
 CONFIGURATION = """\
@@ -157,6 +159,27 @@ def hold(thread, wait):
     os.waitpid(thread, WAIT_FOR_THREADS)
     wait()
     return trace(PTRACE_DETACH, thread, 0, 0) == 0
+
+
+def run_plays(plays, program, folder, alone=()):
+    """Runs plays of this program, each in a folder of its own: all at once, and then, one by one, those that take the machine alone."""
+
+    def run(play):
+        own = os.path.join(folder, play.__name__)
+        os.mkdir(own)
+        try:
+            play(program, own)
+        except Exception:  # a play that breaks off has failed
+            check(f"{play.__name__} ... {traceback.format_exc()}", "broken off", "ended")
+
+    together = [threading.Thread(target=run, args=(play,)) for play in plays if play not in alone]
+    for thread in together:
+        thread.start()
+    for thread in together:
+        thread.join()
+    for play in plays:
+        if play in alone:
+            run(play)
 
 
 def end_tests():

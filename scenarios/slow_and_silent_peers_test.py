@@ -12,10 +12,9 @@ import sys
 import tempfile
 import threading
 import time
-import traceback
 
 from daemon_clients import (CONFIGURATION, TIME_LIMIT, Daemon, applier_of, ask, check, end_tests, hold, packet, read_all,
-                            read_exactly)
+                            read_exactly, run_plays)
 
 END = 15.0  # seconds from the answer `closing` to the end of the daemon, at most
 SENDER = 10.0  # seconds after which a send_nsca gives up
@@ -663,20 +662,7 @@ def main():
     program = sys.argv[1]
     word = sys.argv[2] if len(sys.argv) > 2 else ""
     with tempfile.TemporaryDirectory() as folder:
-
-        def run(play):
-            own = os.path.join(folder, play.__name__)
-            os.mkdir(own)
-            try:
-                play(program, own)
-            except Exception:  # a play that breaks off has failed
-                check(f"{play.__name__} ... {traceback.format_exc()}", "broken off", "ended")
-
-        plays = [threading.Thread(target=run, args=(play,)) for play in PLAYS if word in play.__name__]
-        for play in plays:
-            play.start()
-        for play in plays:
-            play.join()
+        run_plays([play for play in PLAYS if word in play.__name__], program, folder)
     end_tests()
 
 

@@ -13,9 +13,9 @@ import sys
 import tempfile
 import threading
 import time
-import traceback
 
-from daemon_clients import CONFIGURATION, TIME_LIMIT, Daemon, ask, check, end_tests, packet, read_all, read_exactly
+from daemon_clients import (CONFIGURATION, TIME_LIMIT, Daemon, ask, check, end_tests, packet, read_all, read_exactly,
+                            run_plays)
 
 GREETING = 132  # bytes
 AT_ONCE = 0.5  # seconds: a tenth where nothing else runs, and more beside other plays
@@ -153,32 +153,37 @@ def play_a_test_of_the_port(program, folder):
     check("a test of the port: all is logged", sorted(end(daemon, "a test of the port")), sorted(outputs))
 
 
+def check_beside_senders(daemon, folder, what, peers, sent, seconds):
+    """While each of these peers sends these bytes every so many seconds, the next agents are served; nothing else is logged."""
+    is_over = threading.Event()
+
+    def keep_sending():
+        while not is_over.wait(seconds):
+            for peer in peers:
+                try:
+                    peer.sendall(sent)
+                except OSError:
+                    pass
+
+    sender = threading.Thread(target=keep_sending)
+    sender.start()
+    time.sleep(1.0)
+    outputs = check_next_agents(daemon, folder, what)
+    is_over.set()
+    sender.join()
+    for peer in peers:
+        peer.close()
+    check(f"{what}: nothing else is logged", sorted(end(daemon, what)), sorted(outputs))
+
+
 def play_peers_with_stale_packets(program, folder):
     """A peer for each worker that sends a stale packet of 720 bytes each 0.8 s."""
     for workers in (1, 16, 63):
         what = f"stale packets, {workers} workers"
         daemon = Daemon(program, folder, with_keys(workers=workers, greatest_age=30))
         peers = [daemon.connect("agents") for _ in range(workers)]
-        is_over = threading.Event()
         stale = packet(1, b"web1", b"HTTP", 1, b"stale", 512)
-
-        def keep_sending():
-            while not is_over.wait(0.8):
-                for peer in peers:
-                    try:
-                        peer.sendall(stale)
-                    except OSError:
-                        pass
-
-        sender = threading.Thread(target=keep_sending)
-        sender.start()
-        time.sleep(1.0)
-        outputs = check_next_agents(daemon, folder, what)
-        is_over.set()
-        sender.join()
-        for peer in peers:
-            peer.close()
-        check(f"{what}: all but these is logged", sorted(end(daemon, what)), sorted(outputs))
+        check_beside_senders(daemon, folder, what, peers, stale, 0.8)
 
 
 def raise_descriptors(count):
@@ -224,24 +229,7 @@ def play_peers_that_drip(program, folder):
     used = processor_seconds(daemon) - used
     print(f"{what}: {used * 1000:.1f} ms of 5 s of a processor while they are silent", flush=True)
     check(f"{what}: silent ones take no time", used < 0.05, True)
-    is_over = threading.Event()
-
-    def drip():
-        while not is_over.wait(1.0):
-            for peer in peers:
-                try:
-                    peer.send(b"\0")
-                except OSError:
-                    pass
-
-    dripping = threading.Thread(target=drip)
-    dripping.start()
-    outputs = check_next_agents(daemon, folder, what)
-    is_over.set()
-    dripping.join()
-    for peer in peers:
-        peer.close()
-    check(f"{what}: all is logged", sorted(end(daemon, what)), sorted(outputs))
+    check_beside_senders(daemon, folder, what, peers, b"\0", 1.0)
 
 
 def play_a_standstill(program, folder):
@@ -412,9 +400,6 @@ def play_bad_packets_between_pieces(program, folder):
     check("garbage: the good ones are logged", end(daemon, "garbage"), ["good"] * 3)
 
 
-# These take the machine for themselves, one after the other.
-ALONE = ("play_many_stale_connections", "play_peers_that_drip", "play_silent_peers")
-
 PLAYS = [play for name, play in sorted(globals().items()) if name.startswith("play_") and name != "play_agents"]
 
 
@@ -422,24 +407,8 @@ def main():
     program = sys.argv[1]
     word = sys.argv[2] if len(sys.argv) > 2 else ""
     with tempfile.TemporaryDirectory() as folder:
-
-        def run(play):
-            own = os.path.join(folder, play.__name__)
-            os.mkdir(own)
-            try:
-                play(program, own)
-            except Exception:  # a play that breaks off has failed
-                check(f"{play.__name__} ... {traceback.format_exc()}", "broken off", "ended")
-
-        chosen = [play for play in PLAYS if word in play.__name__]
-        plays = [threading.Thread(target=run, args=(play,)) for play in chosen if play.__name__ not in ALONE]
-        for play in plays:
-            play.start()
-        for play in plays:
-            play.join()
-        for play in chosen:
-            if play.__name__ in ALONE:
-                run(play)
+        run_plays([play for play in PLAYS if word in play.__name__], program, folder,
+                  alone=(play_many_stale_connections, play_peers_that_drip, play_silent_peers))
     end_tests()
 
 
