@@ -1,13 +1,17 @@
-ghost use Rattle.std.specs.Prelude.{◌≡◌, ◌≤◌, IsSome, length};
+ghost use Rattle.std.specs.Prelude.{◌≡◌, ◌*◌, ◌≤◌, IsSome, IfSome, length};
+ghost use Rattle.std.specs.Duration.{as_nanos};
 ghost use Rattle.gate_model.specs.Record.{items_of_records};
 ghost use Rattle.gate_boards.specs.declared.applying.ApplierStop.TheVariants.{Closing, LogFull};
 ghost use Rattle.gate_boards.specs.declared.applying.FullLog.{FullLog};
-ghost use Rattle.gate_boards.specs.Applying.{GoesByClock, IsSameLog};
+ghost use Rattle.gate_boards.specs.Applying.{board_of, GoesByClock, IsSameLog};
+ghost use Rattle.gate_boards.specs.Boards.{millis_left};
 ghost use Rattle.gate_boards.specs.inner.Publishing.{GoesOn};
 ghost use Rattle.gate_boards.specs.declared.applying.Attempt.TheVariants as attempt;
-ghost use Rattle.gate_boards.specs.declared.boards.Found.TheVariants.{Nothing};
+ghost use Rattle.gate_boards.specs.declared.boards.Found.TheVariants.{Item, Nothing};
+ghost use Rattle.gate_environment.specs.Points.{passing};
+ghost use Rattle.gate_environment.specs.declared.connections.Point.TheVariants.{BeforeApply};
 
-use crate::boards::{Found, LastBoard, show, show_last};
+use crate::boards::{Found, LastBoard, Published, show, show_last};
 use gate_applier::{Applier, PrepareCause, PrepareFault};
 use gate_environment::times::PAUSE_MILLIS;
 use gate_environment::{Clock, Hold, Point, pause};
@@ -31,7 +35,9 @@ pub enum ApplierStop {
 /// room; and a board shows all of it, or memory for one was missing for a second. Only `end_full`
 /// makes one of these.
 #[derive(Clone, Copy)]
-pub struct FullLog(());
+pub struct FullLog {
+    shown: Option<Published>,
+}
 
 // What one turn of the applier did.
 #[derive(Clone, Copy)]
@@ -67,6 +73,8 @@ fn turn<R: Wait, K: Clock, H: Hold>(
     ensures applied { items_of_records result.0.records ≡ taker.new.taken }
     ensures same { IsSameLog applier result.0 }
     ensures clock { GoesByClock (K.state clock.old) (K.state clock.new) applier result.0 }
+    ensures held { result.1 ≡ attempt.Took Item
+        → H.passed hold.new ≡ passing BeforeApply (H.passed hold.old) }
     ensures log_full { result.1 ≡ attempt.LogFull
         → length result.0.records ≡ result.0.limit }
 {
@@ -136,17 +144,22 @@ fn end_full<R: Wait + time::Clock>(
     board: &Mutex<Board>,
 ) -> FullLog
     requires { length applier.now.records ≡ applier.now.limit }
+    ensures { IfSome result.shown (λ published. published.board ≡ board_of applier.now) }
 {
     gate.stop_taking();
-    show_last(rt, alloc, applier, board);
-    FullLog(())
+    FullLog {
+        shown: show_last(rt, alloc, applier, board),
+    }
 }
 
-// The time until the clock's next second.
-fn until_next_second<R: time::Clock>(rt: &R) -> Duration {
-    let now = SystemTime::now(rt).ok();
-    let since = now.and_then(|now| now.duration_since(SystemTime::UNIX_EPOCH).ok());
-    let within = since.map_or(0, |since| since.subsec_millis());
+// The time until a clock's next second, by the time since the epoch that it shows.
+fn until_next_second(since_epoch: Option<Duration>) -> Duration
+    ensures { as_nanos result ≡ millis_left since_epoch * 1_000_000 }
+{
+    let within = match since_epoch {
+        Some(since) => since.subsec_millis(),
+        None => 0,
+    };
     Duration::from_millis(1_000 - u64::from(within))
 }
 
@@ -178,7 +191,9 @@ fn rest_after<R: Wait + time::Clock>(
         Attempt::Took(Found::Item) | Attempt::LogFull => return last,
     }
     let most = if last.shows_all(applier.records().len(), applier.moment()) {
-        until_next_second(rt)
+        let now = SystemTime::now(rt).ok();
+        let since_epoch = now.and_then(|now| now.duration_since(SystemTime::UNIX_EPOCH).ok());
+        until_next_second(since_epoch)
     } else {
         Duration::from_millis(PAUSE_MILLIS)
     };

@@ -1,4 +1,6 @@
-ghost use Rattle.std.specs.Prelude.{◌≡◌, ◌≤◌, length, None, IfOk, IfErr, IsSome, true, false};
+ghost use Rattle.std.specs.Prelude.{◌≡◌, ◌≤◌, length, None, IfOk, IfErr, IfSome, IsSome, true, false};
+ghost use Rattle.gate_pages.specs.StatusPage.{BoardView};
+ghost use Rattle.gate_boards.specs.Applying.{board_of};
 ghost use Rattle.gate_boards.specs.Boards.{is_due, pauses_after, shows_all};
 ghost use Rattle.gate_boards.specs.inner.Publishing.{IsTried};
 
@@ -20,7 +22,10 @@ pub(crate) enum Found {
 
 /// A board was published: only `replace` makes one of these.
 #[derive(Clone, Copy)]
-pub(crate) struct Published(());
+pub(crate) struct Published {
+    // What it shows.
+    pub(crate) ghost board: { BoardView },
+}
 
 /// The last board that was tried.
 #[derive(Clone, Copy)]
@@ -92,12 +97,13 @@ pub(crate) fn next_board(last: LastBoard, found: Found, records: usize, now: Mom
 // Replaces the board, if the next one could be made.
 fn replace(board: &mut Board, next: Result<Board, AllocError>) -> Option<Published>
     ensures published { IfOk next (λ made. IsSome result × (board.new ≡ made)) }
+    ensures shown { IfSome result (λ published. published.board ≡ board.new) }
     ensures kept { IfErr next (λ _. (result ≡ None) × (board.new ≡ board.old)) }
 {
     match next {
         Ok(next) => {
             publish(board, next);
-            Some(Published(()))
+            Some(Published {})
         }
         Err(_) => None,
     }
@@ -110,7 +116,9 @@ fn try_show<R: Wait>(
     alloc: Global,
     applier: &Applier,
     board: &Mutex<Board>,
-) -> Option<Published> {
+) -> Option<Published>
+    ensures { IfSome result (λ published. published.board ≡ board_of applier.now) }
+{
     let next = Board::of(alloc, applier);
     replace(&mut board.lock(rt), next)
 }
@@ -152,17 +160,20 @@ pub(crate) fn show<R: Wait>(
 }
 
 /// Publishes a board of what the applier shows. Where there is no memory for it, it is tried for a
-/// second.
+/// second. None: there was none.
 pub(crate) fn show_last<R: Wait + Clock>(
     rt: &R,
     alloc: Global,
     applier: &Applier,
     board: &Mutex<Board>,
-) {
+) -> Option<Published>
+    ensures { IfSome result (λ published. published.board ≡ board_of applier.now) }
+{
     for _ in 0..MEMORY_TRIES {
-        if try_show(rt, alloc, applier, board).is_some() {
-            return;
+        if let Some(published) = try_show(rt, alloc, applier, board) {
+            return Some(published);
         }
         pause(rt);
     }
+    None
 }

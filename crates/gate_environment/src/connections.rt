@@ -1,6 +1,8 @@
 ghost use Rattle.std.specs.Prelude.{◌≡◌, ℕ, List, Option, None, IfSome, IsSome, true, option_map};
 ghost use Rattle.gate_model.specs.declared.record.Moment.{Moment};
-ghost use Rattle.gate_environment.specs.Streams.{ComesNext};
+ghost use Rattle.gate_environment.specs.Streams.{AreSent, ComesNext};
+ghost use Rattle.gate_environment.specs.Points.{passing};
+ghost use Rattle.gate_environment.specs.declared.connections.Point.{Point};
 
 use crate::clock::Clock;
 use gate_model::Moment;
@@ -56,8 +58,9 @@ pub trait Connections {
         ensures { streams self.new ≡ streams self.old }
     {}
 
-    /// Ends all connections, once no more are asked for.
-    fn end(&mut self) {}
+    /// Ends all connections, once no more are asked for. None comes after it.
+    fn end(&mut self)
+        ensures { AreSent (streams self.new) };
 }
 
 /// A point of a thread's way at which a `Hold` is called.
@@ -72,8 +75,15 @@ pub enum Point {
 }
 
 /// Holds a thread up at some points of its way.
+///
+/// A type that leaves the member out claims nothing by it.
 pub trait Hold {
-    fn pass(&mut self, point: Point);
+    // The points that the thread has passed, the first one first, where that is known.
+    ghost passed: { Self → Option (List Point) } = { λ _. None };
+
+    /// The thread has come to this point, and goes on once this returns.
+    fn pass(&mut self, point: Point)
+        ensures { passed self.new ≡ passing point (passed self.old) };
 }
 
 /// Holds no thread up.
@@ -113,10 +123,21 @@ impl<'a, K: Watch> Clock for SharedClock<'a, K> {
 
 /// Wakes threads that wait for a connection or for a peer, so that they look at the gate or the board
 /// again.
+///
+/// Who wants to know that they were woken has to wake them: only these calls tell. A type that leaves the
+/// members out claims nothing by them.
 pub trait Wake {
+    // The workers that serve packets were woken.
+    ghost has_woken_agents: { Self → Type 0 } = { λ _. Unit {0} };
+
+    // The thread that serves pages was woken.
+    ghost has_woken_pages: { Self → Type 0 } = { λ _. Unit {0} };
+
     /// Wakes the workers that serve packets, once the gate is closing.
-    fn agents(&self);
+    fn agents(&self)
+        ensures { has_woken_agents self.now };
 
     /// Wakes the thread that serves pages, once a board is published that is marked closing.
-    fn pages(&self);
+    fn pages(&self)
+        ensures { has_woken_pages self.now };
 }

@@ -3,7 +3,6 @@ pub mod Knowledge
 pub mod Closer
 pub mod Client
 pub mod Taker
-pub mod Bell
 pub mod GateClient
 pub mod GateOperator
 pub mod Opening

@@ -86,7 +86,7 @@ impl Client {
         };
         match gate.ring.push_as::<Push, R>(rt, &mut self.pass, item) {
             Ok(()) => {
-                gate.bell.ring();
+                gate.parker.unpark();
                 self.count += 1;
                 Ok(self.count)
             }

@@ -52,7 +52,7 @@ impl Closer {
         };
         match self.knowledge.set(&gate.cell, value) {
             Ok(()) => {
-                gate.bell.ring();
+                gate.parker.unpark();
                 Ok(Notice {
                     knowledge: self.knowledge.again(),
                     moment,

@@ -1,11 +1,11 @@
 ghost use Rattle.std.specs.Prelude.{◌≡◌};
 
-use crate::bell::Bell;
 use crate::rule::Ring;
 use gate_model::Moment;
 use once_cell::race::OnceBox;
 use std::marker::Model;
 use std::sync::atomic::{AtomicBool, Ordering};
+use std::thread::Parker;
 
 /// The queue and the cell in which its close is noted. Clients, taker and closer share it, and each
 /// is used with the gate that it was opened with. Contracts see which gate it is, and its limits.
@@ -16,7 +16,8 @@ pub struct Gate {
     pub(crate) clients: u32,
     pub(crate) quota: u32,
     pub(crate) is_taking: AtomicBool,
-    pub(crate) bell: Bell,
+    // The taker parks on it; whoever queues an item or closes the gate unparks it.
+    pub(crate) parker: Parker,
 }
 
 impl Model for Gate {

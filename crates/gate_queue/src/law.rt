@@ -1,4 +1,3 @@
-ghost use Rattle.gate_queue.specs.Bell.{LosesNoWake};
 ghost use Rattle.gate_queue.specs.Taker.{IsConserved};
 
 use crate::taker::Taker;
@@ -10,9 +9,3 @@ pub fn conservation(taker: &Taker)
 {
     let _ = &taker.pass;
 }
-
-/// The law of the bell that ends the taker's rest, for any schedule of threads: once all who queued an
-/// item or closed the gate have rung, the taker doesn't sleep beside an item or a close. Own rule.
-pub fn no_wake_is_lost()
-    ensures { LosesNoWake }
-{}

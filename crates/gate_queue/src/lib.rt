@@ -4,7 +4,6 @@
 //! was answered is queued. No lock covers the queue and the close.
 #![tactic(auto)]
 
-mod bell;
 mod client;
 mod closer;
 mod gate;
@@ -19,6 +18,6 @@ pub use closer::{Closer, Notice};
 pub use gate::Gate;
 pub use gate_core::{CloseFault, Refused};
 pub use gate_operator::GateOperator;
-pub use law::{conservation, no_wake_is_lost};
+pub use law::conservation;
 pub use opening::{open, open_with};
 pub use taker::Taker;

@@ -8,7 +8,6 @@ ghost use Rattle.gate_queue.specs.Opening.{new_clients, IsNewGate};
 ghost use Rattle.gate_queue.specs.Gate.{gate_id};
 ghost use Rattle.gate_queue.specs.inner.Rule.{opener, taker};
 
-use crate::bell::Bell;
 use crate::client::Client;
 use crate::closer::Closer;
 use crate::gate::Gate;
@@ -21,6 +20,7 @@ use once_cell::race::OnceBox;
 use std::alloc::{AllocError, Global};
 use std::marker::Brand;
 use std::sync::atomic::AtomicBool;
+use std::thread::Parker;
 
 // The numbers with which a gate is opened.
 #[derive(Clone, Copy)]
@@ -109,7 +109,7 @@ fn open_all(alloc: Global, bounds: Bounds) -> Result<(Gate, Taker, Closer, Vec<C
         clients: bounds.clients,
         quota: bounds.quota,
         is_taking: AtomicBool::new(true),
-        bell: Bell::new(),
+        parker: Parker::new(),
     };
     Ok((gate, taker, closer, clients))
 }

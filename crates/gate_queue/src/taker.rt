@@ -11,7 +11,11 @@ use crossbeam_queue::Pass;
 use gate_model::{Moment, Numbered};
 use std::marker::Model;
 use std::sync::Wait;
-use std::time::Duration;
+use std::thread;
+use std::time::{Clock, Duration};
+
+// In what time items are taken together as those of a burst.
+const BURST_MICROS: u64 = 100;
 
 /// The taker, which empties a gate's queue. Contracts see its gate, what was taken, what was queued
 /// for the clients taken in, and the moment of the close, once the taker knows of it.
@@ -79,18 +83,14 @@ impl Taker {
     /// Rests a tenth of a millisecond, so that items of a burst are taken together and don't wake the
     /// taker one by one; and then until an item is queued or the gate is closed, for this time at most.
     /// It may return sooner than it has to. Own rule.
-    pub fn rest<R: Wait>(&mut self, rt: &R, gate: &Gate, most: Duration)
+    pub fn rest<R: Wait + Clock>(&mut self, rt: &R, gate: &Gate, most: Duration)
         requires { self.old.gate ≡ gate.now }
-        ensures same { self.new ≡ taker_state
-            self.old.gate self.old.taken self.old.ended self.new.known_close }
-        ensures known { StaysKnown self.old.known_close self.new.known_close }
+        ensures { self.new ≡ self.old }
     {
-        gate.bell.nap(rt);
-        gate.bell.lie_down();
-        if gate.ring.is_empty_as::<Pop>(&mut self.pass) && self.look(gate).is_none() {
-            gate.bell.sleep(rt, most);
-        }
-        gate.bell.get_up();
+        thread::sleep(rt, Duration::from_micros(BURST_MICROS));
+        // No wake is lost. Whoever queues an item or closes the gate leaves a token after it, with which
+        // this returns at once; a token that it takes away was left before the next look at the queue.
+        gate.parker.park_timeout(rt, most);
     }
 
     /// Learns of the close from a notice.

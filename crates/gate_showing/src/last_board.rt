@@ -58,7 +58,8 @@ pub struct Woken {
 // Wakes the thread that serves pages. Woken before the last board is published, it would end with
 // an earlier one.
 fn wake_pages<W: Wake>(wake: &W, last: LastShown) -> Woken
-    ensures { result.last ≡ last }
+    ensures last { result.last ≡ last }
+    ensures woken { W.has_woken_pages wake.now }
 {
     wake.pages();
     Woken { last }
@@ -74,7 +75,8 @@ pub fn end_pages<R: Wait + Clock, W: Wake>(
     moment: Moment,
     wake: &W,
 ) -> Woken
-    ensures { IfSome result.last.closing (λ shown. shown ≡ moment) }
+    ensures last { IfSome result.last.closing (λ shown. shown ≡ moment) }
+    ensures woken { W.has_woken_pages wake.now }
 {
     wake_pages(wake, show_close(rt, alloc, applier, board, moment))
 }

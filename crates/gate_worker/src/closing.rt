@@ -35,12 +35,16 @@ pub fn close_gate<R: Wait + Clock, K: Watch, W>(closable: &Closable<'_, '_, R, K
 // Closes the gate where nobody has, and wakes the agents' workers.
 pub(crate) fn close_and_wake<R: Wait + Clock, K: Watch, W: Wake>(
     closable: &Closable<'_, '_, R, K, W>,
-) {
+)
+    ensures { W.has_woken_agents closable.now.shared.now.wake.now }
+{
     let notice = close_gate(closable);
     wake_agents(closable.shared.wake, &notice);
 }
 
 // Wakes the agents' workers. Woken before the close, they would end while agents still come.
-fn wake_agents<W: Wake>(wake: &W, _closing: &Notice) {
+fn wake_agents<W: Wake>(wake: &W, _closing: &Notice)
+    ensures { W.has_woken_agents wake.now }
+{
     wake.agents();
 }

@@ -43,6 +43,8 @@ impl<'a> Connections for Sending<'a> {
             output: Nowhere,
         })
     }
+
+    fn end(&mut self) {}
 }
 
 /// A clock that stands at this moment.

@@ -40,6 +40,8 @@ impl<'a> Connections for Sending<'a> {
             output: Vec::new(self.alloc),
         })
     }
+
+    fn end(&mut self) {}
 }
 
 pub fn is_reached(count: &AtomicU64, least: u64) -> bool {

@@ -115,6 +115,8 @@ impl<'a> Connections for OnePeer<'a> {
             self.seen.shown.fetch_add(1, Ordering::SeqCst);
         }
     }
+
+    fn end(&mut self) {}
 }
 
 // Counts the connections that a worker serves.
