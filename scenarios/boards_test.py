@@ -90,6 +90,31 @@ def play_two_of_one_second(program, folder):
     end(daemon, "one second")
 
 
+def seconds_of(daemon, thread):
+    """How many seconds of a processor a thread of a daemon used so far."""
+    with open(f"/proc/{daemon.process.pid}/task/{thread}/schedstat", encoding="ascii") as file:
+        return int(file.read().split()[0]) / 1e9
+
+
+def play_many_comments(program, folder):
+    """With 300,000 comments and ten results a second, boards take a tenth of a processor, and what came is shown in time."""
+    kept = b"".join(b"[1] ADD_HOST_COMMENT;web1;1;bob;comment %d\n" % number for number in range(300_000))
+    daemon = Daemon(program, folder, CONFIGURATION, kept)
+    applier = applier_of(daemon)
+    daemon.page_with(";comment 299999\n")
+    began, used = time.monotonic(), seconds_of(daemon, applier)
+    for number in range(80):
+        send(daemon, b"result %d" % number)
+        time.sleep(0.1)
+    used = (seconds_of(daemon, applier) - used) / (time.monotonic() - began)
+    print(f"many comments: the applier took {used:.3f} of a processor", flush=True)
+    check("many comments: boards take a tenth of a processor, and 0.05 is for the rest", used < 0.15, True)
+    began = time.monotonic()
+    check("many comments: the last result is shown", "result 79\n" in daemon.page_with("result 79\n"), True)
+    check("many comments: it is shown within 6 s", time.monotonic() - began < 6.0, True)
+    check("many comments: all are logged", end(daemon, "many comments").count(" -> Accepted\n"), 300_080)
+
+
 def play_few_descriptors(program, folder):
     """With 16 descriptors and 40 connections the daemon goes on: it serves again once they have gone, even if for a second it
     could accept none of them."""

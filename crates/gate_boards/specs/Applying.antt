@@ -5,7 +5,6 @@ use Rattle.gate_model.specs.declared.record.Record.{Record}
 use Rattle.gate_model.specs.declared.submission.Numbered.{Numbered}
 use Rattle.gate_model.specs.Record.{items_of_records, later}
 use Rattle.gate_applier.specs.Applier.{ApplierView}
-use Rattle.gate_pages.specs.StatusPage.{BoardView, board_at}
 use Rattle.gate_queue.specs.Gate.{GateId}
 use Rattle.gate_queue.specs.Taker.{TakerState}
 use Rattle.gate_environment.specs.Clock.{Takes, ClockState}
@@ -15,10 +14,6 @@ pub record IsSameLog (old new : ApplierView) : Type 0 where
   pub table : new.table ≡ old.table
   pub opening : new.opening ≡ old.opening
   pub limit : new.limit ≡ old.limit
-
--- the board of all that an applier shows
-abbrev pub board_of : ApplierView → BoardView
-board_of shown = board_at shown.table shown.opening shown.records shown.moment
 
 -- what an applier's clock read, and the item that was applied then, if any
 pub record Reading : Type 0 where

@@ -1,6 +1,6 @@
--- When the applier publishes a board: is_due. Own rules, by the times of the daemon: a pause is 2 ms, and moments are
--- whole seconds.
-use Rattle.std.specs.Prelude.{ℕ, ◌-◌, ◌%◌, ◌/◌, pred, max, is_some, Option, Some, None, Bool, true, false, not, ◌&&◌, ◌==◌, nat_lt, nat_le}
+-- When the applier publishes a board: is_due. Own rules, by the times of the daemon: moments are whole seconds, and all other
+-- times are in milliseconds.
+use Rattle.std.specs.Prelude.{ℕ, ◌-◌, ◌*◌, ◌%◌, ◌/◌, if◌then◌else◌, pred, min, max, is_some, Option, Some, None, Bool, true, false, not, ◌&&◌, ◌==◌, nat_lt, nat_le}
 use Rattle.std.specs.declared.time.Duration.{Duration}
 use Rattle.std.specs.Duration.{as_nanos}
 use Rattle.gate_model.specs.declared.record.Moment.{Moment}
@@ -12,17 +12,26 @@ use Rattle.gate_boards.specs.declared.boards.LastBoard.{LastBoard}
 abbrev pub shows_all : LastBoard → ℕ → Moment → Bool
 shows_all board records now = is_some board.published && ((board.records == records) && nat_le now.0 board.moment.0)
 
--- after an item, where the second of the last board is over; where none was found, once no pause is left and the last
--- board doesn't show all
-abbrev pub is_due : Found → LastBoard → ℕ → Moment → Bool
-is_due Item board records now = nat_lt board.moment.0 now.0
-is_due Nothing board records now = (board.pauses_left == 0) && not (shows_all board records now)
+-- for how long no other board is made after one that took so long: nine times as long, from 50 ms to 5 s
+abbrev pub rest_after : ℕ → ℕ
+rest_after took = max 50 (min 5000 (9 * took))
 
--- how many pauses stand before the next board: 25 after one, 3 at least after an item, and otherwise one less
-abbrev pub pauses_after : Found → Bool → ℕ → ℕ
-pauses_after found true pauses = 25
-pauses_after Item false pauses = max 3 pauses
-pauses_after Nothing false pauses = pred pauses
+-- Once so long a time has passed since the last board that it has rested: after an item, where the second of the last board is
+-- over; where none was found, once it was quiet for long enough and the last board doesn't show all.
+abbrev pub is_due : Found → LastBoard → ℕ → Moment → ℕ → Bool
+is_due Item board records now passed = nat_lt board.moment.0 now.0 && nat_le board.rest_millis passed
+is_due Nothing board records now passed =
+    (board.quiet_pauses == 0) && (not (shows_all board records now) && nat_le board.rest_millis passed)
+
+-- how many turns without an item come before a board: three after an item, and otherwise one less than before
+abbrev pub quiet_after : Found → ℕ → ℕ
+quiet_after Item pauses = 3
+quiet_after Nothing pauses = pred pauses
+
+-- how long the applier sleeps where a board isn't due yet: until the last one has rested, and 2 ms at least; 2 ms until it was
+-- quiet for long enough
+abbrev pub sleep_before : LastBoard → ℕ → ℕ
+sleep_before board passed = if board.quiet_pauses == 0 then max 2 (board.rest_millis - passed) else 2
 
 -- how many milliseconds of a clock's second are left, 1 to 1,000, by the time since the epoch that it shows; 1,000 where it shows none
 abbrev pub millis_left : Option Duration → ℕ

@@ -1,9 +1,9 @@
-ghost use Rattle.std.specs.Prelude.{◌≡◌, ◌*◌, ◌≤◌, IsSome, IfSome, length};
+ghost use Rattle.std.specs.Prelude.{◌≡◌, ◌≢◌, ◌*◌, ◌≤◌, IsSome, length};
 ghost use Rattle.std.specs.Duration.{as_nanos};
 ghost use Rattle.gate_model.specs.Record.{items_of_records};
 ghost use Rattle.gate_boards.specs.declared.applying.ApplierStop.TheVariants.{Closing, LogFull};
 ghost use Rattle.gate_boards.specs.declared.applying.FullLog.{FullLog};
-ghost use Rattle.gate_boards.specs.Applying.{board_of, GoesByClock, IsSameLog};
+ghost use Rattle.gate_boards.specs.Applying.{GoesByClock, IsSameLog};
 ghost use Rattle.gate_boards.specs.Boards.{millis_left};
 ghost use Rattle.gate_boards.specs.inner.Publishing.{GoesOn};
 ghost use Rattle.gate_boards.specs.declared.applying.Attempt.TheVariants as attempt;
@@ -11,16 +11,16 @@ ghost use Rattle.gate_boards.specs.declared.boards.Found.TheVariants.{Item, Noth
 ghost use Rattle.gate_environment.specs.Points.{passing};
 ghost use Rattle.gate_environment.specs.declared.connections.Point.TheVariants.{BeforeApply};
 
-use crate::boards::{Found, LastBoard, Published, show, show_last};
+use crate::boards::{Found, LastBoard, Published, millis_since, replace, show};
 use gate_applier::{Applier, PrepareCause, PrepareFault};
-use gate_environment::times::PAUSE_MILLIS;
+use gate_environment::times::MEMORY_TRIES;
 use gate_environment::{Clock, Hold, Point, pause};
 use gate_pages::Board;
 use gate_queue::{Gate, Taker};
 use std::alloc::Global;
 use std::sync::{Mutex, Wait};
 use std::time;
-use std::time::{Duration, Instant, SystemTime};
+use std::time::{Duration, SystemTime};
 
 /// Why the applier stopped. Own rules.
 #[derive(Clone, Copy)]
@@ -49,7 +49,8 @@ pub(crate) enum Attempt {
 
 // Why the applier can't apply one more record.
 fn refused_attempt(cause: PrepareCause) -> Attempt
-    ensures { result ≡ attempt.LogFull → cause ≡ PrepareCause.LogFull }
+    ensures full { result ≡ attempt.LogFull → cause ≡ PrepareCause.LogFull }
+    ensures took_none { result ≢ attempt.Took Item }
 {
     match cause {
         PrepareCause::LogFull => Attempt::LogFull,
@@ -108,7 +109,7 @@ fn go_on<K: Clock>(applier: &mut Applier, clock: &mut K)
 
 // Publishes a board, where one is due. Where no item was found, the applier goes on with the clock
 // before it.
-fn show_turn<R: Wait, K: Clock>(
+fn show_turn<R: Wait + time::Clock, K: Clock>(
     rt: &R,
     alloc: Global,
     applier: &mut Applier,
@@ -117,8 +118,8 @@ fn show_turn<R: Wait, K: Clock>(
     last: LastBoard,
     board: &Mutex<Board>,
 ) -> LastBoard
-    requires pauses { last.pauses_left ≤ 25 }
-    ensures pauses { result.pauses_left ≤ 25 }
+    requires rest { last.rest_millis ≤ 5_000 }
+    ensures rest { result.rest_millis ≤ 5_000 }
     ensures clock { GoesByClock
         (K.state clock.old) (K.state clock.new) applier.old applier.new }
     ensures idle { found ≡ Nothing → GoesOn (K.state clock.old) (K.state clock.new)
@@ -126,11 +127,12 @@ fn show_turn<R: Wait, K: Clock>(
     ensures records { applier.new.records ≡ applier.old.records }
     ensures same { IsSameLog applier.old applier.new }
 {
+    let passed_millis = millis_since(rt, last.ended);
     match found {
-        Found::Item => show(rt, alloc, applier, found, last, board),
+        Found::Item => show(rt, alloc, applier, found, last, passed_millis, board),
         Found::Nothing => {
             go_on(applier, clock);
-            show(rt, alloc, applier, found, last, board)
+            show(rt, alloc, applier, found, last, passed_millis, board)
         }
     }
 }
@@ -144,12 +146,18 @@ fn end_full<R: Wait + time::Clock>(
     board: &Mutex<Board>,
 ) -> FullLog
     requires { length applier.now.records ≡ applier.now.limit }
-    ensures { IfSome result.shown (λ published. published.board ≡ board_of applier.now) }
 {
     gate.stop_taking();
-    FullLog {
-        shown: show_last(rt, alloc, applier, board),
+    for _ in 0..MEMORY_TRIES {
+        let next = Board::of(alloc, applier);
+        if let Some(published) = replace(&mut board.lock(rt), next) {
+            return FullLog {
+                shown: Some(published),
+            };
+        }
+        pause(rt);
     }
+    FullLog { shown: None }
 }
 
 // The time until a clock's next second, by the time since the epoch that it shows.
@@ -163,8 +171,8 @@ fn until_next_second(since_epoch: Option<Duration>) -> Duration
     Duration::from_millis(1_000 - u64::from(within))
 }
 
-// Rests until an item is queued or the gate is closed, where the queue was empty: for a pause where a
-// board is still due, and otherwise until the clock's next second.
+// Rests until an item is queued or the gate is closed, where the queue was empty: until a board is due
+// where one is needed, and otherwise until the clock's next second.
 fn rest_after<R: Wait + time::Clock>(
     rt: &R,
     gate: &Gate,
@@ -172,42 +180,35 @@ fn rest_after<R: Wait + time::Clock>(
     applier: &Applier,
     attempt: Attempt,
     last: LastBoard,
-) -> LastBoard
-    requires gate { taker.old.gate ≡ gate.now }
-    requires pauses { last.pauses_left ≤ 25 }
-    ensures gate { taker.new.gate ≡ taker.old.gate }
-    ensures taken { taker.new.taken ≡ taker.old.taken }
-    ensures ended { taker.new.ended ≡ taker.old.ended }
-    ensures same { result ≡ record last { pauses_left = result.pauses_left } }
-    ensures pauses { result.pauses_left ≤ 25 }
+)
+    requires { taker.old.gate ≡ gate.now }
+    ensures { taker.new ≡ taker.old }
 {
     match attempt {
         Attempt::Took(Found::Nothing) => {}
         // An item may be queued that can't be applied, for which it would not rest.
         Attempt::OutOfMemory => {
             pause(rt);
-            return last;
+            return;
         }
-        Attempt::Took(Found::Item) | Attempt::LogFull => return last,
+        Attempt::Took(Found::Item) | Attempt::LogFull => return,
     }
     let most = if last.shows_all(applier.records().len(), applier.moment()) {
         let now = SystemTime::now(rt).ok();
         let since_epoch = now.and_then(|now| now.duration_since(SystemTime::UNIX_EPOCH).ok());
         until_next_second(since_epoch)
     } else {
-        Duration::from_millis(PAUSE_MILLIS)
+        Duration::from_millis(last.sleep_millis(millis_since(rt, last.ended)))
     };
-    let began = Instant::now(rt);
     taker.rest(rt, gate, most);
-    let rested = began.and_then(|began| began.elapsed(rt));
-    last.after_rest(rested.unwrap_or(Duration::from_millis(PAUSE_MILLIS)))
 }
 
 /// Takes and applies the items of the queue, one by one, each at the clock's moment or the
 /// applier's, whichever is later. While no item comes it goes on to the clock's moment, and publishes
-/// a board where something was applied or a second has passed, at most every 50 ms. While items come
-/// one after another a board is published each second. It sleeps until an item is queued or the gate
-/// is closed, and wakes each second.
+/// a board where something was applied or a second has passed. While items come one after another a
+/// board is published where a second has passed. After each board none is made for nine times as long as
+/// it took, for 50 ms at least and 5 s at most. It sleeps until an item is queued or the gate is closed,
+/// and wakes each second.
 ///
 /// It stops where the gate is closing and the queue is empty or memory for one more record is missing,
 /// and where the log is full, once a board shows all of it or memory for one is missing for a second:
@@ -245,7 +246,9 @@ pub fn run_applier<R: Wait + time::Clock, K: Clock, H: Hold + Drop>(
         records: 0,
         moment: applier.moment(),
         published: None,
-        pauses_left: 0,
+        ended: None,
+        rest_millis: 0,
+        quiet_pauses: 0,
     };
     for _ in rt.forever() {
         let (next, attempt) = turn(rt, gate, &mut taker, applier, clock, &mut hold);
@@ -264,7 +267,7 @@ pub fn run_applier<R: Wait + time::Clock, K: Clock, H: Hold + Drop>(
             }
         };
         last = show_turn(rt, alloc, &mut applier, found, clock, last, board);
-        last = rest_after(rt, gate, &mut taker, &applier, attempt, last);
+        rest_after(rt, gate, &mut taker, &applier, attempt, last);
     }
     unreachable!()
 }

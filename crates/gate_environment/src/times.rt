@@ -84,9 +84,16 @@ pub const ROOM_PAUSE_MICROS: u64 = 200;
 
 const _: () = prove!(ROOM_PAUSE_MICROS * 10 == PAUSE_MILLIS * 1_000);
 
-/// How many rests of the applier lie between two boards.
-pub const BOARD_PAUSES: u32 = 25;
+/// For how many times as long as a board took no other one is made: a tenth of the time at most goes
+/// into boards.
+pub const BOARD_RESTS: u64 = 9;
 
-/// How many rests without an item come before a board. While items come one after another, a board is
-/// made each second.
+/// For how long at least no other board is made after one.
+pub const LEAST_BOARD_REST_MILLIS: u64 = 50;
+
+/// For how long at most no other board is made after one, where something isn't shown.
+pub const MOST_BOARD_REST_MILLIS: u64 = 5_000;
+
+/// How many rests of the applier without an item come before a board. While items come one after
+/// another, a board is made each second at most.
 pub const QUIET_PAUSES: u32 = 3;

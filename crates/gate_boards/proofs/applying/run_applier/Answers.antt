@@ -36,8 +36,8 @@ turn-next-requires-clause-applied g c = c.loop.invariant.3
 pub look-requires : goal.look-requires
 look-requires g c = c.turn-next.ensures.gate ∙ c.loop.invariant.2
 
-pub rest_after-last-requires-clause-gate : goal.rest_after-last-requires-clause-gate
-rest_after-last-requires-clause-gate g c = elim c.match-attempt.branch [
+pub rest_after-requires : goal.rest_after-requires
+rest_after-requires g c = elim c.match-attempt.branch [
   | in-Took-Item w ↦ ap (λ (t : TakerState). t.gate) w.taker-is ∙ c.turn-next.ensures.gate ∙ c.loop.invariant.2
   | in-Took-Nothing+else-is_some w ↦ ap (λ (t : TakerState). t.gate) (w.taker-is ∙ w.look.ensures.known) ∙ c.turn-next.ensures.gate ∙ c.loop.invariant.2
 ]
@@ -62,12 +62,12 @@ loop-preserved g c =
     ] in (
       tt,
       tt,
-      c.rest_after-last.ensures.gate ∙ gate ∙ c.turn-next.ensures.gate ∙ c.loop.invariant.2,
-      ap items_of_records c.show_turn-last.ensures.records ∙ c.turn-next.ensures.applied ∙ sym taken ∙ sym c.rest_after-last.ensures.taken,
-      c.rest_after-last.ensures.ended ∙ ended ∙ c.turn-next.ensures.ended ∙ c.loop.invariant.4,
+      ap (λ (t : TakerState). t.gate) c.rest_after.ensures ∙ gate ∙ c.turn-next.ensures.gate ∙ c.loop.invariant.2,
+      ap items_of_records c.show_turn-last.ensures.records ∙ c.turn-next.ensures.applied ∙ sym taken ∙ sym (ap (λ (t : TakerState). t.taken) c.rest_after.ensures),
+      ap (λ (t : TakerState). t.ended) c.rest_after.ensures ∙ ended ∙ c.turn-next.ensures.ended ∙ c.loop.invariant.4,
       same_both c.args.applier c.turn-next.result.0 c.show_turn-last.new.applier
           (same_both c.args.applier c.loop.applier c.turn-next.result.0 c.loop.invariant.5 c.turn-next.ensures.same) c.show_turn-last.ensures.same,
-      c.rest_after-last.ensures.pauses,
+      c.show_turn-last.ensures.rest,
       both before between (g.K.Clock.state c.show_turn-last.new.clock) c.args.applier c.turn-next.result.0 c.show_turn-last.new.applier turned
           c.show_turn-last.ensures.clock,
     )

@@ -8,5 +8,5 @@ invariant-loop g l =
     (goal.iterator-loop g).can_next l.iterator' × (goal.iterator-loop g).is_finite l.iterator'
     × (l.taker.gate ≡ l.gate) × (items_of_records l.applier.records ≡ l.taker.taken) × (l.taker.ended ≡ l.initial.taker.ended)
     × IsSameLog l.initial.applier l.applier
-    × (l.last.pauses_left ≤ 25)
+    × (l.last.rest_millis ≤ 5000)
     × GoesByClock (g.K.Clock.state l.fn.clock) (g.K.Clock.state l.clock) l.initial.applier l.applier

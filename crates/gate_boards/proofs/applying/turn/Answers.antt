@@ -33,10 +33,13 @@ returns-in-Some-clause-applied g c =
     ∙ ap (λ l. l ++ c.in-Some.item ∷ []) (ap (λ (view : ApplierView). items_of_records view.records) c.in-Ok.ensures.ready ∙ c.requires.applied)
     ∙ search rules
 
+pub returns-in-Err-clause-held : goal.returns-in-Err-clause-held
+returns-in-Err-clause-held g c = λ took. absurd (c.refused_attempt.ensures.took_none took)
+
 pub returns-in-Err-clause-log_full : goal.returns-in-Err-clause-log_full
 returns-in-Err-clause-log_full g c = λ full.
     subst (λ (view : ApplierView). length view.records ≡ view.limit) (sym c.in-Err.ensures.kept)
-    (c.in-Err.ensures.only_log_full (c.refused_attempt.ensures full))
+    (c.in-Err.ensures.only_log_full (c.refused_attempt.ensures.full full))
 
 pub returns-in-Some-clause-log_full : goal.returns-in-Some-clause-log_full
 returns-in-Some-clause-log_full g c = λ same. took_is_not_full _ _ same
