@@ -1,4 +1,6 @@
-use gate_environment::{Connections, Piece, Wake, Watch};
+ghost use Rattle.std.specs.Prelude.{◌≡◌};
+
+use gate_environment::{Connections, Piece, PieceEnd, Wake, Watch};
 use gate_model::Moment;
 use gate_reader::SessionLimits;
 use gate_streams::Sink;
@@ -43,6 +45,10 @@ impl<'a> Connections for Sending<'a> {
             output: Nowhere,
         })
     }
+
+    fn part(&mut self, _piece: Piece<&'a [u8], Nowhere>, _end: PieceEnd)
+        ensures { self.new.connections ≡ self.old.connections }
+    {}
 
     fn end(&mut self) {}
 }

@@ -2,7 +2,7 @@ ghost use Rattle.std.specs.Prelude.{◌≡◌, IfSome};
 
 use crate::parts::packet_of;
 use gate_daemon::GatewaySettings;
-use gate_environment::{Connections, Piece, Wake, Watch};
+use gate_environment::{Connections, Piece, PieceEnd, Wake, Watch};
 use gate_model::Moment;
 use gate_packet::{PACKET_SIZE, encode};
 use gate_reader::SessionLimits;
@@ -40,6 +40,10 @@ impl<'a> Connections for Sending<'a> {
             output: Vec::new(self.alloc),
         })
     }
+
+    fn part(&mut self, _piece: Piece<&'a [u8], Vec<u8>>, _end: PieceEnd)
+        ensures { self.new.connections ≡ self.old.connections }
+    {}
 
     fn end(&mut self) {}
 }

@@ -1,3 +1,5 @@
+ghost use Rattle.std.specs.Prelude.{◌≡◌};
+
 use crate::fakes::{AlwaysAt, is_reached, packet, settings};
 use gate_daemon::{Endpoints, run_gateway};
 use gate_environment::{Connections, Hold, Piece, PieceEnd, Point, Wake};
@@ -106,7 +108,9 @@ impl<'a> Connections for OnePeer<'a> {
         }
     }
 
-    fn part(&mut self, piece: Piece<&'a [u8], Vec<u8>>, _end: PieceEnd) {
+    fn part(&mut self, piece: Piece<&'a [u8], Vec<u8>>, _end: PieceEnd)
+        ensures { self.new.is_left ≡ self.old.is_left }
+    {
         let written = piece.output.as_slice();
         if written == LAST_PAGE {
             self.seen.last_pages.fetch_add(1, Ordering::SeqCst);
