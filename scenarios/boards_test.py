@@ -11,7 +11,8 @@ import threading
 import time
 import traceback
 
-from daemon_clients import CONFIGURATION, TIME_LIMIT, Daemon, ask, check, end_tests, packet, read_exactly, run_plays
+from daemon_clients import (CONFIGURATION, TIME_LIMIT, Daemon, applier_of, ask, check, end_tests, packet, read_exactly,
+                            run_plays)
 
 
 def send(daemon, output):
@@ -99,7 +100,7 @@ def seconds_of(daemon, thread):
 def play_many_comments(program, folder):
     """With 300,000 comments and ten results a second, boards take a tenth of a processor, and what came is shown in time."""
     kept = b"".join(b"[1] ADD_HOST_COMMENT;web1;1;bob;comment %d\n" % number for number in range(300_000))
-    daemon = Daemon(program, folder, CONFIGURATION, kept)
+    daemon = Daemon(program, folder, CONFIGURATION.replace("limit = 100000", "limit = 1000000"), kept)
     applier = applier_of(daemon)
     daemon.page_with(";comment 299999\n")
     began, used = time.monotonic(), seconds_of(daemon, applier)
@@ -226,7 +227,7 @@ def main():
                     " FAIL_ALLOC_MARK=\"$folder/refused\"")
             wrapped(sys.argv[1], folder, "thread_too_few",
                     f"export LD_PRELOAD='{sys.argv[2]}' FAIL_THREAD=\"$(basename \"$(dirname \"$3\")\")\"")
-        run_plays(PLAYS, sys.argv[1], folder)
+        run_plays(PLAYS, sys.argv[1], folder, alone=(play_many_comments,))
     end_tests()
 
 
