@@ -1,6 +1,6 @@
 //! The word `restore`: its files, and what it prints.
 
-ghost use Rattle.std.specs.Prelude.{◌≡◌, ◌≤◌, ◌++◌, map, IfErr, IfOk, OnOk};
+ghost use Rattle.std.specs.Prelude.{◌≡◌, ◌≤◌, ◌++◌, IfErr, IfOk, OnOk};
 ghost use Rattle.std.specs.List.{flat_map};
 ghost use Rattle.operator_restoring.specs.Faults.{IsOutputFault, IsNotRestored};
 ghost use Rattle.operator_restoring.specs.Restored.{commands_of, left_line, IsPrinted, is_old_asked, IsRestoreEnd};
@@ -49,7 +49,7 @@ fn commands_of(
 // Appends the lines that name these commands.
 fn push_left(alloc: Global, out: &mut Vec<u8>, left: &[&Command]) -> Result<(), AllocError>
     ensures { OnOk result (out.new.items
-        ≡ out.old.items ++ flat_map left_line (map (λ one. one.now) left.now)) }
+        ≡ out.old.items ++ flat_map (λ one. left_line one.now) left.now) }
 {
     for command in left {
         push_command(
