@@ -192,7 +192,7 @@ def answers_to(steps, queued, capacity):
 def judge_worker(steps, capacity):
     """Of a worker whose sessions each have these steps, over a queue with room for so many items: one session at most is out
     of memory, its answers are the first ones of its steps, and the next session goes on. What is queued is what was answered
-    so, whatever ends the worker."""
+    so, whatever ends the worker. One refusal ends none: it tries again for a second."""
 
     def judge(ample, printed):
         call, text = begun(printed)
@@ -217,10 +217,13 @@ def judge_worker(steps, capacity):
         if len(starved) + bool(call) + (cause == "OutOfMemory") > 1:
             raise Wrong("more than one call was out of memory")
         if cause == "OutOfMemory":
-            return "run_worker"
-        # A session that was out of memory before its first answer has no report.
+            raise Wrong("one refusal ended it")
+        # A session of which nothing was queued has no report: neither one that was out of memory before, nor the one that meets the
+        # close where the queue is full.
+        goes_on = cause == "Closing" and bool(starved)
+        is_full = goes_on and reports[-1].startswith("OutOfMemory") and not queued_in(" ".join(answers_to(steps, queued, capacity)))
         is_silent = not starved and not call and cause == "NoMoreConnections" and len(reports) == len(wanted) - 1
-        if cause != wanted_cause or len(reports) + is_silent != len(wanted) + (bool(starved) and cause == "Closing"):
+        if cause != wanted_cause or len(reports) + is_silent != len(wanted) + (goes_on and not is_full):
             raise Wrong("another cause")
         if is_silent:
             return "a session"
@@ -305,14 +308,14 @@ def main():
     refuse_each("a gate", "show_gate", ["close"], b"", judge_close, ["open", "close", "close_all"])
     check("a full log, by show_gate full", run("show_gate", ["full"], b"", 0, ""), (0, FULL))
     refuse_each("TooManySessions", "show_gate", ["worker"], long + short, judge_worker([PUSH, PUSH], 16),
-                ["open", "run_worker", "a session"])
+                ["open", "a session"])
     refuse_each("Closing", "show_gate", ["operator"], SHUTDOWN,
                 judge_worker([PUSH, "Bad(UnknownCommand)", PUSH, "Down(Moment(1500))"], 1),
-                ["open", "run_worker", "a session", "the close"])
+                ["open", "a session", "the close"])
     refuse_each("NoMoreConnections", "show_gate", ["operator"], SHUTDOWN[:-len(lines_of(b"SHUTDOWN_PROGRAM"))],
-                judge_worker([PUSH, "Bad(UnknownCommand)", PUSH], 1), ["open", "run_worker", "a session"])
+                judge_worker([PUSH, "Bad(UnknownCommand)", PUSH], 1), ["open", "a session"])
     refuse_each("a gateway", "show_gate", ["gateway"], long, judge_gateway,
-                ["Queue(OutOfMemory)", "Applier(OutOfMemory)", "OutOfMemory", "the operator's worker", "the operator's session"],
+                ["Queue(OutOfMemory)", "Applier(OutOfMemory)", "OutOfMemory", "the operator's session"],
                 rounds=10)
     end_tests()
 
