@@ -17,6 +17,7 @@ use Rattle.gate_reader.specs.declared.report.Answer.{Answer}
 use Rattle.gate_reader.specs.declared.report.Report.{Report}
 use Rattle.gate_reader.specs.Report.{answer_line}
 use Rattle.gate_streams.specs.Sink.{SinkState, Fails, Writes}
+use Rattle.gate_faults.specs.declared.fault.RunFault.TheVariants as run
 use Rattle.gate_replay.specs.declared.fault.ReplayFault.{ReplayFault}
 use Rattle.gate_replay.specs.declared.fault.ReplayFault.TheVariants as replay_fault
 use Rattle.gate_replay.specs.declared.player.Player.{Player}
@@ -157,10 +158,11 @@ plays_session view (Err stop) was mid step before after served session drained =
 write_end_on : (a b c : SinkState) (fault : ReplayFault) → Fails a.tally b.tally 0 → IsWriteEnd b c fault → IsWriteEnd a c fault
 write_end_on a b c replay_fault.TooLong h k = k
 write_end_on a b c (replay_fault.Line number) h k = k
-write_end_on a b c replay_fault.LogFull h k = k
-write_end_on a b c replay_fault.OutOfMemory h k = fails_then a.tally b.tally c.tally 1 h k
-write_end_on a b c replay_fault.ReadFault h k = k
-write_end_on a b c replay_fault.WriteFault h k = fails_then a.tally b.tally c.tally 1 h k
+write_end_on a b c (replay_fault.Run run.LogFull) h k = k
+write_end_on a b c (replay_fault.Run run.OutOfMemory) h k = fails_then a.tally b.tally c.tally 1 h k
+write_end_on a b c (replay_fault.Run run.ReadFault) h k = k
+write_end_on a b c (replay_fault.Run run.Spawn) h k = k
+write_end_on a b c (replay_fault.Run run.WriteFault) h k = fails_then a.tally b.tally c.tally 1 h k
 
 -- memory ran out, or a write failed, before the step was printed
 stays_before : {D : Type 0} (view : SoloView D) (s : Setting) (was : Player D) (kept : ApplierView) (before after : SinkState) (g : ReplayState) → kept ≡ record was.applier { moment = kept.moment; room = kept.room } → after ≡ before → Shows view s was before g → Stays view s kept after g

@@ -4,8 +4,9 @@ use Rattle.std.specs.Prelude.{IfSome, option_map}
 use Rattle.std.proofs.lemmas.List.{length-take}
 use Rattle.gate_core.specs.Limits.{Limits}
 use Rattle.gate_core.specs.Legal.{Run}
+use Rattle.gate_faults.specs.declared.fault.RunFault.TheVariants as run
 use Rattle.gate_replay.specs.declared.fault.ReplayFault.{ReplayFault}
-use Rattle.gate_replay.specs.declared.fault.ReplayFault.TheVariants.{TooLong, Line, LogFull, OutOfMemory, ReadFault, WriteFault}
+use Rattle.gate_replay.specs.declared.fault.ReplayFault.TheVariants.{TooLong, Line, Run as OfRun}
 use Rattle.gate_replay.specs.declared.script.Script.{Script}
 use Rattle.gate_replay.specs.Script.{parsed_script_lines, IsScript}
 use Rattle.gate_streams.specs.Sink.{SinkState, FailsOnce}
@@ -25,13 +26,14 @@ pub played_input : (rules : Limits → Run → Type 0) (input : Option (List ℕ
 played_input rules input text played None b a whole short parsed h = record { text = text; whole = whole; short = short; script = played; parsed = parsed; replayed = h.replayed; played = h.played; full_is = h.full_is; printed = h.printed }
 played_input rules input text played (Some TooLong) b a whole short parsed h = absurd h
 played_input rules input text played (Some (Line number)) b a whole short parsed h = absurd h
-played_input rules input text played (Some LogFull) b a whole short parsed h = record { text = text; whole = whole; short = short; script = played; parsed = parsed; replayed = h.replayed; played = h.played; full_is = h.full_is; printed = h.printed }
-played_input rules input text played (Some OutOfMemory) b a whole short parsed h =
+played_input rules input text played (Some (OfRun run.LogFull)) b a whole short parsed h = record { text = text; whole = whole; short = short; script = played; parsed = parsed; replayed = h.replayed; played = h.played; full_is = h.full_is; printed = h.printed }
+played_input rules input text played (Some (OfRun run.OutOfMemory)) b a whole short parsed h =
     ⊎_elim (λ (same : a ≡ b). inl same)
     (λ (rest : FailsOnce b a ⊎ IsPrintedSoFar rules played b a).
     ⊎_elim (λ (f : FailsOnce b a). inr (inl f))
-    (λ (p : IsPrintedSoFar rules played b a). inr (inr (record { text = text; whole = whole; short = short; script = played; parsed = parsed; replayed = p.replayed; played = p.played; printed = p.printed })))
+    (λ (p : IsPrintedSoFar rules played b a). inr (inr (record { text = text; whole = whole; short = short; script = played; parsed = parsed; replayed = p.replayed; played = p.played; room = p.room; printed = p.printed })))
     rest)
     h
-played_input rules input text played (Some ReadFault) b a whole short parsed h = absurd h
-played_input rules input text played (Some WriteFault) b a whole short parsed h = h
+played_input rules input text played (Some (OfRun run.ReadFault)) b a whole short parsed h = absurd h
+played_input rules input text played (Some (OfRun run.Spawn)) b a whole short parsed h = absurd h
+played_input rules input text played (Some (OfRun run.WriteFault)) b a whole short parsed h = h

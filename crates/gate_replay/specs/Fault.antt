@@ -2,30 +2,26 @@
 -- Own rules: both.
 use Rattle.std.specs.Prelude.{ℕ, List, ◌++◌, codes}
 use Rattle.std.specs.Fmt.{decimal}
+use Rattle.gate_faults.specs.Fault as faults
+use Rattle.gate_faults.specs.declared.fault.RunFault.TheVariants as run
 use Rattle.gate_replay.specs.declared.script.ScriptFault.{ScriptFault}
 use Rattle.gate_replay.specs.declared.script.ScriptFault.TheVariants as script
 use Rattle.gate_replay.specs.declared.fault.ReplayFault.{ReplayFault}
-use Rattle.gate_replay.specs.declared.fault.ReplayFault.TheVariants.{TooLong, Line, LogFull, OutOfMemory, ReadFault, WriteFault}
+use Rattle.gate_replay.specs.declared.fault.ReplayFault.TheVariants.{TooLong, Line, Run}
 
 -- a script's fault, as a fault of its replay
 abbrev pub replay_fault : ScriptFault → ReplayFault
 replay_fault (script.Line number) = Line number
-replay_fault script.OutOfMemory = OutOfMemory
+replay_fault script.OutOfMemory = Run run.OutOfMemory
 
 -- the exit status of a program that stops so
 abbrev pub status_of : ReplayFault → ℕ
 status_of TooLong = 2
 status_of (Line number) = 2
-status_of LogFull = 3
-status_of OutOfMemory = 3
-status_of ReadFault = 3
-status_of WriteFault = 3
+status_of (Run fault) = 3
 
 -- the line that reports the fault
 abbrev pub message_of : ReplayFault → List ℕ
 message_of TooLong = codes "nscagate: script too long\n"
 message_of (Line number) = codes "nscagate: script line " ++ decimal number ++ codes "\n"
-message_of LogFull = codes "nscagate: LogFull\n"
-message_of OutOfMemory = codes "nscagate: OutOfMemory\n"
-message_of ReadFault = codes "nscagate: ReadFault\n"
-message_of WriteFault = codes "nscagate: WriteFault\n"
+message_of (Run fault) = faults.message_of fault

@@ -10,8 +10,9 @@ use Rattle.gate_streams.specs.Fault.{status_at_end, IsFaultReported}
 use Rattle.gate_streams.specs.Sink.{SinkState, Delivers, FailsOnce}
 use Rattle.gate_lines.specs.LogPage.{log_text}
 use Rattle.gate_replay.specs.declared.script.Script.{Script}
+use Rattle.gate_faults.specs.declared.fault.RunFault.TheVariants as run
 use Rattle.gate_replay.specs.declared.fault.ReplayFault.{ReplayFault}
-use Rattle.gate_replay.specs.declared.fault.ReplayFault.TheVariants.{TooLong, Line, LogFull, OutOfMemory, ReadFault, WriteFault}
+use Rattle.gate_replay.specs.declared.fault.ReplayFault.TheVariants.{TooLong, Line, Run as OfRun}
 use Rattle.gate_replay.specs.Script.{parsed_script_lines, IsScript, IsFirstFaultyLine}
 use Rattle.gate_replay.specs.ReplayState.{ReplayState, IsPlayed, IsPlayedSoFar}
 use Rattle.gate_replay.specs.Fault.{status_of, message_of}
@@ -42,13 +43,8 @@ pub record IsReplay (rules : Limits → Run → Type 0) (input : Option (List �
 abbrev pub HasRoomLeft : Script → ReplayState → Type 0
 HasRoomLeft script g = g.full ≡ true → length g.records < script.setup.limit
 
--- these first steps were printed and delivered, without the log page after them; or with it, where the log isn't full
--- with an item left
-abbrev pub PrintsSoFar : Script → ReplayState → SinkState → SinkState → Type 0
-PrintsSoFar script g before after =
-    Delivers before after g.printed ⊎ (HasRoomLeft script g × Delivers before after (printed_by script g))
-
--- the input is a script, a gateway played the first of its steps, and the output grew by what these print
+-- the input is a script, a gateway played the first of its steps, the log wasn't full with an item left, and the output
+-- grew by what these steps print and the log page after it
 pub record IsCutShort (rules : Limits → Run → Type 0) (input : Option (List ℕ)) (before after : SinkState)
     : Type 0 where
   pub text : List ℕ
@@ -58,7 +54,8 @@ pub record IsCutShort (rules : Limits → Run → Type 0) (input : Option (List 
   pub parsed : IsScript (parsed_script_lines text) script
   pub replayed : ReplayState
   pub played : IsPlayedSoFar rules script replayed
-  pub printed : PrintsSoFar script replayed before after
+  pub room : HasRoomLeft script replayed
+  pub printed : Delivers before after (printed_by script replayed)
 
 -- the input is no longer than a script may be, and its first faulty line has this number
 pub record HasFaultyLine (input : Option (List ℕ)) (number : ℕ) : Type 0 where
@@ -77,11 +74,12 @@ abbrev pub EndsWith : (Limits → Run → Type 0) → Option (List ℕ) → Sink
 EndsWith rules input before after None = IsReplay rules input before after false
 EndsWith rules input before after (Some TooLong) = IsTooLong input × (after ≡ before)
 EndsWith rules input before after (Some (Line number)) = HasFaultyLine input number × (after ≡ before)
-EndsWith rules input before after (Some LogFull) = IsReplay rules input before after true
-EndsWith rules input before after (Some OutOfMemory) =
+EndsWith rules input before after (Some (OfRun run.LogFull)) = IsReplay rules input before after true
+EndsWith rules input before after (Some (OfRun run.OutOfMemory)) =
     (after ≡ before) ⊎ FailsOnce before after ⊎ IsCutShort rules input before after
-EndsWith rules input before after (Some ReadFault) = after ≡ before
-EndsWith rules input before after (Some WriteFault) = FailsOnce before after
+EndsWith rules input before after (Some (OfRun run.ReadFault)) = after ≡ before
+EndsWith rules input before after (Some (OfRun run.WriteFault)) = FailsOnce before after
+EndsWith rules input before after (Some (OfRun run.Spawn)) = ⊥
 
 -- the replay of this input, with what is known of the output and of the errors before and after it, ends
 -- with this exit status

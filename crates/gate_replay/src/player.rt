@@ -8,12 +8,13 @@ ghost use Rattle.gate_replay.specs.declared.setup.Setup.{Setup};
 ghost use Rattle.gate_replay.specs.inner.Sessions.{queued_in, PrintsAnswer};
 ghost use Rattle.gate_replay.specs.inner.Playing.{solo_view, IsNew, IsReady, IsEnded, IsWriteEnd, StopsBefore, PlaysFrom, StopsPlaying, PlaysAll, StopsAll};
 
-use crate::fault::{ReplayFault, io_fault};
+use crate::fault::ReplayFault;
 use crate::script::Step;
 use crate::sessions::{only_answer, serve_line, serve_packet};
 use crate::setup::Setup;
 use crate::solo_queue::SoloQueue;
 use gate_applier::{Applier, OpenCause, OpenFault};
+use gate_faults::{RunFault, fault_of};
 use gate_model::Moment;
 use gate_pages::{Board, status_page};
 use gate_reader::{Answer, Report, answer_line};
@@ -60,7 +61,7 @@ fn print<W: Sink>(output: &mut W, text: &[u8]) -> Result<(), ReplayFault>
 {
     match output.put(text) {
         Ok(()) => Ok(()),
-        Err(error) => Err(io_fault(&error, ReplayFault::WriteFault)),
+        Err(error) => Err(ReplayFault::Run(fault_of(&error, RunFault::WriteFault))),
     }
 }
 
@@ -89,7 +90,7 @@ where
         requires begun { D.after queue [] }
         requires limits { D.limits queue ≡ limits_of 2 default_quota setup.capacity }
         ensures begun { IfOk result (IsNew (solo_view D.after D.limits) setup) }
-        ensures err { IfErr result (λ fault. fault ≡ ReplayFault.OutOfMemory) }
+        ensures err { IfErr result (λ fault. fault ≡ ReplayFault.Run RunFault.OutOfMemory) }
     {
         let Setup {
             table,
@@ -117,7 +118,7 @@ where
                     cause: OpenCause::OutOfMemory,
                     table: _,
                 },
-            ) => Err(ReplayFault::OutOfMemory),
+            ) => Err(ReplayFault::Run(RunFault::OutOfMemory)),
         }
     }
 

@@ -7,9 +7,9 @@ ghost use Rattle.gate_lines.specs.LogPage.{log_text};
 ghost use Rattle.gate_streams.specs.Sink.{Delivers};
 ghost use Rattle.gate_streams.specs.Fault.{fault_in};
 ghost use Rattle.gate_replay.specs.Replay.{IsWholeInput, EndsWith, IsReplayRun};
-ghost use Rattle.gate_replay.specs.inner.Playing.{solo_view, IsShown, IsShownSoFar, IsLogEnd, EndsPlaying, IsInputFault};
+ghost use Rattle.gate_replay.specs.inner.Playing.{solo_view, IsShown, IsWriteEnd, EndsPlaying, IsInputFault};
 
-use crate::fault::{ReplayFault, io_fault};
+use crate::fault::ReplayFault;
 use crate::player::{Player, Stopped};
 use crate::script::{Script, read_script};
 use crate::setup::Setup;
@@ -17,10 +17,11 @@ use crate::solo_gate::SoloGate;
 use crate::solo_queue::SoloQueue;
 use gate_applier::Applier;
 use gate_core::{LocalClient, OpenFault, World};
-use gate_lines::log_page;
+use gate_faults::{RunFault, fault_of};
 use gate_model::DOCUMENT_BYTES;
+use gate_printing::{Progress, print_log};
 use gate_queue::open;
-use gate_streams::{Sink, end_with, put_last};
+use gate_streams::{Sink, end_with};
 use std::alloc::Global;
 use std::io::Read;
 use std::sync::Wait;
@@ -34,7 +35,7 @@ fn read_input<I: Read>(alloc: Global, input: &mut I) -> Result<Vec<u8>, ReplayFa
     let mut input = input.take(DOCUMENT_BYTES as u64 + 1);
     match input.read_to_end(&mut text) {
         Ok(_) => {}
-        Err(error) => return Err(io_fault(&error, ReplayFault::ReadFault)),
+        Err(error) => return Err(ReplayFault::Run(fault_of(&error, RunFault::ReadFault))),
     }
     if text.len() > DOCUMENT_BYTES {
         return Err(ReplayFault::TooLong);
@@ -42,23 +43,16 @@ fn read_input<I: Read>(alloc: Global, input: &mut I) -> Result<Vec<u8>, ReplayFa
     Ok(text)
 }
 
-// Prints the log page, and flushes, also where there is no memory for the page.
-fn print_log<W: Sink>(alloc: Global, applier: Applier, output: &mut W) -> Result<(), ReplayFault>
+// Prints the log page, and flushes. Nobody watches its progress.
+fn print_page<W: Sink>(applier: &Applier, output: &mut W) -> Result<(), ReplayFault>
     ensures ok { OnOk result (Delivers (W.state output.old) (W.state output.new) (log_text
-        applier.records (outcomes_of applier.table applier.records))) }
-    ensures err { IfErr result (IsLogEnd (W.state output.old) (W.state output.new)) }
+        applier.now.records (outcomes_of applier.now.table applier.now.records))) }
+    ensures err { IfErr result (IsWriteEnd (W.state output.old) (W.state output.new)) }
 {
-    let page = log_page(alloc, applier.records(), applier.outcomes());
-    drop(applier);
-    match page {
-        Ok(page) => match put_last(output, &page) {
-            Ok(()) => Ok(()),
-            Err(error) => Err(io_fault(&error, ReplayFault::WriteFault)),
-        },
-        Err(_) => match output.deliver() {
-            Ok(()) => Err(ReplayFault::OutOfMemory),
-            Err(error) => Err(io_fault(&error, ReplayFault::WriteFault)),
-        },
+    let progress = Progress::new();
+    match print_log(output, applier.records(), applier.outcomes(), &progress) {
+        Ok(()) => Ok(()),
+        Err(error) => Err(ReplayFault::Run(fault_of(&error, RunFault::WriteFault))),
     }
 }
 
@@ -83,26 +77,26 @@ where
     D::Ended: Drop,
     requires begun { D.after queue [] }
     requires limits { D.limits queue ≡ limits_of 2 default_quota script.setup.capacity }
-    ensures { let ended = solo_view D.Ended.after D.Ended.limits in
-        EndsPlaying (IsShown ended) (IsShownSoFar (solo_view D.after D.limits) ended) script
+    ensures { EndsPlaying (IsShown (solo_view D.Ended.after D.Ended.limits))
+        (IsShown (solo_view D.after D.limits)) script
         (W.state output.old) (W.state output.new) (fault_in result) }
 {
     let Script { setup, steps } = script;
     let Ok(player) = Player::open(alloc, queue, setup) else {
-        return Err(ReplayFault::OutOfMemory);
+        return Err(ReplayFault::Run(RunFault::OutOfMemory));
     };
     match player.play(alloc, &steps, output) {
         Ok(player) => {
             let applier = player.end();
-            print_log(alloc, applier, output)
+            print_page(&applier, output)
         }
         Err(Stopped::Full(applier)) => {
-            let printed = print_log(alloc, applier, output);
-            fault_after(printed, ReplayFault::LogFull)
+            let printed = print_page(&applier, output);
+            fault_after(printed, ReplayFault::Run(RunFault::LogFull))
         }
         Err(Stopped::OutOfMemory(applier)) => {
-            let printed = print_log(alloc, applier, output);
-            fault_after(printed, ReplayFault::OutOfMemory)
+            let printed = print_page(&applier, output);
+            fault_after(printed, ReplayFault::Run(RunFault::OutOfMemory))
         }
         Err(Stopped::Unwritten(fault)) => Err(fault),
     }
@@ -111,14 +105,14 @@ where
 // Why a queue of two clients can't be opened for a script, whose capacity is in its range.
 fn unopened(fault: OpenFault, setup: &Setup) -> ReplayFault
     requires { IsOpenFault fault 2 default_quota setup.now.capacity }
-    ensures { result ≡ ReplayFault.OutOfMemory }
+    ensures { result ≡ ReplayFault.Run RunFault.OutOfMemory }
 {
     let _capacity = setup.capacity;
     match fault {
         OpenFault::BadCount => unreachable!(),
         OpenFault::BadCapacity => unreachable!(),
         OpenFault::BadQuota => unreachable!(),
-        OpenFault::OutOfMemory => ReplayFault::OutOfMemory,
+        OpenFault::OutOfMemory => ReplayFault::Run(RunFault::OutOfMemory),
     }
 }
 
@@ -172,9 +166,9 @@ fn play_over_gate<R: Wait, W: Sink>(
 /// TooLong and Line are faults of the input, before anything is printed: it has more than 1,048,576
 /// bytes, or a first faulty line. LogFull is an item that finds the log full. ReadFault is a failed
 /// call of `input` and WriteFault one of `output`, unless its error is out of memory. After a failed
-/// call of `output` no other is made. OutOfMemory may come instead of any other answer: then nothing
-/// was printed, or a call of `output` failed, or what the first steps print was delivered, with the
-/// log page if it can be made; where that page stands, no item found the log full. Own rules.
+/// call of `output` no other is made. OutOfMemory may come instead of any other answer, but never of
+/// the log page, which takes no memory: nothing was printed, or a call of `output` failed, or what the
+/// first steps print was delivered and the log page after it, and no item found the log full. Own rules.
 pub fn replay_script<R: Wait, I: Read, W: Sink>(
     rt: &R,
     alloc: Global,

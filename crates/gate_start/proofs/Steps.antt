@@ -6,6 +6,7 @@ use Rattle.std.specs.declared.net.socket_addr.SocketAddr.{SocketAddr}
 use Rattle.std.proofs.lemmas.List.{append-nil}
 use Rattle.gate_config.specs.declared.config.Config.{Config}
 use Rattle.gate_streams.specs.Sink.{SinkState, Delivers}
+use Rattle.gate_faults.specs.declared.fault.RunFault.TheVariants as run
 use Rattle.gate_start.specs.declared.fault.ServeFault.{ServeFault}
 use Rattle.gate_start.specs.declared.fault.ServeFault.TheVariants as fault
 use Rattle.gate_start.specs.BeforeServing.{Configures, AreBoundAs, EndsBefore, FollowsAddresses, IsAddressIn, IsBindEnd, IsConfigEnd, IsWriteEnd, address_lines}
@@ -32,30 +33,33 @@ pub unconfigured : (state : SinkState) (found : ServeFault) → IsConfigEnd foun
 unconfigured state fault.Unreadable k = refl
 unconfigured state (fault.Config reported) k = (k, refl)
 unconfigured state (fault.Bind address) k = absurd k
-unconfigured state fault.LogFull k = absurd k
-unconfigured state fault.OutOfMemory k = refl
-unconfigured state fault.Spawn k = absurd k
-unconfigured state fault.WriteFault k = absurd k
+unconfigured state (fault.Run run.LogFull) k = absurd k
+unconfigured state (fault.Run run.OutOfMemory) k = refl
+unconfigured state (fault.Run run.ReadFault) k = absurd k
+unconfigured state (fault.Run run.Spawn) k = absurd k
+unconfigured state (fault.Run run.WriteFault) k = absurd k
 
 -- without an address nothing is served
 unbound : (text : List ℕ) (config : Config) (state : SinkState) (found : ServeFault) → Configures text config → IsBindEnd (IsAddressIn config) found → EndsBefore state state found
 unbound text config state fault.Unreadable is k = absurd k
 unbound text config state (fault.Config reported) is k = absurd k
 unbound text config state (fault.Bind address) is k = ((text, config, is, k), refl)
-unbound text config state fault.LogFull is k = absurd k
-unbound text config state fault.OutOfMemory is k = refl
-unbound text config state fault.Spawn is k = absurd k
-unbound text config state fault.WriteFault is k = absurd k
+unbound text config state (fault.Run run.LogFull) is k = absurd k
+unbound text config state (fault.Run run.OutOfMemory) is k = refl
+unbound text config state (fault.Run run.ReadFault) is k = absurd k
+unbound text config state (fault.Run run.Spawn) is k = absurd k
+unbound text config state (fault.Run run.WriteFault) is k = absurd k
 
 -- without what is to be printed first nothing is served
 unprinted : (before after : SinkState) (found : ServeFault) → IsWriteEnd before after found → EndsBefore before after found
 unprinted before after fault.Unreadable k = absurd k
 unprinted before after (fault.Config reported) k = absurd k
 unprinted before after (fault.Bind address) k = absurd k
-unprinted before after fault.LogFull k = absurd k
-unprinted before after fault.OutOfMemory k = k
-unprinted before after fault.Spawn k = absurd k
-unprinted before after fault.WriteFault k = k
+unprinted before after (fault.Run run.LogFull) k = absurd k
+unprinted before after (fault.Run run.OutOfMemory) k = k
+unprinted before after (fault.Run run.ReadFault) k = absurd k
+unprinted before after (fault.Run run.Spawn) k = absurd k
+unprinted before after (fault.Run run.WriteFault) k = k
 
 -- without its ports nothing is served
 pub unopened : (text : List ℕ) (config : Config) (before after : SinkState) (found : ServeFault) → Configures text config

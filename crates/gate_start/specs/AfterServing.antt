@@ -1,9 +1,9 @@
 -- What a daemon does once its gateway has ended: it prints the log page, if there is a log (`EndsWith`). Own rules.
-use Rattle.std.specs.Prelude.{◌≡◌, ◌⊎◌, ◌≤◌, ℕ, List, [], length, Option, Some, None, IsSome, IsSomeAnd, MatchOption, IfErr, Result, Ok, Err}
+use Rattle.std.specs.Prelude.{◌≡◌, ◌⊎◌, ◌≤◌, ℕ, List, [], length, Option, Some, None, IsSome, MatchOption, IfErr, Result, Ok, Err}
 use Rattle.gate_model.specs.declared.object.ObjectLine.{ObjectLine}
 use Rattle.gate_model.specs.declared.record.Record.{Record}
 use Rattle.gate_model.specs.Meaning.{outcomes_of}
-use Rattle.gate_streams.specs.Sink.{SinkState, Delivers}
+use Rattle.gate_streams.specs.Sink.{SinkState, Delivers, FailsOnce}
 use Rattle.gate_reader.specs.declared.report.Report.{Report}
 use Rattle.gate_applier.specs.Applier.{ApplierView}
 use Rattle.gate_lines.specs.LogPage.{log_text}
@@ -15,9 +15,9 @@ use Rattle.gate_worker.specs.Answered.{reports_of_each}
 use Rattle.gate_opening.specs.declared.finished.Finished.{Finished}
 use Rattle.gate_opening.specs.declared.fault.GatewayFault.{GatewayFault}
 use Rattle.gate_opening.specs.declared.fault.GatewayFault.TheVariants as gateway_fault
+use Rattle.gate_faults.specs.declared.fault.RunFault.TheVariants as run
 use Rattle.gate_start.specs.declared.fault.ServeFault.{ServeFault}
-use Rattle.gate_start.specs.declared.fault.ServeFault.TheVariants.{LogFull, OutOfMemory, Spawn}
-use Rattle.gate_start.specs.BeforeServing.{IsWriteEnd}
+use Rattle.gate_start.specs.declared.fault.ServeFault.TheVariants.{Run}
 
 -- the log page of these records, on these objects
 abbrev pub page_of : List ObjectLine → List Record → List ℕ
@@ -25,15 +25,15 @@ page_of table records = log_text records (outcomes_of table records)
 
 -- the fault of a daemon that applied all, by why its operator's worker ended
 abbrev pub operator_fault : Cause → Option ServeFault
-operator_fault worker.OutOfMemory = Some OutOfMemory
+operator_fault worker.OutOfMemory = Some (Run run.OutOfMemory)
 operator_fault worker.Closing = None
 operator_fault worker.TooManySessions = None
 operator_fault worker.NoMoreConnections = None
 
 -- the fault of a daemon that did not apply all; a gateway has no other cause
 abbrev pub close_fault : CloseAllCause → Option ServeFault
-close_fault cause.LogFull = Some LogFull
-close_fault cause.OutOfMemory = Some OutOfMemory
+close_fault cause.LogFull = Some (Run run.LogFull)
+close_fault cause.OutOfMemory = Some (Run run.OutOfMemory)
 close_fault (cause.Missing client) = None
 close_fault cause.NotClosing = None
 
@@ -41,10 +41,10 @@ close_fault cause.NotClosing = None
 abbrev pub fault_after : Result Finished GatewayFault → Option ServeFault
 fault_after (Ok finished) = operator_fault finished.operator
 fault_after (Err (gateway_fault.CloseAll gate drain reports)) = close_fault drain.cause
-fault_after (Err (gateway_fault.Queue why)) = Some OutOfMemory
-fault_after (Err (gateway_fault.Applier why)) = Some OutOfMemory
-fault_after (Err gateway_fault.OutOfMemory) = Some OutOfMemory
-fault_after (Err gateway_fault.Spawn) = Some Spawn
+fault_after (Err (gateway_fault.Queue why)) = Some (Run run.OutOfMemory)
+fault_after (Err (gateway_fault.Applier why)) = Some (Run run.OutOfMemory)
+fault_after (Err gateway_fault.OutOfMemory) = Some (Run run.OutOfMemory)
+fault_after (Err gateway_fault.Spawn) = Some (Run run.Spawn)
 
 -- where a gateway ended with a fault, that is a daemon's too
 abbrev pub IsNamed : Result Finished GatewayFault → Type 0
@@ -67,9 +67,9 @@ pub record IsPageGiven (before after : SinkState) (applier : ApplierView) : Type
   pub few : length applier.records ≤ applier.limit
   pub printed : Delivers before after (page_of applier.table applier.records)
 
--- a daemon whose gateway ended so ends without a fault or with this one: the log page was printed, if there is a log,
--- or can't be written
+-- a daemon whose gateway ended so ends without a fault or with this one: the log page was printed, if there is a log;
+-- or there is one, and a call of the output failed. The page takes no memory, and so can't want any
 abbrev pub EndsWith : Result Finished GatewayFault → SinkState → SinkState → Option ServeFault → Type 0
 EndsWith ran before after found =
     ((found ≡ fault_after ran) × MatchOption (applier_after ran) (after ≡ before) (IsPageGiven before after))
-    ⊎ IsSomeAnd found (IsWriteEnd before after)
+    ⊎ ((found ≡ Some (Run run.WriteFault)) × IsSome (applier_after ran) × FailsOnce before after)

@@ -13,8 +13,9 @@ use Rattle.gate_config.specs.Check.{IsFirstFault}
 use Rattle.gate_config.specs.Fault.{text_of}
 use Rattle.gate_config.specs.Config.{IsDocument, IsConfigOf}
 use Rattle.gate_config.specs.Document.{document_checks}
+use Rattle.gate_faults.specs.declared.fault.RunFault.TheVariants as run
 use Rattle.gate_start.specs.declared.fault.ServeFault.{ServeFault}
-use Rattle.gate_start.specs.declared.fault.ServeFault.TheVariants.{Unreadable, Bind, OutOfMemory, WriteFault}
+use Rattle.gate_start.specs.declared.fault.ServeFault.TheVariants.{Unreadable, Bind, Run}
 use Rattle.gate_start.specs.declared.fault.ServeFault.TheVariants as fault
 
 -- no document of TOML is this text
@@ -75,19 +76,19 @@ address_lines agents operators pages =
 abbrev pub IsConfigEnd : ServeFault → Type 0
 IsConfigEnd Unreadable = Unit {0}
 IsConfigEnd (fault.Config reported) = IsFaulty reported
-IsConfigEnd OutOfMemory = Unit {0}
+IsConfigEnd (Run run.OutOfMemory) = Unit {0}
 IsConfigEnd _ = ⊥
 
 -- an address can't be bound, for which this holds, or memory ran out
 abbrev pub IsBindEnd : (List ℕ → Type 0) → ServeFault → Type 0
 IsBindEnd P (Bind address) = P address
-IsBindEnd P OutOfMemory = Unit {0}
+IsBindEnd P (Run run.OutOfMemory) = Unit {0}
 IsBindEnd P _ = ⊥
 
 -- a call of the output failed, or memory ran out for what was to be written
 abbrev pub IsWriteEnd : SinkState → SinkState → ServeFault → Type 0
-IsWriteEnd before after OutOfMemory = after ≡ before
-IsWriteEnd before after WriteFault = FailsOnce before after
+IsWriteEnd before after (Run run.OutOfMemory) = after ≡ before
+IsWriteEnd before after (Run run.WriteFault) = FailsOnce before after
 IsWriteEnd before after _ = ⊥
 
 -- the output grew by the addresses of this configuration, as the daemon is bound to them, and then by this
@@ -109,6 +110,6 @@ abbrev pub EndsBefore : SinkState → SinkState → ServeFault → Type 0
 EndsBefore before after Unreadable = after ≡ before
 EndsBefore before after (fault.Config reported) = IsFaulty reported × (after ≡ before)
 EndsBefore before after (Bind address) = IsAddress address × (after ≡ before)
-EndsBefore before after OutOfMemory = after ≡ before
-EndsBefore before after WriteFault = FailsOnce before after
+EndsBefore before after (Run run.OutOfMemory) = after ≡ before
+EndsBefore before after (Run run.WriteFault) = FailsOnce before after
 EndsBefore before after _ = ⊥

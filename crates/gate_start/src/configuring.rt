@@ -4,6 +4,7 @@ ghost use Rattle.gate_start.specs.inner.Reading.{IsReadFault, IsTextEnd};
 
 use crate::fault::{ServeFault, or_fault};
 use gate_config::{Config, ConfigFault, read_config};
+use gate_faults::RunFault;
 use gate_model::{DOCUMENT_BYTES, Text};
 use std::alloc::Global;
 use std::fs::{File, Files};
@@ -23,11 +24,11 @@ fn config_fault(alloc: Global, fault: &ConfigFault) -> ServeFault
     ensures { (text : List ℕ) → IsReadFault text fault.now → IsTextEnd result }
 {
     if matches!(fault, ConfigFault::OutOfMemory) {
-        return ServeFault::OutOfMemory;
+        return ServeFault::Run(RunFault::OutOfMemory);
     }
     match fault.text(alloc) {
         Ok(text) => ServeFault::Config(Text::new(text)),
-        Err(_) => ServeFault::OutOfMemory,
+        Err(_) => ServeFault::Run(RunFault::OutOfMemory),
     }
 }
 

@@ -3,12 +3,12 @@ ghost use Rattle.gate_worker.specs.Answered.{reports_of_each};
 ghost use Rattle.gate_start.specs.AfterServing.{EndsWith, IsNamed, applier_after, close_fault, fault_after, operator_fault, reports_after};
 
 use crate::fault::ServeFault;
-use crate::printing::print;
 use crate::served::{Served, without_reports};
 use gate_applier::Applier;
 use gate_close::{CloseAllCause, CloseAllFault};
-use gate_lines::log_page;
+use gate_faults::RunFault;
 use gate_opening::{Finished, GatewayFault};
+use gate_printing::{Progress, print_log};
 use gate_streams::Sink;
 use gate_worker::Cause;
 use std::alloc::Global;
@@ -18,7 +18,7 @@ fn operator_fault(cause: Cause) -> Option<ServeFault>
     ensures { result ≡ operator_fault cause }
 {
     match cause {
-        Cause::OutOfMemory => Some(ServeFault::OutOfMemory),
+        Cause::OutOfMemory => Some(ServeFault::Run(RunFault::OutOfMemory)),
         Cause::Closing | Cause::TooManySessions | Cause::NoMoreConnections => None,
     }
 }
@@ -29,8 +29,8 @@ fn close_fault(cause: CloseAllCause) -> ServeFault
     ensures { close_fault cause ≡ Some result }
 {
     match cause {
-        CloseAllCause::LogFull => ServeFault::LogFull,
-        CloseAllCause::OutOfMemory => ServeFault::OutOfMemory,
+        CloseAllCause::LogFull => ServeFault::Run(RunFault::LogFull),
+        CloseAllCause::OutOfMemory => ServeFault::Run(RunFault::OutOfMemory),
         CloseAllCause::Missing(_) | CloseAllCause::NotClosing => unreachable!(),
     }
 }
@@ -69,9 +69,15 @@ fn left_by(alloc: Global, ran: Result<Finished, GatewayFault>) -> (Option<Applie
         // The queue and the applier take all limits that a configuration may have, so that only
         // memory can be their fault.
         Err(GatewayFault::Queue(_) | GatewayFault::Applier(_) | GatewayFault::OutOfMemory) => {
-            (None, without_reports(alloc, ServeFault::OutOfMemory))
+            (
+                None,
+                without_reports(alloc, ServeFault::Run(RunFault::OutOfMemory)),
+            )
         }
-        Err(GatewayFault::Spawn) => (None, without_reports(alloc, ServeFault::Spawn)),
+        Err(GatewayFault::Spawn) => (
+            None,
+            without_reports(alloc, ServeFault::Run(RunFault::Spawn)),
+        ),
     }
 }
 
@@ -86,8 +92,13 @@ fn with_fault(served: Served, fault: ServeFault) -> Served
     }
 }
 
-/// Prints the log page of a gateway that has ended, if it has one.
-pub fn end<W: Sink>(alloc: Global, ran: Result<Finished, GatewayFault>, output: &mut W) -> Served
+/// Prints the log page of a gateway that has ended, if it has one, and tells `progress` how far it is.
+pub fn end<W: Sink>(
+    alloc: Global,
+    ran: Result<Finished, GatewayFault>,
+    output: &mut W,
+    progress: &Progress,
+) -> Served
     requires { IsNamed ran }
     ensures reports { reports_of_each result.reports.items ≡ reports_after ran }
     ensures ended { EndsWith ran (W.state output.old) (W.state output.new) result.fault }
@@ -96,10 +107,9 @@ pub fn end<W: Sink>(alloc: Global, ran: Result<Finished, GatewayFault>, output: 
     let Some(applier) = applier else {
         return served;
     };
-    let page = log_page(alloc, applier.records(), applier.outcomes());
-    drop(applier);
-    match print(output, page) {
+    progress.begin();
+    match print_log(output, applier.records(), applier.outcomes(), progress) {
         Ok(()) => served,
-        Err(fault) => with_fault(served, fault),
+        Err(_) => with_fault(served, ServeFault::Run(RunFault::WriteFault)),
     }
 }

@@ -1,55 +1,39 @@
 ghost use Rattle.std.specs.Prelude.{◌≡◌, IsErrAnd, MatchResult, Ok};
 ghost use Rattle.gate_start.specs.inner.Reading.{IsFaultOf};
 
+use gate_faults::RunFault;
 use gate_model::Text;
 use gate_streams::{Fault, Sink, put_last, put_line};
 use std::alloc::AllocError;
-use std::error::Error;
+use std::io;
 use std::io::ErrorKind;
-use std::{fmt, io};
+use thiserror::Error;
 
 /// Why the daemon doesn't run, or how it ended before it had applied all.
-#[derive(Debug, Drop)]
+#[derive(Debug, Drop, Error)]
 pub enum ServeFault {
     /// The file of the configuration can't be read.
+    #[error("the configuration can't be read")]
     Unreadable,
     /// The file configures nothing, for a cause that is reported by this text.
+    #[error("the configuration is faulty")]
     Config(Text),
     /// This address, as the configuration writes it, can't be bound.
+    #[error("an address can't be bound")]
     Bind(Text),
-    /// The log is full, with an item left.
-    LogFull,
-    /// Memory ran out.
-    OutOfMemory,
-    /// A thread can't be started.
-    Spawn,
-    /// The output can't be written or flushed.
-    WriteFault,
+    /// It began to run, and this stopped it early. That is never ReadFault.
+    #[error("{0}")]
+    Run(RunFault),
 }
-
-impl fmt::Display for ServeFault {
-    fn fmt<W: fmt::Write>(&self, f: &mut fmt::Formatter<W>) -> fmt::Result {
-        f.write_str(match self {
-            ServeFault::Unreadable => "the configuration can't be read",
-            ServeFault::Config(_) => "the configuration is faulty",
-            ServeFault::Bind(_) => "an address can't be bound",
-            ServeFault::LogFull => "the log is full",
-            ServeFault::OutOfMemory => "out of memory",
-            ServeFault::Spawn => "a thread can't be started",
-            ServeFault::WriteFault => "the output can't be written",
-        })
-    }
-}
-
-impl Error for ServeFault {}
 
 impl From<AllocError> for ServeFault {
-    ghost use Rattle.gate_start.specs.declared.fault.ServeFault.TheVariants.{OutOfMemory};
+    ghost use Rattle.gate_start.specs.declared.fault.ServeFault.TheVariants.{Run};
+    ghost use Rattle.gate_faults.specs.declared.fault.RunFault.TheVariants.{OutOfMemory};
 
-    ghost from_gives = { λ _ fault. fault ≡ OutOfMemory };
+    ghost from_gives = { λ _ fault. fault ≡ Run OutOfMemory };
 
     fn from(_error: AllocError) -> ServeFault {
-        ServeFault::OutOfMemory
+        ServeFault::Run(RunFault::OutOfMemory)
     }
 }
 
@@ -60,7 +44,9 @@ pub(crate) fn or_fault<T>(done: io::Result<T>, other: ServeFault) -> Result<T, S
 {
     match done {
         Ok(value) => Ok(value),
-        Err(error) if error.kind() == ErrorKind::OutOfMemory => Err(ServeFault::OutOfMemory),
+        Err(error) if error.kind() == ErrorKind::OutOfMemory => {
+            Err(ServeFault::Run(RunFault::OutOfMemory))
+        }
         Err(_) => Err(other),
     }
 }
@@ -78,10 +64,7 @@ impl Fault for ServeFault {
         match self {
             ServeFault::Unreadable | ServeFault::Config(_) => 2,
             ServeFault::Bind(_) => 4,
-            ServeFault::LogFull
-            | ServeFault::OutOfMemory
-            | ServeFault::Spawn
-            | ServeFault::WriteFault => 3,
+            ServeFault::Run(fault) => fault.status(),
         }
     }
 
@@ -91,10 +74,7 @@ impl Fault for ServeFault {
             ServeFault::Unreadable => put_last(errors, b"nscagate: config: unreadable\n"),
             ServeFault::Config(text) => put_line(errors, b"nscagate: config: ", text.bytes()),
             ServeFault::Bind(address) => put_line(errors, b"nscagate: bind ", address.bytes()),
-            ServeFault::LogFull => put_last(errors, b"nscagate: LogFull\n"),
-            ServeFault::OutOfMemory => put_last(errors, b"nscagate: OutOfMemory\n"),
-            ServeFault::Spawn => put_last(errors, b"nscagate: Spawn\n"),
-            ServeFault::WriteFault => put_last(errors, b"nscagate: WriteFault\n"),
+            ServeFault::Run(fault) => fault.report(errors),
         }
     }
 }

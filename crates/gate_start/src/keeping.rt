@@ -5,6 +5,7 @@ ghost use Rattle.gate_reader.specs.Report.{fault_text};
 ghost use Rattle.gate_start.specs.Kept.{packet_fault_text, line_front, line_rest, kept_line, fault_line, IsRead, IsKeptReported, IsTextTaken, IsTaken};
 
 use crate::fault::ServeFault;
+use gate_faults::RunFault;
 use gate_grammar::LineFault;
 use gate_kept::{Kept, KeptFault, read_kept};
 use gate_model::push_number;
@@ -149,7 +150,7 @@ fn read_text<R: Read>(alloc: Global, input: &mut R) -> Result<Vec<u8>, Unread>
 fn take_text<E: Sink>(alloc: Global, text: &[u8], errors: &mut E) -> Result<Kept, ServeFault>
     ensures taken { IfOk result (λ kept. IsTextTaken text.now (E.state errors.old)
         (E.state errors.new) kept.packets.items kept.lines.items) }
-    ensures fault { IfErr result (λ fault. (fault ≡ ServeFault.OutOfMemory)
+    ensures fault { IfErr result (λ fault. (fault ≡ ServeFault.Run RunFault.OutOfMemory)
         × (E.state errors.new ≡ E.state errors.old)) }
 {
     let kept = read_kept(alloc, text)?;
@@ -169,7 +170,7 @@ pub fn take_kept<F: Files, R: Read, E: Sink>(
 ) -> Result<Kept, ServeFault>
     ensures taken { IfOk result (λ kept. IsTaken (R.remaining input.old) (E.state errors.old)
         (E.state errors.new) kept.packets.items kept.lines.items) }
-    ensures fault { IfErr result (λ fault. (fault ≡ ServeFault.OutOfMemory)
+    ensures fault { IfErr result (λ fault. (fault ≡ ServeFault.Run RunFault.OutOfMemory)
         × (E.state errors.new ≡ E.state errors.old)) }
 {
     if !is_file(files) {
@@ -179,7 +180,7 @@ pub fn take_kept<F: Files, R: Read, E: Sink>(
         Ok(text) => take_text(alloc, text.as_slice(), errors),
         Err(Unread::TooLarge) => Ok(take_none(alloc, b"nscagate: kept: TooLarge\n", errors)),
         Err(Unread::Unreadable) => Ok(take_none(alloc, b"nscagate: kept: unreadable\n", errors)),
-        Err(Unread::OutOfMemory) => Err(ServeFault::OutOfMemory),
+        Err(Unread::OutOfMemory) => Err(ServeFault::Run(RunFault::OutOfMemory)),
     }
 }
 

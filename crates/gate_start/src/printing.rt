@@ -3,6 +3,7 @@ ghost use Rattle.gate_streams.specs.Sink.{Delivers};
 ghost use Rattle.gate_start.specs.BeforeServing.{address_line, address_lines, IsWriteEnd};
 
 use crate::fault::ServeFault;
+use gate_faults::RunFault;
 use gate_streams::{Sink, put_last};
 use std::alloc::{AllocError, Global};
 use std::net::SocketAddr;
@@ -20,7 +21,7 @@ pub(crate) fn print<W: Sink>(
     let text = text?;
     match put_last(output, &text) {
         Ok(()) => Ok(()),
-        Err(_) => Err(ServeFault::WriteFault),
+        Err(_) => Err(ServeFault::Run(RunFault::WriteFault)),
     }
 }
 

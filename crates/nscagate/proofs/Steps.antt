@@ -21,9 +21,10 @@ use Rattle.gate_opening.specs.Faults.{IsDrainFault, IsGatewayFault}
 use Rattle.gate_opening.specs.declared.finished.Finished.{Finished}
 use Rattle.gate_opening.specs.declared.fault.GatewayFault.{GatewayFault}
 use Rattle.gate_opening.specs.declared.fault.GatewayFault.TheVariants as gateway_fault
+use Rattle.gate_faults.specs.declared.fault.RunFault.TheVariants as run
 use Rattle.gate_start.specs.declared.fault.ServeFault.{ServeFault}
 use Rattle.gate_start.specs.declared.fault.ServeFault.TheVariants as fault
-use Rattle.gate_start.specs.BeforeServing.{EndsBefore, FollowsAddresses, IsStarted, IsWriteEnd, address_lines}
+use Rattle.gate_start.specs.BeforeServing.{EndsBefore, FollowsAddresses, IsStarted, address_lines}
 use Rattle.gate_start.specs.AfterServing.{IsPageGiven, EndsWith, page_of, operator_fault, close_fault, fault_after, reports_after, applier_after}
 use Rattle.nscagate.specs.Serve.{ServeEnds, IsServed, IsRun, IsFull, IsStarved, worker_limits, addresses_alone, log_so_far, log_whole}
 use Rattle.nscagate.specs.inner.Serving.{HasRun}
@@ -61,10 +62,11 @@ pub ends_before : (before after : SinkState) (found : ServeFault) → EndsBefore
 ends_before before after fault.Unreadable is = is
 ends_before before after (fault.Config reported) is = is
 ends_before before after (fault.Bind address) is = is
-ends_before before after fault.LogFull is = absurd is
-ends_before before after fault.OutOfMemory is = inl is
-ends_before before after fault.Spawn is = absurd is
-ends_before before after fault.WriteFault is = is
+ends_before before after (fault.Run run.LogFull) is = absurd is
+ends_before before after (fault.Run run.OutOfMemory) is = inl (refl, is)
+ends_before before after (fault.Run run.ReadFault) is = absurd is
+ends_before before after (fault.Run run.Spawn) is = absurd is
+ends_before before after (fault.Run run.WriteFault) is = is
 
 -- ---- a gateway
 
@@ -115,19 +117,9 @@ served : (Ran : Config → Type 0) (config : Config) (before middle : SinkState)
 served Ran config before middle started ran = record { text = started.text; config = config; configured = started.configured; ran = ran }
 
 -- memory ran out before anything came after the addresses
-starved_alone : (config : Config) (before middle after : SinkState) (reports : List (ℕ × List Report)) → IsStarted config before middle → after ≡ middle → ServeEnds before after reports (Some fault.OutOfMemory)
-starved_alone config before middle after reports started same =
-    inr (served (λ c. IsStarved c reports before after) config before middle started (addresses_alone (alone config before middle after started.printed same)))
-
--- its log page can't be written
-page_end : (config : Config) (before middle after : SinkState) (reports : List (ℕ × List Report)) (found : ServeFault) → IsStarted config before middle → IsWriteEnd middle after found → ServeEnds before after reports (Some found)
-page_end config before middle after reports fault.Unreadable started k = absurd k
-page_end config before middle after reports (fault.Config text) started k = absurd k
-page_end config before middle after reports (fault.Bind text) started k = absurd k
-page_end config before middle after reports fault.LogFull started k = absurd k
-page_end config before middle after reports fault.OutOfMemory started k = starved_alone config before middle after reports started k
-page_end config before middle after reports fault.Spawn started k = absurd k
-page_end config before middle after reports fault.WriteFault started k = fails_after config before middle after started.printed k
+starved_alone : (config : Config) (before middle after : SinkState) → IsStarted config before middle → after ≡ middle → ServeEnds before after [] (Some (fault.Run run.OutOfMemory))
+starved_alone config before middle after started same =
+    inr (served (λ c. IsStarved c [] before after) config before middle started (addresses_alone (alone config before middle after started.printed same) refl))
 
 -- it applied all, and its operator's worker ended so
 whole_end : (operator : Cause) (config : Config) (before middle after : SinkState) (reports : List (ℕ × List Report)) → IsStarted config before middle → IsRun config reports before after → ServeEnds before after reports (operator_fault operator)
@@ -169,9 +161,9 @@ page_given (Ok finished) config before middle after started has_run known given 
 page_given (Err (gateway_fault.CloseAll gate drain reports)) config before middle after started has_run known given =
     close_end drain.cause drain.applier config before middle after (reports_of_each reports.items) started known.of_limit known.fault
     (page_after config before middle after drain.applier started.printed known.of_table given)
-page_given (Err (gateway_fault.Queue why)) config before middle after started has_run known same = starved_alone config before middle after [] started same
-page_given (Err (gateway_fault.Applier why)) config before middle after started has_run known same = starved_alone config before middle after [] started same
-page_given (Err gateway_fault.OutOfMemory) config before middle after started has_run known same = starved_alone config before middle after [] started same
+page_given (Err (gateway_fault.Queue why)) config before middle after started has_run known same = starved_alone config before middle after started same
+page_given (Err (gateway_fault.Applier why)) config before middle after started has_run known same = starved_alone config before middle after started same
+page_given (Err gateway_fault.OutOfMemory) config before middle after started has_run known same = starved_alone config before middle after started same
 page_given (Err gateway_fault.Spawn) config before middle after started has_run known same =
     served (λ c. FollowsAddresses c before after []) config before middle started (alone config before middle after started.printed same)
 
@@ -180,5 +172,5 @@ pub ends_on : (ran : Result Finished GatewayFault) (found : Option ServeFault) (
     → IfErr ran (IsGatewayFault config.workers config.limits.capacity config.limits.limit config.table) → EndsWith ran middle after found → ServeEnds before after (reports_after ran) found
 ends_on ran found config before middle after started has_run known (inl (same, given)) =
     subst (λ (f : Option ServeFault). ServeEnds before after (reports_after ran) f) (sym same) (page_given ran config before middle after started has_run known given)
-ends_on ran None config before middle after started has_run known (inr k) = absurd k
-ends_on ran (Some found) config before middle after started has_run known (inr k) = page_end config before middle after (reports_after ran) found started k
+ends_on ran found config before middle after started has_run known (inr failed) =
+    subst (λ (f : Option ServeFault). ServeEnds before after (reports_after ran) f) (sym failed.0) (fails_after config before middle after started.printed failed.2)

@@ -12,6 +12,7 @@ use Rattle.gate_opening.specs.Faults.{LosesNothing}
 use Rattle.gate_worker.specs.Served.{AllServed}
 use Rattle.gate_config.specs.declared.config.Config.{Config}
 use Rattle.gate_config.specs.declared.limits.Limits.{Limits}
+use Rattle.gate_faults.specs.declared.fault.RunFault.TheVariants as run
 use Rattle.gate_start.specs.declared.fault.ServeFault.{ServeFault}
 use Rattle.gate_start.specs.declared.fault.ServeFault.TheVariants as fault
 use Rattle.gate_start.specs.AfterServing.{page_of}
@@ -51,10 +52,11 @@ pub record IsUnfinished (Count : ℕ → Type 0) (config : Config) (reports : Li
 abbrev pub IsFull : Config → List (ℕ × List Report) → SinkState → SinkState → Type 0
 IsFull config reports before after = IsUnfinished (λ count. count ≡ config.limits.limit) config reports before after
 
--- memory ran out for a daemon of this configuration: it had printed its addresses alone; or also the log page of fewer
--- records than the limit, with items left; or it closed itself, and had printed the log page of all records
+-- memory ran out for a daemon of this configuration: it had printed its addresses alone, and served nobody; or also the
+-- log page of fewer records than the limit, with items left; or it closed itself, and had printed the log page of all
+-- records
 pub data IsStarved (config : Config) (reports : List (ℕ × List Report)) (before after : SinkState) : Type 0 where
-  addresses_alone : FollowsAddresses config before after [] → IsStarved config reports before after
+  addresses_alone : FollowsAddresses config before after [] → reports ≡ [] → IsStarved config reports before after
   log_so_far : IsUnfinished (λ count. count < config.limits.limit) config reports before after
       → IsStarved config reports before after
   log_whole : IsRun config reports before after → IsStarved config reports before after
@@ -67,14 +69,15 @@ pub record IsServed (Ran : Config → Type 0) : Type 0 where
   pub ran : Ran config
 
 -- what is true of how the output grew, where a daemon, whose clients have these reports, ends without a fault or with
--- this one. At OutOfMemory nothing was printed, or the daemon had printed its addresses
+-- this one. At OutOfMemory nothing was printed and nobody served, or the daemon had printed its addresses
 abbrev pub ServeEnds : SinkState → SinkState → List (ℕ × List Report) → Option ServeFault → Type 0
 ServeEnds before after reports None = IsServed (λ config. IsRun config reports before after)
 ServeEnds before after reports (Some fault.Unreadable) = after ≡ before
 ServeEnds before after reports (Some (fault.Config reported)) = IsFaulty reported × (after ≡ before)
 ServeEnds before after reports (Some (fault.Bind address)) = IsAddress address × (after ≡ before)
-ServeEnds before after reports (Some fault.LogFull) = IsServed (λ config. IsFull config reports before after)
-ServeEnds before after reports (Some fault.OutOfMemory) =
-    (after ≡ before) ⊎ IsServed (λ config. IsStarved config reports before after)
-ServeEnds before after reports (Some fault.Spawn) = IsServed (λ config. FollowsAddresses config before after [])
-ServeEnds before after reports (Some fault.WriteFault) = FailsOnce before after
+ServeEnds before after reports (Some (fault.Run run.LogFull)) = IsServed (λ config. IsFull config reports before after)
+ServeEnds before after reports (Some (fault.Run run.OutOfMemory)) =
+    ((reports ≡ []) × (after ≡ before)) ⊎ IsServed (λ config. IsStarved config reports before after)
+ServeEnds before after reports (Some (fault.Run run.ReadFault)) = ⊥
+ServeEnds before after reports (Some (fault.Run run.Spawn)) = IsServed (λ config. FollowsAddresses config before after [])
+ServeEnds before after reports (Some (fault.Run run.WriteFault)) = FailsOnce before after

@@ -26,8 +26,17 @@ fn main(rt: HostRuntime) -> ExitCode {
         Ok(words) => match BufWriter::new(rt.alloc(), rt.stdout().lock()) {
             Ok(mut output) => {
                 let mut input = rt.stdin().lock();
-                let alloc = rt.alloc();
-                let status = run_program(&rt, alloc, &words, &mut input, &mut output, &mut errors);
+                // Another handle on standard error, for the thread that watches the log page.
+                let mut notices = rt.stderr().lock();
+                let status = run_program(
+                    &rt,
+                    rt.alloc(),
+                    &words,
+                    &mut input,
+                    &mut output,
+                    &mut errors,
+                    &mut notices,
+                );
                 // What a failed write left in the buffer is never written.
                 let _unwritten = output.into_parts();
                 status

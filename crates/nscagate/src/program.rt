@@ -3,6 +3,7 @@ ghost use Rattle.gate_replay.specs.Allowed.{IsAllowed};
 ghost use Rattle.gate_words.specs.Words.{asked_of, replay, serve};
 ghost use Rattle.gate_replay.specs.Replay.{IsReplayRun};
 ghost use Rattle.nscagate.specs.Program.{IsRefused, IsServeRun};
+ghost use Rattle.gate_printing.specs.Watching.{IsNoticed};
 
 use crate::serving::serve;
 use gate_replay::run_replay;
@@ -20,7 +21,8 @@ use std::time::Clock;
 ///
 /// `replay` replays the script on `input`, as `run_replay` does. `serve --config PATH`, in any
 /// spelling that `clap` reads, runs the daemon, as `serve` does, which takes what `input` holds where
-/// standard input is a regular file; the last line on `errors` reports its fault. Any other words, or
+/// standard input is a regular file; the last line on `errors` reports its fault, and `notices` gets
+/// what is said while nobody reads the log page. Any other words, or
 /// none, are refused with status 2 and the line `nscagate: bad arguments` on `errors`: nothing is read
 /// and nothing printed. Memory may run out before the words are known: the status is 3 and the line
 /// `nscagate: OutOfMemory`. That a line can't be written to `errors` changes nothing. Own rules.
@@ -29,7 +31,16 @@ pub fn run_program<
     R: Read,
     W: Sink,
     E: Sink,
->(rt: &T, alloc: Global, words: &[String], input: &mut R, output: &mut W, errors: &mut E) -> u8
+    N: Sink + Send,
+>(
+    rt: &T,
+    alloc: Global,
+    words: &[String],
+    input: &mut R,
+    output: &mut W,
+    errors: &mut E,
+    notices: &mut N,
+) -> u8
     ensures replay { asked_of (map string_bytes words.now) ≡ Some replay → IsReplayRun IsAllowed
         (R.remaining input.old) (W.state output.old) (W.state output.new) (E.state errors.old)
         (E.state errors.new) result }
@@ -39,13 +50,17 @@ pub fn run_program<
     ensures refused { asked_of (map string_bytes words.now) ≡ None → IsRefused (E.state errors.old)
         (E.state errors.new) result }
 
+    ensures noticed { IsNoticed (N.state notices.old) (N.state notices.new) }
+    ensures silent { asked_of (map string_bytes words.now) ≡ Some replay
+        → notices.new ≡ notices.old }
+
     ensures unread { asked_of (map string_bytes words.now) ≡ None → input.new ≡ input.old }
     ensures unprinted { asked_of (map string_bytes words.now) ≡ None → output.new ≡ output.old }
 {
     match read_words(alloc, words) {
         Ok(Request::Replay) => run_replay(rt, alloc, input, output, errors),
         Ok(Request::Serve(path)) => {
-            let served = serve(rt, alloc, path, input, output, errors);
+            let served = serve(rt, alloc, path, input, output, errors, notices);
             end_with(&served.fault, errors)
         }
         Err(fault) => end_with(&Some(fault), errors),

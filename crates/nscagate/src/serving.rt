@@ -3,6 +3,7 @@ ghost use Rattle.std.specs.List.{concat};
 ghost use Rattle.gate_worker.specs.Answered.{reports_of_each};
 ghost use Rattle.gate_opening.specs.Faults.{IsGatewayFault};
 ghost use Rattle.gate_start.specs.Kept.{IsInputTaken};
+ghost use Rattle.gate_printing.specs.Watching.{IsNoticed};
 ghost use Rattle.nscagate.specs.Serve.{ServeEnds, worker_limits};
 ghost use Rattle.nscagate.specs.inner.Serving.{HasRun};
 
@@ -13,6 +14,7 @@ use gate_model::Text;
 use gate_ports::{
     AgentConnections, AgentsPort, OperatorConnections, Ports, ReaderConnections, SystemWatch,
 };
+use gate_printing::{Progress, watch};
 use gate_reader::SessionLimits;
 use gate_start::{Served, end, start, take_kept, without_reports};
 use gate_streams::Sink;
@@ -23,7 +25,7 @@ use std::fs::Files;
 use std::io::Read;
 use std::net::{Net, TcpListener, TcpStream};
 use std::sync::Wait;
-use std::thread::Threads;
+use std::thread::{Threads, join_mut};
 use std::time::Clock;
 
 // What a gateway is run with.
@@ -209,27 +211,21 @@ fn run<
     }
 }
 
-/// Runs the daemon as the file of this path configures it, until an operator shuts it down: it
-/// binds the addresses of agents, operators and pages, in this order, and prints them as they are
-/// bound, each on a line. Before it serves anybody it takes what `input` holds, where standard input is
-/// a regular file, and names on `errors` what of it isn't taken. As many workers as are configured serve
-/// packets side by side, of clients 1, 2 and so on; the operator is the client after them. In the end it prints the log page, also
-/// where not all that was queued could be applied. What the clients were answered is returned.
-///
-/// Unreadable, Config and Bind come before anything is printed: the file can't be read, it
-/// configures nothing, or an address can't be bound. LogFull is an item that finds the log full: the
-/// log page has as many records as the limit, and nothing is lost, since with the items that are
-/// left they hold what was answered with Queued. Spawn is a thread that can't be started. WriteFault
-/// is a failed call of `output`, after which no other is made. OutOfMemory may come instead of any
-/// other answer; the log page is then printed only where it could be made. Where memory for one more
-/// report of the operator's worker is missing, nobody could shut the daemon down any more: it closes
-/// itself, applies all, prints the log page and ends with OutOfMemory. Own rules.
-pub fn serve<
+// Runs the daemon, and tells `progress` how far its log page is.
+fn serve_watched<
     R: Files + Net<Listener = TcpListener, Stream = TcpStream> + Threads + Wait + Clock + Sync,
     I: Read,
     W: Sink,
     E: Sink,
->(rt: &R, alloc: Global, path: &str, input: &mut I, output: &mut W, errors: &mut E) -> Served
+>(
+    rt: &R,
+    alloc: Global,
+    path: &str,
+    input: &mut I,
+    output: &mut W,
+    errors: &mut E,
+    progress: &Progress,
+) -> Served
     ensures ended { ServeEnds (W.state output.old) (W.state output.new)
         (reports_of_each result.reports.items) result.fault }
     ensures taken { IsInputTaken (I.remaining input.old) (E.state errors.old)
@@ -238,8 +234,67 @@ pub fn serve<
     match start(rt, alloc, path, output) {
         Ok((config, ports)) => {
             let ran = run(rt, alloc, config, ports, input, errors);
-            end(alloc, ran, output)
+            end(alloc, ran, output, progress)
         }
         Err(fault) => without_reports(alloc, fault),
     }
+}
+
+/// Runs the daemon as the file of this path configures it, until an operator shuts it down: it
+/// binds the addresses of agents, operators and pages, in this order, and prints them as they are
+/// bound, each on a line. Before it serves anybody it takes what `input` holds, where standard input is
+/// a regular file, and names on `errors` what of it isn't taken. As many workers as are configured serve
+/// packets side by side, of clients 1, 2 and so on; the operator is the client after them. In the end it
+/// prints the log page, also where not all that was queued could be applied. What the clients were
+/// answered is returned.
+///
+/// It waits until `output` takes the log page. Where no line of it is printed for 10 s, a thread that
+/// was started first says once on `notices` that nobody reads it, and nothing else is said there. Where
+/// that thread couldn't be started it says nothing.
+///
+/// Unreadable, Config and Bind come before anything is printed: the file can't be read, it
+/// configures nothing, or an address can't be bound. LogFull is an item that finds the log full: the
+/// log page has as many records as the limit, and nothing is lost, since with the items that are
+/// left they hold what was answered with Queued. Spawn is a thread that can't be started. WriteFault
+/// is a failed call of `output`, after which no other is made. OutOfMemory may come instead of any
+/// other answer, but never of the log page, which takes no memory. Where memory for one more
+/// report of the operator's worker is missing, nobody could shut the daemon down any more: it closes
+/// itself, applies all, prints the log page and ends with OutOfMemory. Own rules.
+pub fn serve<
+    R: Files + Net<Listener = TcpListener, Stream = TcpStream> + Threads + Wait + Clock + Sync,
+    I: Read,
+    W: Sink,
+    E: Sink,
+    N: Sink + Send,
+>(
+    rt: &R,
+    alloc: Global,
+    path: &str,
+    input: &mut I,
+    output: &mut W,
+    errors: &mut E,
+    notices: &mut N,
+) -> Served
+    ensures ended { ServeEnds (W.state output.old) (W.state output.new)
+        (reports_of_each result.reports.items) result.fault }
+    ensures taken { IsInputTaken (I.remaining input.old) (E.state errors.old)
+        (E.state errors.new) }
+    ensures noticed { IsNoticed (N.state notices.old) (N.state notices.new) }
+{
+    let progress = Progress::new();
+    let ((), served) = join_mut(
+        rt,
+        &mut || watch(rt, &progress, notices),
+        &mut || -> Served
+            ensures ended { ServeEnds (W.state output.entry.now) (W.state output.exit.now)
+                (reports_of_each result.reports.items) result.fault }
+            ensures taken { IsInputTaken (I.remaining input.entry.now)
+                (E.state errors.entry.now) (E.state errors.exit.now) }
+        {
+            let served = serve_watched(rt, alloc, path, input, output, errors, &progress);
+            progress.end();
+            served
+        },
+    );
+    served
 }

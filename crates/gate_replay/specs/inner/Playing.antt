@@ -13,8 +13,9 @@ use Rattle.gate_core.specs.declared.event.Reply.TheVariants.{Taken, Empty}
 use Rattle.gate_replay.specs.Ending.{with_ends}
 use Rattle.gate_applier.specs.Applier.{ApplierView, opened}
 use Rattle.gate_streams.specs.Sink.{SinkState, FailsOnce, Writes, Delivers}
+use Rattle.gate_faults.specs.declared.fault.RunFault.TheVariants as run
 use Rattle.gate_replay.specs.declared.fault.ReplayFault.{ReplayFault}
-use Rattle.gate_replay.specs.declared.fault.ReplayFault.TheVariants.{TooLong, LogFull, OutOfMemory, ReadFault, WriteFault}
+use Rattle.gate_replay.specs.declared.fault.ReplayFault.TheVariants.{TooLong, Run as OfRun}
 use Rattle.gate_replay.specs.declared.player.Player.{Player}
 use Rattle.gate_replay.specs.declared.player.Stopped.{Stopped}
 use Rattle.gate_replay.specs.declared.player.Stopped.TheVariants as stopped
@@ -22,7 +23,7 @@ use Rattle.gate_replay.specs.declared.script.Step.{Step}
 use Rattle.gate_replay.specs.declared.setup.Setup.{Setup}
 use Rattle.gate_replay.specs.declared.script.Script.{Script}
 use Rattle.gate_replay.specs.ReplayState.{ReplayState, Heard, number_queued, drains, plays, state_after, steps_of, Finishes, IsWholeStep, IsWhole, IsPlayed, BeginsDrain, IsBegunStep, IsWholeSoFar, IsPlayedSoFar}
-use Rattle.gate_replay.specs.Replay.{IsTooLong, printed_by, PrintsSoFar}
+use Rattle.gate_replay.specs.Replay.{IsTooLong, printed_by, HasRoomLeft}
 
 -- ---- a queue
 
@@ -49,10 +50,6 @@ pub record IsShown {D : Type 0} (view : SoloView D) (limits : Limits) (run : Run
   pub queue : D
   pub after : view.after queue run
   pub limits_are : view.limits queue ≡ limits
-
--- a queue of these limits shows this run, or what is left of one after its end shows it with the ends
-abbrev pub IsShownSoFar : {D E : Type 0} → SoloView D → SoloView E → Limits → Run → Type 0
-IsShownSoFar view ended limits run = IsShown view limits run ⊎ IsShown ended limits (with_ends run)
 
 -- what is left of the queue after its end shows whatever run the queue did, with the ends
 pub record IsEnded {D E : Type 0} (view : SoloView D) (ended : SoloView E) (queue : D) : Type 0 where
@@ -191,15 +188,9 @@ pub record PlayedPart {D : Type 0} (view : SoloView D) (s : Setting) (steps : Li
 
 -- a call failed, and no other
 abbrev pub IsWriteEnd : SinkState → SinkState → ReplayFault → Type 0
-IsWriteEnd before after OutOfMemory = FailsOnce before after
-IsWriteEnd before after WriteFault = FailsOnce before after
+IsWriteEnd before after (OfRun run.OutOfMemory) = FailsOnce before after
+IsWriteEnd before after (OfRun run.WriteFault) = FailsOnce before after
 IsWriteEnd before after _ = ⊥
-
--- the log page wasn't delivered: a call failed, or there was no memory for the page and nothing is held back
-abbrev pub IsLogEnd : SinkState → SinkState → ReplayFault → Type 0
-IsLogEnd before after OutOfMemory = FailsOnce before after ⊎ Delivers before after []
-IsLogEnd before after WriteFault = FailsOnce before after
-IsLogEnd before after _ = ⊥
 
 -- a player stopped: with a full log, where the first fact holds of the applier; out of memory, where the
 -- second does; or at a write, where the third holds of the fault
@@ -282,25 +273,26 @@ pub record IsPrinted (rules : Limits → Run → Type 0) (script : Script) (befo
   pub full_is : replayed.full ≡ full
   pub printed : Delivers before after (printed_by script replayed)
 
--- the first steps of a script were played, and what they print was delivered
+-- the first steps of a script were played, the log wasn't full with an item left, and what they print was delivered
 pub record IsPrintedSoFar (rules : Limits → Run → Type 0) (script : Script) (before after : SinkState) : Type 0 where
   pub replayed : ReplayState
   pub played : IsPlayedSoFar rules script replayed
-  pub printed : PrintsSoFar script replayed before after
+  pub room : HasRoomLeft script replayed
+  pub printed : Delivers before after (printed_by script replayed)
 
 -- a script was played to its end, or to this fault. The second rules are those of a queue before its end
 abbrev pub EndsPlaying : (rules so_far : Limits → Run → Type 0) → Script → SinkState → SinkState → Option ReplayFault
     → Type 0
 EndsPlaying rules so_far script before after None = IsPrinted rules script before after false
-EndsPlaying rules so_far script before after (Some LogFull) = IsPrinted rules script before after true
-EndsPlaying rules so_far script before after (Some OutOfMemory) =
+EndsPlaying rules so_far script before after (Some (OfRun run.LogFull)) = IsPrinted rules script before after true
+EndsPlaying rules so_far script before after (Some (OfRun run.OutOfMemory)) =
     (after ≡ before) ⊎ FailsOnce before after ⊎ IsPrintedSoFar so_far script before after
-EndsPlaying rules so_far script before after (Some WriteFault) = FailsOnce before after
+EndsPlaying rules so_far script before after (Some (OfRun run.WriteFault)) = FailsOnce before after
 EndsPlaying rules so_far script before after (Some _) = ⊥
 
 -- why an input wasn't read: it is too long, memory ran out, or a read failed
 abbrev pub IsInputFault : Option (List ℕ) → ReplayFault → Type 0
 IsInputFault input TooLong = IsTooLong input
-IsInputFault input OutOfMemory = Unit {0}
-IsInputFault input ReadFault = Unit {0}
+IsInputFault input (OfRun run.OutOfMemory) = Unit {0}
+IsInputFault input (OfRun run.ReadFault) = Unit {0}
 IsInputFault input _ = ⊥

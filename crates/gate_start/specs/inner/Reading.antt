@@ -9,14 +9,15 @@ use Rattle.gate_config.specs.declared.fault.ConfigFault.TheVariants as config_fa
 use Rattle.gate_config.specs.Check.{IsFirstFault}
 use Rattle.gate_config.specs.Config.{IsDocument}
 use Rattle.gate_config.specs.Document.{document_checks}
+use Rattle.gate_faults.specs.declared.fault.RunFault.TheVariants as run
 use Rattle.gate_start.specs.declared.fault.ServeFault.{ServeFault}
-use Rattle.gate_start.specs.declared.fault.ServeFault.TheVariants.{Config, OutOfMemory}
+use Rattle.gate_start.specs.declared.fault.ServeFault.TheVariants.{Config, Run}
 use Rattle.gate_start.specs.BeforeServing.{IsNoDocument, IsFaulty}
 
 -- an error of the system is this fault: out of memory, or else the other one
 abbrev pub IsFaultOf : Error → ServeFault → ServeFault → Type 0
 IsFaultOf error other found =
-    ((error_kind error ≡ kind.OutOfMemory) × (found ≡ OutOfMemory))
+    ((error_kind error ≡ kind.OutOfMemory) × (found ≡ Run run.OutOfMemory))
     ⊎ ((error_kind error ≢ kind.OutOfMemory) × (found ≡ other))
 
 -- what is known of a text that could not be read as a configuration: its first fault, or memory ran out
@@ -29,5 +30,5 @@ pub record IsReadFault (text : List ℕ) (found : ConfigFault) : Type 0 where
 -- a text configures nothing
 abbrev pub IsTextEnd : ServeFault → Type 0
 IsTextEnd (Config reported) = IsFaulty reported
-IsTextEnd OutOfMemory = Unit {0}
+IsTextEnd (Run run.OutOfMemory) = Unit {0}
 IsTextEnd _ = ⊥

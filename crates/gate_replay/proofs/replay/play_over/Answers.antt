@@ -6,22 +6,22 @@ pub returns-in-Ok-play : goal.returns-in-Ok-play
 returns-in-Ok-play g c =
     let state = g.W.Sink.state in
     let played = rw c.deref.ensures.value at c.in-Ok-play.ensures.played in
-    log_ends (solo_view g.D.SoloQueue.after g.D.SoloQueue.limits) (solo_view g.D.Ended.EndedQueue.after g.D.Ended.EndedQueue.limits) c.print_log.result c.args.script c.in-Ok-play.player c.end-applier.result (state c.args.output.now) (state c.play.new.output) (state c.print_log.new.output)
-    c.end-applier.ensures.applier c.end-applier.ensures.ended (played c.args.script.setup c.in-Ok.ensures.begun) c.print_log.ensures.ok c.print_log.ensures.err
+    log_ends (solo_view g.D.SoloQueue.after g.D.SoloQueue.limits) (solo_view g.D.Ended.EndedQueue.after g.D.Ended.EndedQueue.limits) c.print_page.result c.args.script c.in-Ok-play.player c.end-applier.result (state c.args.output.now) (state c.play.new.output) (state c.print_page.new.output)
+    c.end-applier.ensures.applier c.end-applier.ensures.ended (played c.args.script.setup c.in-Ok.ensures.begun) c.print_page.ensures.ok c.print_page.ensures.err
 
 pub returns-in-Err-Full : goal.returns-in-Err-Full
 returns-in-Err-Full g c =
     let state = g.W.Sink.state in
     let stopped = rw (c.in-Err-Full.field-0-is, c.deref.ensures.value) at c.in-Err-Full.ensures.stopped in
-    full_ends (solo_view g.D.SoloQueue.after g.D.SoloQueue.limits) (solo_view g.D.Ended.EndedQueue.after g.D.Ended.EndedQueue.limits) c.print_log-printed.result c.fault_after.result c.args.script c.in-Err-Full.applier (state c.args.output.now) (state c.play.new.output) (state c.print_log-printed.new.output)
-    (stopped c.args.script.setup c.in-Ok.ensures.begun) c.print_log-printed.ensures.ok c.print_log-printed.ensures.err c.fault_after.ensures.ok c.fault_after.ensures.err
+    full_ends (solo_view g.D.SoloQueue.after g.D.SoloQueue.limits) (solo_view g.D.Ended.EndedQueue.after g.D.Ended.EndedQueue.limits) c.print_page-printed.result c.fault_after.result c.args.script c.in-Err-Full.applier (state c.args.output.now) (state c.play.new.output) (state c.print_page-printed.new.output)
+    (stopped c.args.script.setup c.in-Ok.ensures.begun) c.print_page-printed.ensures.ok c.print_page-printed.ensures.err c.fault_after.ensures.ok c.fault_after.ensures.err
 
 pub returns-in-Err-OutOfMemory : goal.returns-in-Err-OutOfMemory
 returns-in-Err-OutOfMemory g c =
     let state = g.W.Sink.state in
     let stopped = rw (c.in-Err-OutOfMemory.field-0-is, c.deref.ensures.value) at c.in-Err-OutOfMemory.ensures.stopped in
-    memory_ends (solo_view g.D.SoloQueue.after g.D.SoloQueue.limits) (solo_view g.D.Ended.EndedQueue.after g.D.Ended.EndedQueue.limits) c.print_log-printed-in-Err-OutOfMemory.result c.fault_after-in-Err-OutOfMemory.result c.args.script c.in-Err-OutOfMemory.applier (state c.args.output.now) (state c.play.new.output) (state c.print_log-printed-in-Err-OutOfMemory.new.output)
-    (stopped c.args.script.setup c.in-Ok.ensures.begun) c.print_log-printed-in-Err-OutOfMemory.ensures.ok c.print_log-printed-in-Err-OutOfMemory.ensures.err c.fault_after-in-Err-OutOfMemory.ensures.ok c.fault_after-in-Err-OutOfMemory.ensures.err
+    memory_ends (solo_view g.D.SoloQueue.after g.D.SoloQueue.limits) (solo_view g.D.Ended.EndedQueue.after g.D.Ended.EndedQueue.limits) c.print_page-printed-in-Err-OutOfMemory.result c.fault_after-in-Err-OutOfMemory.result c.args.script c.in-Err-OutOfMemory.applier (state c.args.output.now) (state c.play.new.output) (state c.print_page-printed-in-Err-OutOfMemory.new.output)
+    (stopped c.args.script.setup c.in-Ok.ensures.begun) c.print_page-printed-in-Err-OutOfMemory.ensures.ok c.print_page-printed-in-Err-OutOfMemory.ensures.err c.fault_after-in-Err-OutOfMemory.ensures.ok c.fault_after-in-Err-OutOfMemory.ensures.err
 
 pub end-applier-requires : goal.end-applier-requires
 end-applier-requires g c =

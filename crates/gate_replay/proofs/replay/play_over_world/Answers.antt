@@ -1,14 +1,13 @@
-use Rattle.std.proofs.Common.{rules, ⊎_elim, ◌≡◌, [], true, refl, ap, ◌∙◌, subst, arith}
+use Rattle.std.proofs.Common.{rules, ◌≡◌, [], true, refl, ap, ◌∙◌, subst, arith}
 use Rattle.std.specs.Prelude.{is_ok}
 use Rattle.gate_core.specs.Limits.{Limits}
 use Rattle.gate_core.specs.Legal.{Run, IsLegal}
 use Rattle.gate_core.specs.State.{WorldState, StandsAfter}
 use Rattle.gate_core.specs.LocalClient.{LocalState}
-use Rattle.gate_replay.specs.Ending.{with_ends}
 use Rattle.gate_replay.specs.SoloWorld.{IsAfter}
 use Rattle.gate_replay.specs.laws.SoloWorlds.{open_at}
 use Rattle.gate_streams.specs.Fault.{fault_in}
-use Rattle.gate_replay.specs.inner.Playing.{solo_view, IsShown, IsShownSoFar}
+use Rattle.gate_replay.specs.inner.Playing.{solo_view, IsShown}
 use Rattle.gate_replay.proofs.ReplayEnds.{ends_too}
 use Rattle.gate_replay.proofs.replay.play_over_world.Goals as goal
 
@@ -16,15 +15,13 @@ use Rattle.gate_replay.proofs.replay.play_over_world.Goals as goal
 shown_legal : (limits : Limits) (run : Run) → IsShown (solo_view StandsAfter (λ (world : WorldState). world.limits)) limits run → IsLegal limits run
 shown_legal limits run h = subst (λ (l : Limits). IsLegal l run) h.limits_are h.after.legal
 
-shown_so_far : (limits : Limits) (run : Run) → IsShownSoFar (solo_view IsAfter (λ (client : LocalState). client.world.limits)) (solo_view StandsAfter (λ (world : WorldState). world.limits)) limits run → IsLegal limits run
-shown_so_far limits run h =
-    ⊎_elim (λ (stood : IsShown (solo_view IsAfter (λ (client : LocalState). client.world.limits)) limits run). subst (λ (l : Limits). IsLegal l run) stood.limits_are stood.after.stands.legal)
-    (λ (left : IsShown (solo_view StandsAfter (λ (world : WorldState). world.limits)) limits (with_ends run)). (shown_legal limits (with_ends run) left).1.1.1.1) h
+shown_so_far : (limits : Limits) (run : Run) → IsShown (solo_view IsAfter (λ (client : LocalState). client.world.limits)) limits run → IsLegal limits run
+shown_so_far limits run h = subst (λ (l : Limits). IsLegal l run) h.limits_are h.after.stands.legal
 
 pub returns : goal.returns
 returns g c =
     let state = g.W.Sink.state in
-    ends_too (IsShown (solo_view StandsAfter (λ (world : WorldState). world.limits))) (IsShownSoFar (solo_view IsAfter (λ (client : LocalState). client.world.limits)) (solo_view StandsAfter (λ (world : WorldState). world.limits))) IsLegal c.args.script (state c.args.output.now) (state c.play_over.new.output) (fault_in c.play_over.result) shown_legal shown_so_far c.play_over.ensures
+    ends_too (IsShown (solo_view StandsAfter (λ (world : WorldState). world.limits))) (IsShown (solo_view IsAfter (λ (client : LocalState). client.world.limits))) IsLegal c.args.script (state c.args.output.now) (state c.play_over.new.output) (fault_in c.play_over.result) shown_legal shown_so_far c.play_over.ensures
 
 pub unwrap-queue-requires : goal.unwrap-queue-requires
 unwrap-queue-requires g c =

@@ -4,7 +4,7 @@ use Rattle.nscagate.specs.Serve.{ServeEnds}
 use Rattle.gate_worker.specs.Answered.{reports_of_each}
 use Rattle.gate_start.specs.declared.fault.ServeFault.{ServeFault}
 use Rattle.nscagate.proofs.Steps.{ends_before, ends_on}
-use Rattle.nscagate.proofs.serving.serve.Goals as goal
+use Rattle.nscagate.proofs.serving.serve_watched.Goals as goal
 
 pub returns-in-Ok-clause-ended : goal.returns-in-Ok-clause-ended
 returns-in-Ok-clause-ended g c =
