@@ -1,4 +1,4 @@
-ghost use Rattle.std.specs.Prelude.{◌≡◌, ◌⊎◌, ◌≤◌, ℕ, List, length, ◌++◌, ◌∷◌, [], true, false, Some, IfSome, IfNone};
+ghost use Rattle.std.specs.Prelude.{◌≡◌, ◌↔◌, ◌⊎◌, ◌≤◌, ℕ, List, length, ◌++◌, ◌∷◌, [], true, false, Some, IfSome, IfNone, IsTrue};
 ghost use Rattle.gate_kept.specs.First.{kept_left, input_state, is_peer, GivesKept};
 
 use gate_environment::{Connections, Piece, PieceEnd};
@@ -13,7 +13,7 @@ pub trait Turn {
 
     /// Whether no more of the part is served.
     fn is_over(&self) -> bool
-        ensures { result ≡ true → is_over self.now };
+        ensures { IsTrue result ↔ is_over self.now };
 
     /// Waits until the part may be served.
     fn begin(&mut self);

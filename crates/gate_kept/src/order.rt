@@ -1,4 +1,4 @@
-ghost use Rattle.std.specs.Prelude.{◌≡◌, false};
+ghost use Rattle.std.specs.Prelude.{◌≡◌, false, None, IsSomeAnd};
 
 use crate::first::Turn;
 use gate_environment::{Hold, Point, pause};
@@ -45,12 +45,16 @@ pub struct TakenCount<'a> {
 
 impl<'a> TakenCount<'a> {
     /// Counts for this order.
-    pub fn of(order: &'a Order) -> TakenCount<'a> {
+    pub fn of(order: &'a Order) -> TakenCount<'a>
+        ensures { IsSomeAnd result.order (λ counted. counted.now ≡ order.now) }
+    {
         TakenCount { order: Some(order) }
     }
 
     /// Counts nothing.
-    pub fn none() -> TakenCount<'a> {
+    pub fn none() -> TakenCount<'a>
+        ensures { result.order ≡ None }
+    {
         TakenCount { order: None }
     }
 }
@@ -73,7 +77,8 @@ pub struct PacketTurn<'a> {
 impl<'a> PacketTurn<'a> {
     /// The turn of the worker that serves the packets.
     pub fn of(order: &'a Order) -> PacketTurn<'a>
-        ensures { result.is_over ≡ false }
+        ensures order { IsSomeAnd result.order (λ told. told.now ≡ order.now) }
+        ensures begins { result.is_over ≡ false }
     {
         PacketTurn {
             order: Some(order),
@@ -83,7 +88,8 @@ impl<'a> PacketTurn<'a> {
 
     /// That of another worker.
     pub fn none() -> PacketTurn<'a>
-        ensures { result.is_over ≡ false }
+        ensures order { result.order ≡ None }
+        ensures begins { result.is_over ≡ false }
     {
         PacketTurn {
             order: None,
@@ -124,7 +130,10 @@ pub struct LineTurn<'a, R, P> {
 impl<'a, R, P> LineTurn<'a, R, P> {
     /// The turn of lines, after which these ports are opened; so many packets and lines are kept.
     pub fn new(rt: &'a R, order: &'a Order, ports: &'a P, items: u64) -> LineTurn<'a, R, P>
-        ensures { result.is_over ≡ false }
+        ensures order { result.order.now ≡ order.now }
+        ensures ports { result.ports.now ≡ ports.now }
+        ensures items { result.items ≡ items }
+        ensures begins { result.is_over ≡ false }
     {
         LineTurn {
             rt,

@@ -12,7 +12,9 @@ use std::marker::Model;
 /// The right to close a gate. Contracts see what it knows of the gate's close.
 #[derive(Drop)]
 pub struct Closer {
-    pub(crate) knowledge: Knowledge,
+    knowledge: Knowledge,
+    // Room for the moment of a close, so that it can be made also once memory has run out.
+    room: Option<Box<Moment>>,
 }
 
 impl Model for Closer {
@@ -26,11 +28,35 @@ impl Model for Closer {
 impl Closer {
     ghost use Rattle.gate_queue.specs.Closer.{IsCloseFault};
 
+    /// A closer of this knowledge, with room for the moment of a close, where there is memory for it.
+    pub(crate) fn new(alloc: Global, knowledge: Knowledge) -> Closer
+        ensures { result ≡ knowledge }
+    {
+        Closer {
+            knowledge,
+            room: Box::new(alloc, Moment(0)).ok(),
+        }
+    }
+
+    // The moment in the room that was kept for it, or in new memory.
+    fn boxed(&mut self, alloc: Global, moment: Moment) -> Option<Box<Moment>>
+        ensures moment { IfSome result (λ value. value.value ≡ moment) }
+        ensures same { self.new ≡ self.old }
+    {
+        match self.room.take() {
+            Some(mut value) => {
+                *value = moment;
+                Some(value)
+            }
+            None => Box::new(alloc, moment).ok(),
+        }
+    }
+
     /// Closes the gate at this moment, and returns a notice of it.
     ///
     /// It fails with AlreadyClosing where a close was first, and then the closer knows of that one.
-    /// It fails with OutOfMemory where there is no room for the moment; nothing is closed then. A
-    /// closer that knows of a close takes no memory. A taker that rests is woken. Own rule.
+    /// It fails with OutOfMemory where there is no room for the moment; nothing is closed then. Room was
+    /// taken with the closer, where there was memory for it. A taker that rests is woken. Own rule.
     pub fn close(
         &mut self,
         alloc: Global,
@@ -47,7 +73,7 @@ impl Closer {
         if let Some(first) = self.knowledge.look(&gate.cell) {
             return Err(CloseFault::AlreadyClosing(first));
         }
-        let Ok(value) = Box::new(alloc, moment) else {
+        let Some(value) = self.boxed(alloc, moment) else {
             return Err(CloseFault::OutOfMemory);
         };
         match self.knowledge.set(&gate.cell, value) {
@@ -103,9 +129,7 @@ impl Closer {
     pub fn another(&self) -> Closer
         ensures { result ≡ self.now }
     {
-        Closer {
-            knowledge: self.knowledge.again(),
-        }
+        Closer::new(self.knowledge.alloc(), self.knowledge.again())
     }
 }
 

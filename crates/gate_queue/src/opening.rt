@@ -100,9 +100,7 @@ fn open_all(alloc: Global, bounds: Bounds) -> Result<(Gate, Taker, Closer, Vec<C
         knowledge: Knowledge::new(alloc, &cell),
         counts,
     };
-    let closer = Closer {
-        knowledge: Knowledge::new(alloc, &cell),
-    };
+    let closer = Closer::new(alloc, Knowledge::new(alloc, &cell));
     let gate = Gate {
         ring,
         cell,

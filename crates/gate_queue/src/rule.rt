@@ -175,6 +175,11 @@ impl Knowledge {
         }
     }
 
+    /// Where its own memory comes from.
+    pub(crate) fn alloc(&self) -> Global {
+        self.alloc
+    }
+
     /// Looks at the close cell, and returns the moment of the close if there was one.
     pub(crate) fn look(&mut self, cell: &OnceBox<Moment>) -> Option<Moment>
         requires { self.old.cell ≡ cell_name cell.now }

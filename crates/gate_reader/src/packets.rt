@@ -9,7 +9,9 @@ ghost use Rattle.gate_reader.specs.Pieces.{IsPacketPiece, IsFirstPacketPiece};
 ghost use Rattle.gate_reader.specs.inner.Progress.{AnswersOneBlock, IsLastBlock, stop_by, ServesFront, AreLast, Runs};
 
 use crate::read_buffer::ReadBuffer;
-use crate::report::{Answer, Answers, Report, SessionLimits, Stop, is_open, submit_body};
+use crate::report::{
+    Answer, AnswerList, Answers, Report, SessionLimits, Stop, is_open, submit_body,
+};
 use gate_core::Submit;
 use gate_environment::Clock;
 use gate_model::Moment;
@@ -63,7 +65,7 @@ fn serve_front<C: Clock, S: Submit>(
     client: &mut S,
     items: u32,
     greatest_age: u32,
-    answers: &mut Vec<Answer>,
+    answers: &mut AnswerList,
 ) -> Result<usize, Stop>
     requires within { length answers.old.items ≤ items }
     requires open { AreOpen answers.old.items }
@@ -121,7 +123,7 @@ fn read_packets<R: Source, C: Clock, S: Submit>(
     client: &mut S,
     limits: SessionLimits,
     greatest_age: u32,
-    answers: &mut Vec<Answer>,
+    answers: &mut AnswerList,
 ) -> (Stop, u32)
     requires none { answers.old.items ≡ [] }
     ensures served { let view = client_view S.Submit (S.named client.old) in
@@ -195,7 +197,7 @@ pub fn serve_packet_piece<R: Source, C: Clock, S: Submit>(
     ensures named { S.named client.new ≡ S.named client.old }
     ensures keeps { S.keeps client.old client.new }
 {
-    let mut answers = Vec::new(alloc);
+    let mut answers = AnswerList::new(alloc);
     let (stop, reads) = read_packets(
         alloc,
         reader,
@@ -269,7 +271,7 @@ pub fn serve_first_packet_piece<R: Source, W: Sink, C: Clock, S: Submit>(
 {
     if greet(writer, clock).is_err() {
         let report = Report {
-            answers: Answers::new(Vec::new(alloc)),
+            answers: Answers::new(AnswerList::new(alloc)),
             stop: Stop::WriteFault,
         };
         return (report, limits);

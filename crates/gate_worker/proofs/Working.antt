@@ -1,6 +1,6 @@
 -- One piece after the other.
 use Rattle.std.proofs.Common.{◌≡◌, ℕ, inl, inr, ◌⊎◌, Bool, true, false, cond, List, [], ◌∷◌, ◌++◌, length, map, flat_map, Option, Some, None, ◌+◌, ◌<◌, ◌≤◌, set, refl, sym, ap, ◌∙◌, subst, append-nil, append_assoc, arith}
-use Rattle.std.specs.Prelude.{IfSome, IsSome, filter}
+use Rattle.std.specs.Prelude.{IfSome, IsSome, filter, ◌||◌}
 use Rattle.std.proofs.lemmas.Bool.{true≢false, false≢true}
 use Rattle.std.proofs.lemmas.List.{map-append}
 use Rattle.std.proofs.lemmas.List.Elements.{filter-append}
@@ -16,7 +16,7 @@ use Rattle.gate_reader.specs.declared.report.Answer.TheVariants.{Queued, Full, S
 use Rattle.gate_reader.specs.declared.report.Report.{Report}
 use Rattle.gate_worker.specs.Numbers.{queued_numbers, item_numbers, numbers_after, reported_numbers}
 use Rattle.gate_environment.specs.Streams.{ComesNext, AreSent, SendFirst}
-use Rattle.gate_worker.specs.Work.{ServedPiece, IsServed, limits_of, left_after, ServesEach, has_queued, count_of, AreFirst, Serves, KnowsItsClose, MetNoClose, EndsAtClose, IsWork}
+use Rattle.gate_worker.specs.Work.{ServedPiece, IsServed, limits_of, left_after, ServesEach, has_queued, met_close, is_kept, count_of, AreFirst, Serves, KnowsItsClose, MetNoClose, EndsAtClose, IsWork}
 use Rattle.gate_worker.specs.Stops.{StopsAt}
 use Rattle.gate_worker.specs.inner.Progress.{IsAsBefore, progress_before, progress_after, left_after_all, AgreesWith}
 use Rattle.gate_worker.specs.declared.progress.Progress.{Progress}
@@ -29,10 +29,6 @@ use Rattle.gate_worker.specs.declared.worker.Cause.TheVariants.{NoMoreConnection
 use Rattle.gate_worker.proofs.Numbering.{item_numbers-append, numbers_go_on}
 use Rattle.gate_worker.proofs.Sessions.{served_extends}
 use Rattle.gate_worker.proofs.Closes.{Stays, served_knows, met_none, knows_none, knows_later}
-
--- something was queued of a report's piece
-abbrev queued_in : Report → Bool
-queued_in report = has_queued report.answers
 
 -- ---- what is known
 
@@ -149,7 +145,7 @@ serves_look is_operator limits shows streams left begun reports client looked s 
 pub serves_next : (is_operator : Bool) (limits : WorkerLimits) (shows : Moment → Type 0) (streams left later : Option (List (List ℕ))) (begun : ClientState) (reports pushed : List Report) (looked : ClientState) (piece : ServedPiece) (new : ClientState)
     → (s : Serves is_operator limits shows streams left begun reports looked) → looked.known_close ≡ None
     → IsServed is_operator (limits_of limits.session (left_after_all (λ (place : ℕ). limits.session) s.pieces) piece) limits.greatest_age shows looked piece new
-    → ComesNext left (Some piece.sent) later → (IsSome left → piece.is_first ≡ true) → pushed ≡ reports ++ filter queued_in (piece.report ∷ [])
+    → ComesNext left (Some piece.sent) later → (IsSome left → piece.is_first ≡ true) → pushed ≡ reports ++ filter is_kept (piece.report ∷ [])
     → (t : Serves is_operator limits shows streams later begun pushed new) × (t.pieces ≡ s.pieces ++ piece ∷ [])
 serves_next is_operator limits shows streams left later begun reports pushed looked piece new s none served next whole kept =
     let known = none_before s.last.known_close looked.known_close s.learns none in
@@ -164,9 +160,9 @@ serves_next is_operator limits shows streams left later begun reports pushed loo
         whole = λ some. first_next s.pieces piece (s.whole some) (whole (known_left streams left _ s.sent some));
         each = each;
         queued = each_queued is_operator limits shows (λ (place : ℕ). limits.session) begun.number begun (s.pieces ++ piece ∷ []) new refl each;
-        reported = kept ∙ ap (λ l. l ++ filter queued_in (piece.report ∷ [])) s.reported
-            ∙ sym (filter-append queued_in (map report s.pieces) (piece.report ∷ []))
-            ∙ ap (filter queued_in) (sym (map-append report s.pieces (piece ∷ [])));
+        reported = kept ∙ ap (λ l. l ++ filter is_kept (piece.report ∷ [])) s.reported
+            ∙ sym (filter-append is_kept (map report s.pieces) (piece.report ∷ []))
+            ∙ ap (filter is_kept) (sym (map-append report s.pieces (piece ∷ [])));
         stays = refl;
         learns = learns_self new.known_close;
       },
@@ -208,7 +204,7 @@ pub worked_next : (is_operator : Bool) (limits : WorkerLimits) (shows : Moment �
     → Worked is_operator limits shows streams left begun reports table looked → looked.known_close ≡ None
     → before ≡ progress_before table.session table.entries.items piece.is_first piece.place
     → IsServed is_operator before.left limits.greatest_age shows looked piece new
-    → ComesNext left (Some piece.sent) later → (IsSome left → piece.is_first ≡ true) → pushed ≡ reports ++ filter queued_in (piece.report ∷ [])
+    → ComesNext left (Some piece.sent) later → (IsSome left → piece.is_first ≡ true) → pushed ≡ reports ++ filter is_kept (piece.report ∷ [])
     → queued ≡ has_queued piece.report.answers → piece.place < length table.entries.items
     → noted.entries.items ≡ set table.entries.items piece.place (progress_after before piece.left queued)
     → noted.session ≡ table.session → noted.counted ≡ table.counted + count_of before.is_counted queued
@@ -231,7 +227,7 @@ pub goes_on : (has is_operator : Bool) (limits : WorkerLimits) (shows : Moment �
     → reserved ≡ reports → IsAsBefore table grown
     → before ≡ progress_before grown.session grown.entries.items piece.is_first piece.place
     → IsServed has before.left limits.greatest_age shows looked piece new → has ≡ is_operator
-    → ComesNext left (Some piece.sent) middle → later ≡ middle → (IsSome left → piece.is_first ≡ true) → kept ≡ reserved ++ filter queued_in (piece.report ∷ [])
+    → ComesNext left (Some piece.sent) middle → later ≡ middle → (IsSome left → piece.is_first ≡ true) → kept ≡ reserved ++ filter is_kept (piece.report ∷ [])
     → queued ≡ has_queued piece.report.answers → piece.place < length grown.entries.items
     → noted.entries.items ≡ set grown.entries.items piece.place (progress_after before piece.left queued)
     → noted.session ≡ grown.session → noted.counted ≡ grown.counted + count_of before.is_counted queued
@@ -293,10 +289,14 @@ none_numbers (EmptyHost ∷ answers) e = none_numbers answers e
 none_numbers (Bad cause ∷ answers) e = none_numbers answers e
 none_numbers (Down moment ∷ answers) e = none_numbers answers e
 
-kept_numbers : (has : Bool) (report : Report) (rest : List Report) → has_queued report.answers ≡ has
+or_false : (has met : Bool) → (has || met) ≡ false → has ≡ false
+or_false false met e = refl
+or_false true met e = absurd (true≢false e)
+
+kept_numbers : (has : Bool) (report : Report) (rest : List Report) → is_kept report ≡ has
     → reported_numbers (cond has (report ∷ rest) rest) ≡ queued_numbers report.answers ++ reported_numbers rest
 kept_numbers true report rest e = refl
-kept_numbers false report rest e = ap (λ l. l ++ reported_numbers rest) (none_numbers report.answers e)
+kept_numbers false report rest e = ap (λ l. l ++ reported_numbers rest) (none_numbers report.answers (or_false (has_queued report.answers) (met_close report.answers) e))
 
 -- what was queued has the numbers that the reports answer with Queued, and these go on from the first ones
 abbrev Numbers : ClientState → List Report → ClientState → Type 0
@@ -305,21 +305,21 @@ Numbers old reports new =
 
 each_numbers : (is_operator : Bool) (limits : WorkerLimits) (shows : Moment → Type 0) (left : ℕ → SessionLimits) (old : ClientState) (pieces : List ServedPiece) (new : ClientState)
     → item_numbers old.queued ≡ numbers_after 0 (length old.queued) → ServesEach is_operator limits shows left old pieces new
-    → Numbers old (filter queued_in (map (λ (p : ServedPiece). p.report) pieces)) new
+    → Numbers old (filter is_kept (map (λ (p : ServedPiece). p.report) pieces)) new
 each_numbers is_operator limits shows left old [] new counted e =
     subst (λ (c : ClientState). Numbers old [] c) (sym e) (sym (append-nil (item_numbers old.queued)), counted)
 each_numbers is_operator limits shows left old (piece ∷ pieces) new counted e =
     let middle = e.0 in
     let x = served_extends is_operator (limits_of limits.session left piece) limits.greatest_age shows old piece middle e.1 in
     let more = x.0 in
-    let rest = filter queued_in (map (λ (p : ServedPiece). p.report) pieces) in
+    let rest = filter is_kept (map (λ (p : ServedPiece). p.report) pieces) in
     let next : item_numbers middle.queued ≡ numbers_after 0 (length middle.queued) =
     ap item_numbers x.1 ∙ numbers_go_on old.queued more counted x.3 ∙ ap (λ l. numbers_after 0 (length l)) (sym x.1) in
     let r = each_numbers is_operator limits shows (left_after left piece) middle pieces new next e.2 in (
       r.0 ∙ ap (λ l. item_numbers l ++ reported_numbers rest) x.1 ∙ ap (λ l. l ++ reported_numbers rest) (item_numbers-append old.queued more)
           ∙ ap (λ l. (item_numbers old.queued ++ l) ++ reported_numbers rest) x.2
           ∙ append_assoc (item_numbers old.queued) (queued_numbers piece.report.answers) (reported_numbers rest)
-          ∙ ap (λ l. item_numbers old.queued ++ l) (sym (kept_numbers (has_queued piece.report.answers) piece.report rest refl)),
+          ∙ ap (λ l. item_numbers old.queued ++ l) (sym (kept_numbers (is_kept piece.report) piece.report rest refl)),
       r.1,
     )
 
@@ -333,7 +333,7 @@ serves_numbers is_operator limits shows streams left begun reports ended fresh s
     let n = each_numbers is_operator limits shows (λ (place : ℕ). limits.session) begun s.pieces s.last counted s.each in
     let same : ended.queued ≡ s.last.queued = ap (λ (c : ClientState). c.queued) s.stays in
     let first : item_numbers ended.queued ≡ reported_numbers reports =
-    ap item_numbers same ∙ n.0 ∙ ap (λ l. item_numbers l ++ reported_numbers (filter queued_in (map (λ (p : ServedPiece). p.report) s.pieces))) fresh
+    ap item_numbers same ∙ n.0 ∙ ap (λ l. item_numbers l ++ reported_numbers (filter is_kept (map (λ (p : ServedPiece). p.report) s.pieces))) fresh
     ∙ ap reported_numbers (sym s.reported) in
     (first, sym first ∙ ap item_numbers same ∙ n.1 ∙ ap (λ l. numbers_after 0 (length l)) (sym same))
 
@@ -346,11 +346,11 @@ keeps_close known false report reports k met rest = rest
 
 each_closes : (is_operator : Bool) (limits : WorkerLimits) (shows : Moment → Type 0) (left : ℕ → SessionLimits) (old : ClientState) (pieces : List ServedPiece) (new : ClientState) (known : Option Moment)
     → Stays new.known_close known → ServesEach is_operator limits shows left old pieces new
-    → EndsAtClose known (filter queued_in (map (λ (p : ServedPiece). p.report) pieces))
+    → EndsAtClose known (filter is_kept (map (λ (p : ServedPiece). p.report) pieces))
 each_closes is_operator limits shows left old [] new known stays e = tt
 each_closes is_operator limits shows left old (piece ∷ []) new known stays e =
     let middle = e.0 in
-    keeps_close known (queued_in piece.report) piece.report []
+    keeps_close known (is_kept piece.report) piece.report []
     (knows_later middle.known_close known piece.report
     (λ first m. stays first (ap (λ (c : ClientState). c.known_close) e.2 ∙ m))
     (served_knows is_operator (limits_of limits.session left piece) limits.greatest_age shows old piece middle e.1))
@@ -359,7 +359,7 @@ each_closes is_operator limits shows left old (piece ∷ next ∷ pieces) new kn
     let middle = e.0 in
     let met = met_none middle.known_close piece.report e.2.1.knew_none
     (served_knows is_operator (limits_of limits.session left piece) limits.greatest_age shows old piece middle e.1) in
-    keeps_close known (queued_in piece.report) piece.report _ (knows_none known piece.report met) (inl met)
+    keeps_close known (is_kept piece.report) piece.report _ (knows_none known piece.report met) (inl met)
     (each_closes is_operator limits shows (left_after left piece) middle (next ∷ pieces) new known stays e.2)
 
 pub serves_closes : (is_operator : Bool) (limits : WorkerLimits) (shows : Moment → Type 0) (streams left : Option (List (List ℕ))) (begun : ClientState) (reports : List Report) (ended : ClientState)

@@ -1,7 +1,7 @@
 -- What a worker does: `IsWork`, pieces of connections one after the other, each a session as gate_reader defines it. Own
 -- rules.
-use Rattle.std.specs.Prelude.{◌≡◌, ◌≢◌, ◌⊎◌, ◌==◌, if◌then◌else◌, ◌+◌, ℕ, List, [], ◌∷◌, ◌++◌, map, flat_map, filter, Bool, true, false, Option, Some, None, IfSome, IsSome, ⊤}
-use Rattle.std.specs.List.{AllByRecursion}
+use Rattle.std.specs.Prelude.{◌≡◌, ◌≢◌, ◌⊎◌, ◌==◌, if◌then◌else◌, ◌+◌, ℕ, List, [], ◌∷◌, ◌++◌, map, flat_map, filter, not, ◌||◌, Bool, true, false, Option, Some, None, IfSome, IsSome, ⊤}
+use Rattle.std.specs.List.{AllByRecursion, list_any}
 use Rattle.gate_model.specs.declared.record.Moment.{Moment}
 use Rattle.gate_queue.specs.Client.{ClientState, client_state}
 use Rattle.gate_queue.specs.GateClient.{StandsFor, IsSameClient}
@@ -9,7 +9,7 @@ use Rattle.gate_queue.specs.GateOperator.{Closes}
 use Rattle.gate_environment.specs.Clock.{clock_within}
 use Rattle.gate_streams.specs.Source.{Tally, SourceState}
 use Rattle.gate_streams.specs.Sink.{SinkState}
-use Rattle.gate_reader.specs.Report.{AreOpen}
+use Rattle.gate_reader.specs.Report.{is_open, AreOpen}
 use Rattle.gate_reader.specs.Session.{ClientView, parties, Handled, SessionKind, LeadsTo, bytes_of, answers_of, queued_among}
 use Rattle.gate_reader.specs.Packets.{packets}
 use Rattle.gate_reader.specs.Lines.{OperatorView, lines}
@@ -134,6 +134,14 @@ has_queued [] = false
 has_queued (Queued number ∷ answers) = true
 has_queued (answer ∷ answers) = has_queued answers
 
+-- an answer Closing or Down is among them
+abbrev pub met_close : List Answer → Bool
+met_close answers = list_any (λ answer. not (is_open answer)) answers
+
+-- a worker keeps the report of a piece of which something was queued, or that met the close
+abbrev pub is_kept : Report → Bool
+is_kept report = has_queued report.answers || met_close report.answers
+
 -- the connection of this piece was counted before it
 abbrev pub was_counted : (ℕ → Bool) → ServedPiece → Bool
 was_counted counted piece = if piece.is_first then false else counted piece.place
@@ -161,8 +169,8 @@ abbrev pub AreFirst : List ServedPiece → Type 0
 AreFirst pieces = AllByRecursion (λ piece. piece.is_first ≡ true) pieces
 
 -- pieces were served; where streams are known, they are connections that sent the first of these streams, and the others
--- are left; what was queued is what their items name, in order; the reports are those of which something was queued. Of a
--- close the client may have learned after the last session
+-- are left; what was queued is what their items name, in order; the reports are those of which something was queued, and of
+-- those that met the close. Of a close the client may have learned after the last session
 pub record Serves (is_operator : Bool) (limits : WorkerLimits) (shows : Moment → Type 0)
     (streams left : Option (List (List ℕ))) (begun : ClientState) (reports : List Report) (ended : ClientState)
     : Type 0 where
@@ -172,7 +180,7 @@ pub record Serves (is_operator : Bool) (limits : WorkerLimits) (shows : Moment �
   pub whole : IsSome streams → AreFirst pieces
   pub each : ServesEach is_operator limits shows (λ place. limits.session) begun pieces last
   pub queued : last.queued ≡ begun.queued ++ flat_map (λ piece. queued_among begun.number piece.items) pieces
-  pub reported : reports ≡ filter (λ report. has_queued report.answers) (map (λ piece. piece.report) pieces)
+  pub reported : reports ≡ filter is_kept (map (λ piece. piece.report) pieces)
   pub stays : ended ≡ client_state last.gate last.number last.queued ended.known_close
   pub learns : IfSome last.known_close (λ first. ended.known_close ≡ Some first)
 

@@ -8,6 +8,10 @@ use gate_reader::SessionLimits;
 use std::alloc::{AllocError, Global};
 use std::time::Clock;
 
+// For how many connections there is room from the beginning, where there is memory for it: for as many
+// operators as may be open, so that one can shut the daemon down also once memory has run out.
+const FIRST_PLACES: usize = 256;
+
 /// What a worker keeps of a connection between two of its pieces.
 #[derive(Clone, Copy)]
 pub(crate) struct Progress {
@@ -43,9 +47,11 @@ impl ProgressTable {
         ensures none { result.entries.items ≡ [] }
         ensures counted { result.counted ≡ 0 }
     {
+        let mut entries = Vec::new(alloc);
+        let _ = entries.reserve(FIRST_PLACES);
         ProgressTable {
             session,
-            entries: Vec::new(alloc),
+            entries,
             counted: 0,
         }
     }

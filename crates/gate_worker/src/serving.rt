@@ -1,6 +1,7 @@
-ghost use Rattle.std.specs.Prelude.{◌≡◌, List, IfSome, None, is_some};
+ghost use Rattle.std.specs.Prelude.{◌≡◌, List, IfSome, None, is_some, not};
+ghost use Rattle.gate_reader.specs.Report.{is_open};
 ghost use Rattle.gate_reader.specs.Session.{client_view, parties, Handled};
-ghost use Rattle.gate_worker.specs.Work.{served_piece, IsServed, has_queued};
+ghost use Rattle.gate_worker.specs.Work.{served_piece, IsServed, has_queued, met_close};
 ghost use Rattle.gate_worker.specs.inner.Serving.{IsPacketPieceBy, end_of_piece, is_queued};
 
 use crate::limits::WorkerLimits;
@@ -159,6 +160,19 @@ pub(crate) fn has_queued(answers: &[Answer]) -> bool
     ensures { result ≡ has_queued answers.now }
 {
     answers.iter().any(is_queued)
+}
+
+fn reports_close(answer: &Answer) -> bool
+    ensures { result ≡ not (is_open answer.now) }
+{
+    matches!(answer, Answer::Closing(_) | Answer::Down(_))
+}
+
+/// Whether the close was met.
+pub(crate) fn met_close(answers: &[Answer]) -> bool
+    ensures { result ≡ met_close answers.now }
+{
+    answers.iter().any(reports_close)
 }
 
 /// A connection goes on after a piece that was served to its end, and is over after each other stop.

@@ -3,13 +3,13 @@ ghost use Rattle.gate_queue.specs.Client.{client_state};
 ghost use Rattle.gate_worker.specs.Numbers.{item_numbers, numbers_after, reported_numbers};
 ghost use Rattle.gate_worker.specs.Stops.{StopsAt};
 ghost use Rattle.gate_environment.specs.Streams.{ComesNext};
-ghost use Rattle.gate_worker.specs.Work.{has_queued, IsWork};
+ghost use Rattle.gate_worker.specs.Work.{has_queued, is_kept, IsWork};
 ghost use Rattle.gate_worker.specs.inner.Progress.{IsAsBefore};
 ghost use Rattle.gate_worker.specs.declared.worker.Cause.TheVariants.{NoMoreConnections};
 
 use crate::limits::WorkerLimits;
 use crate::progress::ProgressTable;
-use crate::serving::{Serving, end_of_piece, has_queued, serve};
+use crate::serving::{Serving, end_of_piece, has_queued, met_close, serve};
 use gate_environment::times::MEMORY_TRIES;
 use gate_environment::{Connections, Hold, Piece, Point, Watch, pause};
 use gate_queue::{Client, Closer, Ended, Gate};
@@ -34,8 +34,8 @@ pub enum Cause {
 }
 
 /// What a worker returns: its client, which has ended, the report of each piece of which something was
-/// queued, in the order in which they were served, and why it ended. The items that were queued for the
-/// client are those that the reports answer with Queued, numbered 1, 2 and so on.
+/// queued or that met the close, in the order in which they were served, and why it ended. The items that
+/// were queued for the client are those that the reports answer with Queued, numbered 1, 2 and so on.
 #[derive(Drop)]
 pub struct WorkerEnd {
     pub ended: Ended,
@@ -114,14 +114,14 @@ fn next_piece<R: Wait + Clock, C: Connections, K>(
     Ok(piece)
 }
 
-// Keeps the report of a piece of which something was queued, for which there is room.
+// Keeps the report of a piece of which something was queued or that met the close, for which there is room.
 fn keep_report(reports: &mut Vec<Report>, report: Report, queued: bool)
     requires room { vec_len reports.old < vec_capacity reports.old }
     requires queued { queued ≡ has_queued report.answers }
     ensures { reports.new.items ≡ reports.old.items
-        ++ filter (λ report. has_queued report.answers) (report ∷ []) }
+        ++ filter is_kept (report ∷ []) }
 {
-    if queued {
+    if queued || met_close(report.answers.as_slice()) {
         reports.push_reserved(report);
     } else {
         drop(report);
@@ -166,8 +166,9 @@ fn end_of(client: Client, reports: Vec<Report>, cause: Cause) -> WorkerEnd
 /// The worker ends where the gate is closing, where something was queued of `limits.sessions`
 /// connections, where for a second there was no memory for one more report or for one more connection in
 /// its table, and where there are no more connections. It looks at the gate before it asks for a piece
-/// and after it; a piece that comes after the close isn't served. A piece of which nothing was queued has
-/// no report, and a connection of which nothing was queued isn't counted. A packet for which the queue is
+/// and after it; a piece that comes after the close isn't served. The report of a piece is kept where
+/// something of it was queued or it met the close, and of no other, so that lines that are no commands use
+/// up no memory. A connection of which nothing was queued isn't counted. A packet for which the queue is
 /// full is submitted again for a minute at most, a line for 10 seconds, while items are taken from the
 /// queue. It waits for the connections, for room in the queue and for other threads at it. Own rule.
 pub fn run_worker<R: Wait + Clock, C: Connections + Drop, K: Watch, H: Hold + Drop>(
@@ -187,9 +188,9 @@ pub fn run_worker<R: Wait + Clock, C: Connections + Drop, K: Watch, H: Hold + Dr
     ensures gate { result.ended.gate ≡ gate.now }
     ensures number { result.ended.number ≡ client.number }
 
-    // Its reports are those of the pieces of which something was queued, from the first on, each served
-    // with what was left of these limits by what the clock shows, and what is queued for its client is
-    // what they mean. It ends at the first cause that there is.
+    // Its reports are those of the pieces of which something was queued or that met the close, from the
+    // first on, each served with what was left of these limits by what the clock shows, and what is queued
+    // for its client is what they mean. It ends at the first cause that there is.
     ensures work { IsWork (is_some closer) limits (K.shows clock.now) (C.streams connections) client
         result.reports.items result.ended result.cause }
 {

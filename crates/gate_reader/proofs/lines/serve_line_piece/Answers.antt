@@ -26,7 +26,7 @@ returns-clause-piece g c =
     let stop = c.read_lines-stop.result.0 in
     let reads = c.read_lines-stop.result.1 in
     let runs = subst (λ l. Runs view.client kind c.args.limits before after (source c.args.reader.now) (source c.read_lines-stop.new.reader) l stop reads) (sym c.new.ensures) c.read_lines-stop.ensures.served in
-    let same = c.as_slice.ensures.value ∙ sym c.new.ensures in
+    let same = c.as_slice.ensures ∙ sym c.new.ensures in
     record {
       readings = runs.readings;
       clock = runs.clock;
