@@ -13,13 +13,15 @@ packet_none role bytes none agent =
     omega (arith, none_long, some)
 
 pub line_none : (role : Role) (bytes : List ℕ) → bytes ≡ [] → IsBegunLine role bytes
-line_none role bytes none operator = subst HasNoEnd (sym none) refl
+line_none role bytes none operator =
+    let none_long : length bytes ≡ 0 = ap length none in
+    (subst HasNoEnd (sym none) refl, omega (arith, none_long))
 
-no_bytes : (bytes : List ℕ) → length bytes ≡ 0 → bytes ≡ []
+pub no_bytes : (bytes : List ℕ) → length bytes ≡ 0 → bytes ≡ []
 no_bytes [] none = refl
 no_bytes (byte ∷ bytes) none = absurd (omega (arith, none))
 
-after_end : (bytes : List ℕ) (count : ℕ) → length bytes ≤ count → drop count bytes ≡ []
+pub after_end : (bytes : List ℕ) (count : ℕ) → length bytes ≤ count → drop count bytes ≡ []
 after_end bytes count all =
     let rest : length (drop count bytes) ≡ 0 = length-drop count bytes ∙ omega (arith, all) in
     no_bytes (drop count bytes) rest

@@ -23,7 +23,7 @@ whole_more size bytes rest is enough (packets, c) = (
 pub rest_is_long : (bytes : List ℕ) → IsRest bytes → begins_short bytes ≡ false
 rest_is_long bytes rest = ((rest_in_words bytes).0 rest).1
 
-either : (b : Bool) → (b ≡ true) ⊎ (b ≡ false)
+pub either : (b : Bool) → (b ≡ true) ⊎ (b ≡ false)
 either true = inl refl
 either false = inr refl
 

@@ -2,6 +2,7 @@ pub mod Addresses
 pub mod Asked
 pub mod Since
 pub mod Held
+pub mod Ending
 pub mod Peers
 pub mod Table
 pub mod Waiting

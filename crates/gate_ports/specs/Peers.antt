@@ -1,11 +1,21 @@
 -- What can be done for a peer, and that its bytes are handed out in order, each once. Own rules.
-use Rattle.std.specs.Prelude.{◌≡◌, ℕ, ◌≤◌, ◌||◌, ◌&&◌, ◌==◌, not, nat_lt, Bool, true, false, List, [], ◌++◌, length, take, drop, IsNone}
+use Rattle.std.specs.Prelude.{◌≡◌, ℕ, ◌-◌, ◌≤◌, ◌+◌, ◌||◌, ◌&&◌, ◌==◌, not, nat_lt, Bool, true, false, List, [], ◌++◌, length, take, drop, IsNone}
 use Rattle.gate_turns.specs.declared.standing.Role.{Role}
 use Rattle.gate_turns.specs.declared.standing.Role.TheVariants.{Agent, Operator, Reader}
 use Rattle.gate_turns.specs.declared.standing.Stage.{Stage}
 use Rattle.gate_turns.specs.declared.standing.Stage.TheVariants.{Open, Last, Parting}
+use Rattle.gate_turns.specs.declared.standing.Page.{Page}
 use Rattle.gate_turns.specs.declared.standing.Standing.{Standing}
+use Rattle.gate_ports.specs.Held.{line_ends}
 use Rattle.gate_ports.specs.declared.peer.Peer.{Peer}
+
+-- what it has of its page: all that isn't left for it
+abbrev pub page_of : Peer → Page
+page_of peer = record {
+  text = peer.text;
+  bytes = peer.text_bytes;
+  taken = peer.text_bytes - length peer.unsent;
+}
 
 -- something whole is there to be served
 abbrev pub is_whole : Peer → Bool
@@ -13,7 +23,7 @@ is_whole peer = nat_lt 0 peer.held.whole
 
 -- it took all that was written to it
 abbrev pub is_sent : Peer → Bool
-is_sent peer = length peer.unsent.items == 0
+is_sent peer = length peer.unsent == 0
 
 -- whether it can be served, by its role: an agent also to be greeted, a reader at once
 abbrev pub can_begin_as : Role → Peer → Bool
@@ -34,9 +44,15 @@ is_read Reader = false
 abbrev pub is_awaited : Peer → Bool
 is_awaited peer = is_read peer.held.role && not peer.has_ended && not (is_whole peer) && is_sent peer
 
--- it was served, has ended, and nothing is left of it to serve
+-- an agent is greeted, whatever it sends
+abbrev pub is_greeted : Role → Bool
+is_greeted Agent = true
+is_greeted Operator = false
+is_greeted Reader = false
+
+-- it has ended, and nothing is left of it to serve: an agent was also greeted
 abbrev pub is_spent : Peer → Bool
-is_spent peer = peer.has_ended && not peer.is_new && not (is_whole peer)
+is_spent peer = peer.has_ended && not (peer.is_new && is_greeted peer.held.role) && not (is_whole peer)
 
 -- something is left to do that isn't reported again
 abbrev pub is_interrupted : Stage → Peer → Bool
@@ -51,10 +67,16 @@ HandsOn old count buffer new =
     old.held.role ≡ Agent → IsNone new.failure
     → (came : List ℕ) × (take count buffer ++ new.held.bytes.items ≡ old.held.bytes.items ++ came)
 
+-- the lines of an operator that were handed out in its piece are counted, by their ends
+abbrev pub CountsLines : Peer → ℕ → List ℕ → Peer → Type 0
+CountsLines old count buffer new =
+    old.held.role ≡ Operator → new.held.lines ≡ old.held.lines + line_ends (take count buffer)
+
 -- so many bytes at the front of the buffer were handed out
 pub record HandsOut (old : Peer) (count : ℕ) (buffer : List ℕ) (new : Peer) : Type 0 where
   pub room : count ≤ length buffer
   pub in_order : HandsOn old count buffer new
+  pub lines : CountsLines old count buffer new
 
 -- all but what was taken from the front is left
 abbrev pub Sends : List ℕ → List ℕ → Type 0
@@ -64,13 +86,14 @@ Sends old new = (count : ℕ) × (new ≡ drop count old)
 pub record IsSameBy (old new : Peer) : Type 0 where
   pub role : new.held.role ≡ old.held.role
   pub is_new : new.is_new ≡ old.is_new
-  pub unsent : new.unsent.items ≡ old.unsent.items
+  pub unsent : new.unsent ≡ old.unsent
   pub failure : IsNone new.failure → IsNone old.failure
 
 -- what came was kept, and nothing handed out
 pub record IsRead (old new : Peer) : Type 0 where
   pub same : IsSameBy old new
   pub kept : HandsOn old 0 [] new
+  pub lines : CountsLines old 0 [] new
 
 -- what an agent sends gives it no more time, and nobody another role, order or address
 pub record KeepsTime (old new : Standing) : Type 0 where

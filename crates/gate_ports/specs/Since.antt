@@ -1,11 +1,12 @@
 -- Since when a peer owes what it owes. Own rules.
-use Rattle.std.specs.Prelude.{ℕ, Bool, false, ◌||◌, if◌then◌else◌}
+use Rattle.std.specs.Prelude.{ℕ, Bool, true, false, ◌||◌, if◌then◌else◌, Option, Some, None}
 use Rattle.gate_environment.specs.declared.connections.PieceEnd.{PieceEnd}
 use Rattle.gate_environment.specs.declared.connections.PieceEnd.TheVariants.{GoesOn, Over}
 use Rattle.gate_turns.specs.declared.standing.Role.{Role}
 use Rattle.gate_turns.specs.declared.standing.Role.TheVariants.{Agent, Operator, Reader}
 use Rattle.gate_turns.specs.declared.standing.Stage.{Stage}
-use Rattle.gate_turns.specs.declared.standing.Stage.TheVariants.{Last}
+use Rattle.gate_turns.specs.declared.standing.Stage.TheVariants.{Open, Last, Parting}
+use Rattle.gate_turns.specs.declared.standing.Page.{Page}
 use Rattle.gate_turns.specs.declared.standing.Standing.{Standing}
 
 -- the bytes that an agent sends give it no more time; what an operator ends, or takes whole, gives it all of its time again
@@ -22,12 +23,12 @@ abbrev pub has_queued : PieceEnd → Bool
 has_queued (GoesOn queued) = queued
 has_queued Over = false
 
--- a piece gives an agent all of its time again where it was greeted in it, or something of it was queued; the others where
--- they took all of their answers
+-- a piece gives an agent all of its time again where it was greeted in it, or something of it was queued; an operator where
+-- it took all of its answers; and a reader, who has its page from then on
 abbrev pub is_renewed_by : Role → Bool → PieceEnd → Bool → Bool
 is_renewed_by Agent first end sent = first || has_queued end
 is_renewed_by Operator first end sent = sent
-is_renewed_by Reader first end sent = sent
+is_renewed_by Reader first end sent = true
 
 -- after the last piece a peer isn't served any more
 abbrev pub stage_after : Stage → PieceEnd → Stage
@@ -43,15 +44,29 @@ parted standing first end sent now = record {
   since = if is_renewed_by standing.role first end sent then now else standing.since;
   order = standing.order;
   address = standing.address;
+  page = standing.page;
 }
 
--- how a peer stands where it can, or can't, be served by now: one that was ready keeps its order
-abbrev pub settled : Standing → Bool → ℕ → Standing
-settled standing can_begin order = record {
+-- how a peer stands once the daemon ends, if it is not let go at once: an operator takes its answers so far, and whoever was
+-- served for the last time what is left for it
+abbrev pub stopped_as : Stage → Role → Standing → ℕ → Option Standing
+stopped_as Open Agent standing now = None
+stopped_as Open Reader standing now = None
+stopped_as Open Operator standing now = Some (record standing { stage = Last; since = now })
+stopped_as Last role standing now = Some (record standing { since = now })
+stopped_as Parting role standing now = Some standing
+
+abbrev pub stopped : Standing → ℕ → Option Standing
+stopped standing now = stopped_as standing.stage standing.role standing now
+
+-- how a peer stands that has this of its page, where it can, or can't, be served by now: one that was ready keeps its order
+abbrev pub settled : Standing → Page → Bool → ℕ → Standing
+settled standing page can_begin order = record {
   role = standing.role;
   stage = standing.stage;
   is_ready = can_begin;
   since = standing.since;
   order = if standing.is_ready then standing.order else order;
   address = standing.address;
+  page = page;
 }

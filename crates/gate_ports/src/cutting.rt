@@ -1,10 +1,11 @@
 //! Where whole packets end, and what is kept of lines.
 
-ghost use Rattle.std.specs.Prelude.{◌≡◌, ◌≤◌, ◌-◌, length, min, take, drop, false, IsTrue, IfSome, IfNone};
+ghost use Rattle.std.specs.Prelude.{◌≡◌, ◌≤◌, ◌<◌, ◌-◌, length, min, take, drop, false, IsTrue, IfSome, IfNone};
 ghost use Rattle.gate_packet.specs.Stream.{begins_short, block_length, IsRest};
-ghost use Rattle.gate_ports.specs.Held.{AreWhole};
+ghost use Rattle.gate_ports.specs.Held.{AreWhole, HasNoEnd, AreLines, line_ends};
 
 use gate_packet::{PACKET_SIZE, SHORT_PACKET_SIZE, split_block};
+use memchr::{memchr, memrchr};
 
 // The bytes, or as many of them as are fewer than a long packet has.
 fn fewer(bytes: &[u8]) -> &[u8]
@@ -76,4 +77,34 @@ pub(crate) fn whole_packets(bytes: &[u8], begun: usize) -> usize
         is_long = false;
     }
     whole
+}
+
+/// How many of the first bytes are whole lines: those up to the last LF.
+pub(crate) fn whole_lines(bytes: &[u8]) -> usize
+    ensures bound { result ≤ length bytes.now }
+    ensures lines { AreLines (take result bytes.now) }
+    ensures begun { HasNoEnd (drop result bytes.now) }
+{
+    match memrchr(b'\n', bytes) {
+        Some(last) => last + 1,
+        None => 0,
+    }
+}
+
+/// How many of the first bytes are no more than so many lines, and how many lines end in them.
+pub(crate) fn first_lines(bytes: &[u8], most: usize) -> (usize, usize)
+    ensures bound { result.0 ≤ length bytes.now }
+    ensures counted { result.1 ≡ line_ends (take result.0 bytes.now) }
+    ensures most { result.1 ≤ most }
+    ensures all { result.1 < most → result.0 ≡ length bytes.now }
+    ensures ends { result.1 ≡ most → AreLines (take result.0 bytes.now) }
+{
+    let mut count = 0;
+    for lines in 0..most {
+        match memchr(b'\n', after(bytes, count)) {
+            Some(end) => count += end + 1,
+            None => return (bytes.len(), lines),
+        }
+    }
+    (count, most)
 }

@@ -13,6 +13,7 @@ mod peers;
 mod port;
 mod ports;
 mod reading;
+mod resetting;
 mod room;
 mod selector;
 mod served;
@@ -21,6 +22,8 @@ mod shared;
 mod standing;
 mod system_watch;
 mod table;
+mod texts;
+mod unsent;
 
 pub use connections::{
     AgentConnections, Agents, OperatorConnections, Operators, PeerConnections, PeerInput,

@@ -1,12 +1,14 @@
-ghost use Rattle.std.specs.Prelude.{◌≡◌, ◌≤◌, ◌++◌, [], length, true, false, OnOk, IfOk};
-ghost use Rattle.gate_ports.specs.Peers.{can_begin, is_awaited, is_spent, is_interrupted, HandsOn, HandsOut, Sends, IsSameBy, KeepsTime};
+ghost use Rattle.std.specs.Prelude.{◌≡◌, ◌≢◌, ◌≤◌, ◌++◌, [], length, true, false, IsTrue, OnOk, OnErr, IfOk, IfSome};
+ghost use Rattle.gate_ports.specs.Ending.{is_answered, HasAll};
 
 use crate::cutting::front;
 use crate::held::Held;
 use crate::reading::{read_after, read_once, write_once};
+use crate::resetting::{WasReset, reset};
 use crate::standing::since_after;
-use bytes::BytesMut;
-use gate_turns::{Role, Stage, Standing};
+use crate::texts::Texts;
+use crate::unsent::Unsent;
+use gate_turns::{Page, Role, Stage, Standing};
 use std::alloc::Global;
 use std::io;
 use std::io::ErrorKind;
@@ -15,13 +17,25 @@ use std::net::{Shutdown, TcpStream};
 // How often a peer is read from before others are looked at.
 const READS: usize = 16;
 
-/// A peer of a port.
-#[derive(Drop)]
+/// How a connection ended.
+#[derive(Clone, Copy)]
+pub(crate) enum Ended {
+    /// In order: its peer reads all that it was sent, and then the end.
+    InOrder,
+    /// By a reset: its peer can't take what it has for all that there is.
+    Reset(WasReset),
+}
+
+/// A peer of a port. Its connection ends with it: in order where it has all that is written for it, else
+/// by a reset. An agent gets no answers, so its connection ends in order.
 pub(crate) struct Peer {
     pub(crate) stream: TcpStream,
     pub(crate) held: Held,
     // The bytes for it that the system hasn't taken yet.
-    pub(crate) unsent: BytesMut,
+    pub(crate) unsent: Unsent,
+    // The text that it is sent last, and how many bytes that has, where it didn't take all at once.
+    text: u64,
+    text_bytes: u64,
     // Whether a read or a write may find something to do.
     pub(crate) may_read: bool,
     pub(crate) may_write: bool,
@@ -29,28 +43,127 @@ pub(crate) struct Peer {
     pub(crate) has_ended: bool,
     // No piece of it was served.
     pub(crate) is_new: bool,
+    // Something was written for it in its last piece.
+    has_answer: bool,
+    // It took all, and was sent the end.
+    has_all: bool,
     /// Why it can't be served any more.
     pub(crate) failure: Option<ErrorKind>,
+    ghost all: { IsTrue has_all → HasAll held.role is_new has_answer unsent },
+}
+
+impl Drop for Peer {
+    fn drop(self) {
+        let (_ended, _room) = self.end();
+    }
 }
 
 impl Peer {
-    /// A new peer. What it has sent by now is reported.
-    pub(crate) fn new(alloc: Global, role: Role, stream: TcpStream) -> Peer
+    ghost use Rattle.gate_ports.specs.Since.{stopped};
+    ghost use Rattle.gate_ports.specs.Peers.{page_of, can_begin, is_awaited, is_spent, is_interrupted, CountsLines, HandsOn, HandsOut, Sends, IsSameBy, KeepsTime};
+
+    /// A new peer, with this room for what it sends. What it has sent by now is reported.
+    pub(crate) fn new(alloc: Global, role: Role, stream: TcpStream, room: Vec<u8>) -> Peer
+        requires { room.items ≡ [] }
         ensures role { result.held.role ≡ role }
         ensures held { result.held.bytes.items ≡ [] }
-        ensures unsent { result.unsent.items ≡ [] }
+        ensures unsent { result.unsent ≡ [] }
         ensures is_new { result.is_new ≡ true }
         ensures unread { result.may_read ≡ false }
     {
         Peer {
             stream,
-            held: Held::new(alloc, role),
-            unsent: BytesMut::new(alloc),
+            held: Held::new(alloc, role, room),
+            unsent: Unsent::new(alloc),
+            text: 0,
+            text_bytes: 0,
             may_read: false,
             may_write: true,
             has_ended: false,
             is_new: true,
+            has_answer: false,
+            has_all: false,
             failure: None,
+        }
+    }
+
+    // Ends its connection: how, and the room that it had.
+    fn end(self) -> (Ended, Vec<u8>)
+        ensures in_order { result.0 ≡ Ended.InOrder → self.held.role ≢ Role.Agent
+            → HasAll self.held.role self.is_new self.has_answer self.unsent }
+        ensures all { IsTrue self.has_all → result.0 ≡ Ended.InOrder }
+        ensures agent { self.held.role ≡ Role.Agent → result.0 ≡ Ended.InOrder }
+        ensures room { result.1.items ≡ [] }
+    {
+        let Self {
+            stream,
+            held,
+            has_all,
+            unsent: _,
+            text: _,
+            text_bytes: _,
+            may_read: _,
+            may_write: _,
+            has_ended: _,
+            is_new: _,
+            has_answer: _,
+            failure: _,
+        } = self;
+        let ended = if has_all || held.role == Role::Agent {
+            Ended::InOrder
+        } else {
+            Ended::Reset(reset(stream))
+        };
+        (ended, held.into_room())
+    }
+
+    /// Ends its connection: the room that it had, for the next one.
+    pub(crate) fn leave(self) -> Vec<u8>
+        ensures { result.items ≡ [] }
+    {
+        let (_ended, room) = self.end();
+        room
+    }
+
+    /// From now on it is owed an answer: whether it was never owed one before.
+    pub(crate) fn owe_answer(&mut self) -> bool
+        ensures first { result ≡ self.old.is_new }
+        ensures served { self.new.is_new ≡ false }
+        ensures unanswered { self.new.has_answer ≡ false }
+        ensures unsent { self.new.unsent ≡ self.old.unsent }
+        ensures held { self.new.held ≡ self.old.held }
+    {
+        let is_first = self.is_new;
+        self.has_all = false;
+        self.is_new = false;
+        self.has_answer = false;
+        is_first
+    }
+
+    /// The daemon ends: how the peer stands from now on. None: it is let go at once. What an operator has
+    /// brought, or sends by then, isn't answered any more.
+    pub(crate) fn stop(&mut self, standing: Standing, now: u64) -> Option<Standing>
+        ensures stands { result ≡ stopped standing now }
+        ensures unanswered { standing.stage ≡ Stage.Open → IfSome result (λ _.
+            (self.new.is_new ≡ false) × (self.new.has_answer ≡ false)) }
+        ensures unsent { self.new.unsent ≡ self.old.unsent }
+        ensures held { self.new.held ≡ self.old.held }
+    {
+        match (standing.stage, standing.role) {
+            (Stage::Open, Role::Agent | Role::Reader) => None,
+            (Stage::Open, Role::Operator) => {
+                self.owe_answer();
+                Some(Standing {
+                    stage: Stage::Last,
+                    since: now,
+                    ..standing
+                })
+            }
+            (Stage::Last, _) => Some(Standing {
+                since: now,
+                ..standing
+            }),
+            (Stage::Parting, _) => Some(standing),
         }
     }
 
@@ -76,11 +189,23 @@ impl Peer {
             && self.unsent.is_empty()
     }
 
-    // It has ended, and nothing is left of it to serve.
+    // It has ended, and nothing is left of it to serve: an agent was also greeted.
     fn is_spent(&self) -> bool
         ensures { result ≡ is_spent self.now }
     {
-        self.has_ended && !self.is_new && !self.held.is_whole()
+        let is_to_be_greeted = self.is_new && matches!(self.held.role, Role::Agent);
+        self.has_ended && !is_to_be_greeted && !self.held.is_whole()
+    }
+
+    // Whether nothing is left to be answered.
+    fn is_answered(&self) -> bool
+        ensures { result ≡ is_answered self.now.held.role self.now.is_new self.now.has_answer }
+    {
+        match self.held.role {
+            Role::Agent => true,
+            Role::Operator => self.is_new || self.has_answer,
+            Role::Reader => self.has_answer,
+        }
     }
 
     /// Whether something is left to do that isn't reported again.
@@ -98,6 +223,7 @@ impl Peer {
     fn receive(&mut self, scratch: &mut [u8]) -> io::Result<()>
         ensures length { length scratch.new ≡ length scratch.old }
         ensures kept { OnOk result (HandsOn self.old 0 [] self.new) }
+        ensures lines { CountsLines self.old 0 [] self.new }
         ensures same { IsSameBy self.old self.new }
     {
         let count = read_once(&self.stream, scratch)?;
@@ -158,7 +284,7 @@ impl Peer {
     }
 
     /// Moves what is to be served into the buffer, also what can be read by now: how many bytes. 0: there
-    /// is nothing more by now.
+    /// is nothing more by now, or its piece has had its lines.
     pub(crate) fn hand_out(&mut self, buf: &mut [u8], scratch: &mut [u8]) -> io::Result<usize>
         ensures length { length buf.new ≡ length buf.old }
         ensures scratch { length scratch.new ≡ length scratch.old }
@@ -185,7 +311,7 @@ impl Peer {
 
     // Sends what is left for it, as much as it takes.
     fn send(&mut self) -> io::Result<()>
-        ensures sent { Sends self.old.unsent.items self.new.unsent.items }
+        ensures sent { Sends self.old.unsent self.new.unsent }
         ensures held { self.new.held ≡ self.old.held }
         ensures is_new { self.new.is_new ≡ self.old.is_new }
     {
@@ -193,7 +319,7 @@ impl Peer {
             if !self.may_write || self.unsent.is_empty() {
                 return Ok(());
             }
-            match write_once(&self.stream, self.unsent.as_slice())? {
+            match write_once(&self.stream, self.unsent.next())? {
                 None => self.may_write = false,
                 Some(0) => return Err(io::Error::from(ErrorKind::WriteZero)),
                 Some(count) => self.unsent.advance(count),
@@ -202,15 +328,18 @@ impl Peer {
         Ok(())
     }
 
-    /// Sends these bytes, of which it keeps those that the peer doesn't take at once.
-    pub(crate) fn put(&mut self, bytes: &[u8]) -> io::Result<()>
+    // Sends these bytes, of which it keeps those that the peer doesn't take at once: for a reader with others
+    // who read the same.
+    fn put_all(&mut self, bytes: &[u8], texts: &mut Texts) -> io::Result<()>
+        requires { self.old.has_all ≡ false }
         ensures sent { OnOk result
-            (Sends (self.old.unsent.items ++ bytes.now) self.new.unsent.items) }
+            (Sends (self.old.unsent ++ bytes.now) self.new.unsent) }
         ensures held { self.new.held ≡ self.old.held }
         ensures is_new { self.new.is_new ≡ self.old.is_new }
+        ensures open { self.new.has_all ≡ false }
     {
         if !self.unsent.is_empty() {
-            return Ok(self.unsent.extend_from_slice(bytes)?);
+            return Ok(self.unsent.add(bytes)?);
         }
         let mut rest = bytes;
         for _ in 0..u64::MAX {
@@ -224,7 +353,44 @@ impl Peer {
             }
         }
         self.may_write = false;
-        Ok(self.unsent.extend_from_slice(rest)?)
+        if let Role::Reader = self.held.role {
+            let taken = bytes.len() - rest.len();
+            let kept = texts.keep(bytes)?;
+            self.text = kept.number;
+            self.text_bytes = bytes.len() as u64;
+            self.unsent.share(kept.text, taken);
+            Ok(())
+        } else {
+            Ok(self.unsent.add(rest)?)
+        }
+    }
+
+    /// Sends an answer, or a page, of which it keeps those bytes that the peer doesn't take at once. Where
+    /// that fails, the peer can't have all.
+    pub(crate) fn put(&mut self, bytes: &[u8], texts: &mut Texts) -> io::Result<()>
+        ensures sent { OnOk result
+            (Sends (self.old.unsent ++ bytes.now) self.new.unsent) }
+        ensures held { self.new.held ≡ self.old.held }
+        ensures is_new { self.new.is_new ≡ self.old.is_new }
+        ensures answered { OnOk result (self.new.has_answer ≡ true) }
+        ensures cut { OnErr result (self.new.has_answer ≡ false) }
+    {
+        self.has_all = false;
+        let sent = self.put_all(bytes, texts);
+        self.has_answer = sent.is_ok();
+        sent
+    }
+
+    /// What it has of its page.
+    pub(crate) fn page(&self) -> Page
+        ensures { result ≡ page_of self.now }
+    {
+        let left = self.unsent.len();
+        Page {
+            text: self.text,
+            bytes: self.text_bytes,
+            taken: (u128::from(self.text_bytes).saturating_sub(left)) as u64,
+        }
     }
 
     // Reads what is there by now, up to something to serve.
@@ -245,7 +411,7 @@ impl Peer {
     // Reads what is there by now, and drops it: whether the peer has ended its side.
     fn drop_all(&mut self, scratch: &mut [u8]) -> io::Result<bool>
         ensures length { length scratch.new ≡ length scratch.old }
-        ensures unsent { self.new.unsent.items ≡ self.old.unsent.items }
+        ensures unsent { self.new.unsent ≡ self.old.unsent }
     {
         for _ in 0..READS {
             if !self.may_read {
@@ -277,7 +443,12 @@ impl Peer {
             standing.stage = Stage::Last;
         }
         if standing.stage == Stage::Last && self.unsent.is_empty() {
-            self.stream.shutdown(Shutdown::Write)?;
+            if self.is_answered() {
+                self.stream.shutdown(Shutdown::Write)?;
+                self.has_all = true;
+            } else if standing.role == Role::Reader {
+                return Ok(false);
+            }
             standing.stage = Stage::Parting;
             standing.since = now;
         }

@@ -1,7 +1,7 @@
 ghost use Rattle.std.specs.Prelude.{◌≡◌, ◌≤◌, ◌<◌, ◌↔◌, ℕ, [], length, Some, None, IsTrue, IfOk, IfSome, IsSomeAnd, slice_get, slice_set};
 ghost use Rattle.gate_turns.specs.Waiting.{IsLate};
 ghost use Rattle.gate_ports.specs.Since.{settled};
-ghost use Rattle.gate_ports.specs.Peers.{can_begin};
+ghost use Rattle.gate_ports.specs.Peers.{can_begin, page_of};
 ghost use Rattle.gate_ports.specs.Table.{IsOnlyAt};
 ghost use Rattle.gate_ports.specs.Waiting.{earlier, late_at_of, IsLateAt, IsNoneLate, IsSameTime};
 
@@ -94,7 +94,7 @@ impl Peers {
             shared,
             selector,
             scratch,
-            table: Table::new(alloc),
+            table: Table::new(alloc, rules.rooms())?,
             orders: 0,
             late_at: None,
             door: Door::Shut,
@@ -156,11 +156,13 @@ impl Peers {
         ensures only { IsOnlyAt place self.old.table.standings.items
             self.new.table.standings.items }
         ensures settled { (order : ℕ) × (slice_get self.new.table.standings.items place
-            ≡ Some (Some (settled standing (can_begin peer) order))) }
+            ≡ Some (Some (settled standing (page_of peer) (can_begin peer) order))) }
         ensures time { IsSameTime self.old self.new }
     {
         let order = self.next_order();
-        let standing = settled(standing, peer.can_begin(), order);
+        let page = peer.page();
+        let can_begin = peer.can_begin();
+        let standing = settled(standing, page, can_begin, order);
         if peer.is_interrupted(standing.stage) || !peer.may_write {
             let _ = self.selector.ask(&peer.stream, Asked::All(place));
         }
@@ -180,16 +182,16 @@ impl Peers {
         };
         match peer.go_on(&mut standing, &mut self.scratch, self.now) {
             Ok(true) => self.settle(place, peer, standing),
-            Ok(false) | Err(_) => self.leave(place),
+            Ok(false) | Err(_) => self.leave(place, peer),
         }
     }
 
-    /// The peer of this place, which was taken out, is gone.
-    pub(crate) fn leave(&mut self, place: usize)
+    /// The peer of this place, which was taken out, goes.
+    pub(crate) fn leave(&mut self, place: usize, peer: Peer)
         ensures standings { self.new.table.standings.items ≡ self.old.table.standings.items }
         ensures time { IsSameTime self.old self.new }
     {
-        self.table.leave(place);
+        self.table.give_back(place, peer);
         self.shared.count.fetch_sub(1, Ordering::SeqCst);
     }
 

@@ -195,7 +195,8 @@ impl OperatorsPort {
 }
 
 /// The port of the readers of pages: up to 256 are open at once, and each gets its page in the order in
-/// which they came. One more comes in place of the one that has taken the longest time for its page.
+/// which they came. One more comes in place of one that takes less than 1 MB a second of its page, or of
+/// one that has it.
 #[derive(Drop)]
 pub struct PagesPort {
     pub(crate) port: Port,

@@ -10,8 +10,11 @@ use crate::accepting::accept;
 use crate::peer::Peer;
 use crate::peers::{Door, Peers};
 use crate::selector::Asked;
+use crate::shared::Rules;
 use gate_environment::times::ACCEPT_MILLIS;
-use gate_turns::{Role, Stage, Standing, first_ready, gives_way, longest_owing};
+use gate_turns::{
+    Page, Role, Stage, Standing, first_ready, gives_way, longest_owing, longest_parting, slowest,
+};
 use std::io;
 use std::io::ErrorKind;
 use std::net::TcpStream;
@@ -22,18 +25,24 @@ use std::sync::atomic::Ordering;
 const ACCEPTS: u32 = 8;
 
 // The peer that gives way to one more: an agent that is silent, of the address with the most
-// connections; of the others the one that has owed for the longest time.
+// connections; of operators the one that has owed for the longest time; of readers the slowest one, and
+// where none is slow, one that has its page.
 fn first_to_go(
     role: Role,
     standings: &[Option<Standing>],
+    now: u64,
     silence: u64,
     is_ending: bool,
 ) -> Option<usize>
-    ensures { IfSome result (IsFirstToGo role silence is_ending standings.now) }
+    ensures { IfSome result (IsFirstToGo role now silence is_ending standings.now) }
 {
     match role {
         Role::Agent => gives_way(standings, None),
-        Role::Operator | Role::Reader => longest_owing(standings, None, is_ending, silence),
+        Role::Operator => longest_owing(standings, None, is_ending, silence),
+        Role::Reader => match slowest(standings, now) {
+            Some(place) => Some(place),
+            None => longest_parting(standings),
+        },
     }
 }
 
@@ -65,8 +74,14 @@ impl Peers {
         ensures time { IsSameTime self.old self.new }
     {
         for _ in 0..=self.table.standings.len() {
-            let (silence, is_ending) = (self.rules.silence, self.is_ending);
-            match first_to_go(self.rules.role, &self.table.standings, silence, is_ending) {
+            let Rules { role, silence, .. } = self.rules;
+            match first_to_go(
+                role,
+                &self.table.standings,
+                self.now,
+                silence,
+                self.is_ending,
+            ) {
                 Some(place) => {
                     if self.try_let_go(place) {
                         return true;
@@ -151,24 +166,36 @@ impl Peers {
             since: self.now,
             order,
             address,
+            page: Page {
+                text: 0,
+                bytes: 0,
+                taken: 0,
+            },
         }
     }
 
-    // Gives a new peer a place, from which it is reported. One for which there is no memory is dropped.
+    // Gives a new peer a place, from which it is reported. One for which there is no memory is let go.
     fn add(&mut self, served: Option<usize>, stream: TcpStream, address: u128) -> io::Result<()>
         ensures length { length self.old.table.standings.items
             ≤ length self.new.table.standings.items }
         ensures time { IsSameTime self.old self.new }
     {
         let standing = self.first_standing(address);
-        let place = self.table.free_place(served)?;
-        if let Err(error) = self.selector.ask(&stream, Asked::Reads(place)) {
-            self.table.leave(place);
+        let room = self.table.take_room(self.alloc);
+        let peer = Peer::new(self.alloc, self.rules.role, stream, room);
+        let place = match self.table.free_place(served) {
+            Ok(place) => place,
+            Err(error) => {
+                self.table.keep_room(peer.leave());
+                return Err(io::Error::from(error));
+            }
+        };
+        if let Err(error) = self.selector.ask(&peer.stream, Asked::Reads(place)) {
+            self.table.give_back(place, peer);
             return Err(error);
         }
         self.shared.count.fetch_add(1, Ordering::SeqCst);
         self.expect(&standing);
-        let peer = Peer::new(self.alloc, self.rules.role, stream);
         self.table.put(place, peer, standing);
         Ok(())
     }

@@ -1,16 +1,19 @@
-ghost use Rattle.std.specs.Prelude.{◌≡◌, ◌≤◌, ℕ, [], List, length, Option, None, IfOk, IfSome, false, true};
+ghost use Rattle.std.specs.Prelude.{◌≡◌, ◌≤◌, ◌<◌, ℕ, [], List, length, Option, None, IfOk, IfSome, false, true};
 ghost use Rattle.std.specs.Option.{option_map};
 ghost use Rattle.gate_ports.specs.Table.{IsOnlyAt};
 ghost use Rattle.gate_ports.specs.Waiting.{IsFirstReady, IsSameTime};
-ghost use Rattle.gate_turns.specs.Turns.{least_piece, IsOver};
-ghost use Rattle.gate_ports.specs.Serving.{timeout_of, KeepsServed, IsServedNext, GoesOnSince};
+ghost use Rattle.gate_turns.specs.Turns.{those, least_piece, IsOver};
+ghost use Rattle.gate_turns.specs.Pages.{is_slow, kept};
+ghost use Rattle.gate_ports.specs.Room.{GiveWay};
+ghost use Rattle.gate_ports.specs.Serving.{timeout_of, most_wait, KeepsServed, HandsOutServed, IsServedNext, GoesOnSince};
 
 use crate::peers::{Door, Peers, earlier};
 use crate::selector::LISTENER;
 use crate::served::Served;
 use crate::standing::parted;
+use crate::texts::Texts;
 use gate_environment::PieceEnd;
-use gate_turns::{Role, Stage, Standing, first_ready, is_over, longest_owing};
+use gate_turns::{Role, Standing, first_ready, is_over, kept, longest_owing, slowest};
 use libc::net::{SHUT_RDWR, shutdown};
 use std::io;
 use std::io::ErrorKind;
@@ -21,15 +24,18 @@ use std::time::Clock;
 // How many bytes an agent's piece hands out before others are looked at.
 const LOOK: usize = 65_536;
 
-/// How many bytes are kept for the peers of a worker that don't take them, in all. Where one that doesn't
-/// take its bytes has more, it is the only one.
+/// How many bytes are kept for the peers of a worker that don't take them, in all, while others are served.
 const MOST_UNSENT: usize = 134_217_728;
+
+// For how long a reader waits at most until it is looked at who gives way to it.
+const ROOM_MILLIS: u64 = 100;
 
 /// The peers of a worker: those that wait, and the one that is served.
 #[derive(Drop)]
 pub(crate) struct Serving {
     pub(crate) peers: Peers,
     pub(crate) served: Option<Served>,
+    texts: Texts,
     // The order of the last peer that was ready at a wait.
     round: u64,
 }
@@ -53,6 +59,20 @@ fn look_after(role: Role) -> usize
     match role {
         Role::Agent => LOOK,
         Role::Operator | Role::Reader => 1,
+    }
+}
+
+// For how long is waited for something to happen, where somebody can be served and, of readers, there is room
+// for what is kept for one more.
+fn most_wait(has_ready: bool, has_room: bool, most: Option<u64>) -> Option<u64>
+    ensures { result ≡ most_wait has_ready has_room most }
+{
+    if !has_ready {
+        most
+    } else if has_room {
+        Some(0)
+    } else {
+        earlier(most, Some(ROOM_MILLIS))
     }
 }
 
@@ -84,9 +104,11 @@ impl Serving {
         ensures peers { result.peers ≡ peers }
         ensures served { result.served ≡ None }
     {
+        let texts = Texts::new(peers.alloc);
         Serving {
             peers,
             served: None,
+            texts,
             round: 0,
         }
     }
@@ -178,8 +200,8 @@ impl Serving {
     {
         let place = first_ready(&self.peers.table.standings, None)?;
         let (mut peer, standing) = self.peers.table.take(place)?;
-        let is_first = peer.is_new;
-        peer.is_new = false;
+        let is_first = peer.owe_answer();
+        peer.held.begin_piece();
         self.served = Some(Served {
             place,
             peer,
@@ -190,9 +212,36 @@ impl Serving {
         Some((place, is_first))
     }
 
+    // Whether one more reader can be served: no more bytes are kept for readers than may be. Where there are
+    // more, those that are slow give way, and the slowest first.
+    fn makes_room(&mut self) -> bool
+        ensures room { result ≡ true → self.old.peers.rules.role ≡ Role.Reader
+            → kept self.new.peers.table.standings.items ≤ 134217728 }
+        ensures full { result ≡ false
+            → (134217728 < kept self.new.peers.table.standings.items)
+            × (those (is_slow self.old.peers.now) self.new.peers.table.standings.items ≡ []) }
+        ensures gave_way { GiveWay self.old.peers.now
+            self.old.peers.table.standings.items self.new.peers.table.standings.items }
+        ensures served { self.new.served ≡ self.old.served }
+        ensures time { IsSameTime self.old.peers self.new.peers }
+    {
+        if self.peers.rules.role != Role::Reader {
+            return true;
+        }
+        let now = self.peers.now;
+        while kept(&self.peers.table.standings) > MOST_UNSENT as u128 {
+            match slowest(&self.peers.table.standings, now) {
+                Some(place) => self.peers.close(place),
+                None => return false,
+            }
+        }
+        true
+    }
+
     /// Makes the next peer the one that is served: its place, and whether it is its first piece. It waits
     /// for this many milliseconds at most, or else until something happens. Peers that were ready at the last
-    /// wait are served before the next one. Before the port is open, nobody is accepted.
+    /// wait are served before the next one. Before the port is open, nobody is accepted, and while too many
+    /// bytes are kept for readers, none is served.
     pub(crate) fn next<R: Clock>(
         &mut self,
         rt: &R,
@@ -207,12 +256,18 @@ impl Serving {
         if is_ending {
             self.begin_end();
         }
+        self.texts.forget_unread();
         self.peers.go_on_accepting(is_open);
-        if is_ending || !is_in_round(&self.peers.table.standings, self.round) {
+        let has_room = self.makes_room();
+        if is_ending || !has_room || !is_in_round(&self.peers.table.standings, self.round) {
             let has_ready = first_ready(&self.peers.table.standings, None).is_some();
-            self.turn(rt, if has_ready { Some(0) } else { most });
+            self.turn(rt, most_wait(has_ready, has_room, most));
         }
-        self.serve_first_ready()
+        if self.makes_room() {
+            self.serve_first_ready()
+        } else {
+            None
+        }
     }
 
     // Whether the piece that is served ends here, since others can be served.
@@ -242,7 +297,7 @@ impl Serving {
     }
 
     /// Moves packets or lines of the peer that is served into the buffer: how many bytes. 0 at the end of
-    /// its piece.
+    /// its piece, which is also after 64 lines of an operator.
     pub(crate) fn hand_out<R: Clock>(
         &mut self,
         rt: &R,
@@ -251,6 +306,7 @@ impl Serving {
     ) -> io::Result<usize>
         ensures length { length buf.new ≡ length buf.old }
         ensures bound { IfOk result (λ count. count ≤ length buf.new) }
+        ensures handed { IfOk result (λ count. HandsOutServed self.old count buf.new self.new) }
     {
         if self.is_over(rt) {
             return Ok(0);
@@ -258,21 +314,20 @@ impl Serving {
         if is_ending && self.peers.rules.role == Role::Agent {
             return Err(io::Error::from(ErrorKind::ConnectionAborted));
         }
-        let Some(served) = &mut self.served else {
+        let Some(mut served) = self.served.take() else {
             return Err(io::Error::from(ErrorKind::NotConnected));
         };
-        let count = served.peer.hand_out(buf, &mut self.peers.scratch)?;
-        served.handed_out = served.handed_out.saturating_add(count);
-        served.since_look = served.since_look.saturating_add(count);
-        Ok(count)
+        let handed = served.hand_out(buf, &mut self.peers.scratch);
+        self.served = Some(served);
+        handed
     }
 
-    // How many bytes are kept for the peers that wait.
+    // How many bytes are kept for each of the peers that wait.
     fn unsent(&self) -> usize {
         let mut sum = 0usize;
         for peer in &self.peers.table.peers {
             if let Some(peer) = peer {
-                sum = sum.saturating_add(peer.unsent.len());
+                sum = sum.saturating_add(peer.unsent.own_len());
             }
         }
         sum
@@ -304,8 +359,8 @@ impl Serving {
         let Some(mut served) = self.served.take() else {
             return Err(io::Error::from(ErrorKind::NotConnected));
         };
-        let sent = served.peer.put(bytes);
-        let own = served.peer.unsent.len();
+        let sent = served.peer.put(bytes, &mut self.texts);
+        let own = served.peer.unsent.own_len();
         self.served = Some(served);
         if own > 0 {
             self.limit_unsent(own);
@@ -330,7 +385,7 @@ impl Serving {
         } = served;
         let is_gone = matches!((standing.role, end), (Role::Agent, PieceEnd::Over));
         if is_gone || place >= self.peers.table.standings.len() {
-            self.peers.leave(place);
+            self.peers.leave(place, peer);
             return;
         }
         let is_sent = peer.unsent.is_empty();
@@ -339,32 +394,44 @@ impl Serving {
         self.peers.go_on(place);
     }
 
-    // Lets go of the peer at this place: of an agent at once, of others once they took what was written to
-    // them.
+    // Lets go of the peer at this place: once it took what was written to it where that is the last, and
+    // else of an operator too, whose connection then ends by a reset, since it may have sent one more line;
+    // of the others at once.
     fn end_at(&mut self, place: usize)
         ensures only { IsOnlyAt place self.old.peers.table.standings.items
             self.new.peers.table.standings.items }
         ensures served { self.new.served ≡ self.old.served }
     {
-        let Some((peer, standing)) = self.peers.table.take(place) else {
-            return;
-        };
-        if standing.role == Role::Agent || place >= self.peers.table.standings.len() {
-            self.peers.leave(place);
-            return;
+        if self.peers.rules.role != Role::Agent {
+            self.peers.look_again(place);
         }
-        let last = if standing.stage == Stage::Parting {
-            standing
-        } else {
-            let since = self.peers.now;
-            Standing {
-                stage: Stage::Last,
-                since,
-                ..standing
-            }
+        let Some((mut peer, standing)) = self.peers.table.take(place) else {
+            return;
         };
-        self.peers.table.put(place, peer, last);
-        self.peers.go_on(place);
+        match peer.stop(standing, self.peers.now) {
+            Some(last) => {
+                self.peers.table.put(place, peer, last);
+                self.peers.go_on(place);
+            }
+            None => self.peers.leave(place, peer),
+        }
+    }
+
+    // The peer that is served isn't any more, and waits with the others.
+    fn take_back(&mut self)
+        ensures served { self.new.served ≡ None }
+    {
+        if let Some(served) = self.served.take() {
+            let Served {
+                place,
+                peer,
+                standing,
+                ..
+            } = served;
+            if place < self.peers.table.standings.len() {
+                self.peers.table.put(place, peer, standing);
+            }
+        }
     }
 
     // No more connections are accepted. The last worker closes the listener, so that peers are refused at
@@ -381,11 +448,12 @@ impl Serving {
         }
     }
 
-    /// Lets go of all peers: of agents at once, of the others once they took what was sent to them, or are
-    /// late. No more are accepted.
+    /// Lets go of all peers: of agents at once, and of readers that wait for a page; of the others once they
+    /// took what was written to them, or are late. No more are accepted.
     pub(crate) fn end<R: Clock>(&mut self, rt: &R)
         ensures { self.new.served ≡ None }
     {
+        self.take_back();
         self.stop_accepting();
         self.begin_end();
         self.peers.look_at_clock(rt);

@@ -1,4 +1,4 @@
-ghost use Rattle.std.specs.Prelude.{◌≡◌};
+ghost use Rattle.std.specs.Prelude.{◌≡◌, ◌≢◌};
 ghost use Rattle.gate_turns.specs.Waiting.{silence_of};
 
 use gate_turns::{Role, silence_of};
@@ -38,6 +38,19 @@ impl Rules {
             role,
             most: 256,
             silence: 0,
+        }
+    }
+}
+
+impl Rules {
+    /// For how many peers there are places and rooms from the beginning: for all operators.
+    pub(crate) fn rooms(self) -> usize
+        ensures operators { self.role ≡ Role.Operator → result ≡ self.most }
+        ensures others { self.role ≢ Role.Operator → result ≡ 0 }
+    {
+        match self.role {
+            Role::Operator => self.most as usize,
+            Role::Agent | Role::Reader => 0,
         }
     }
 }

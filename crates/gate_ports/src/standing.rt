@@ -2,7 +2,7 @@ ghost use Rattle.std.specs.Prelude.{◌≡◌};
 ghost use Rattle.gate_ports.specs.Since.{since_after, parted, settled};
 
 use gate_environment::PieceEnd;
-use gate_turns::{Role, Stage, Standing};
+use gate_turns::{Page, Role, Stage, Standing};
 
 /// Since when a peer owes what it owes, after it was looked at. An operator, or a reader, has more time
 /// where it took all that was left for it or brought the end of a line; an agent has no more for what it
@@ -17,7 +17,8 @@ pub(crate) fn since_after(standing: Standing, has_gone_on: bool, now: u64) -> u6
 }
 
 /// How a peer stands after a piece of its connection was served, where nothing is known to be there for
-/// the next one. An agent has more time where it was greeted, or something of it was queued.
+/// the next one. An agent has more time where it was greeted, or something of it was queued, and the time
+/// of a reader begins with its page.
 pub(crate) fn parted(
     standing: Standing,
     is_first: bool,
@@ -33,7 +34,8 @@ pub(crate) fn parted(
     };
     let has_gone_on = match standing.role {
         Role::Agent => is_first || has_queued,
-        Role::Operator | Role::Reader => is_sent,
+        Role::Operator => is_sent,
+        Role::Reader => true,
     };
     Standing {
         stage,
@@ -43,9 +45,10 @@ pub(crate) fn parted(
     }
 }
 
-/// How a peer stands where it can, or can't, be served by now. One that becomes ready gets this order.
-pub(crate) fn settled(standing: Standing, can_begin: bool, order: u64) -> Standing
-    ensures { result ≡ settled standing can_begin order }
+/// How a peer stands that has this of its page, where it can, or can't, be served by now. One that becomes
+/// ready gets this order.
+pub(crate) fn settled(standing: Standing, page: Page, can_begin: bool, order: u64) -> Standing
+    ensures { result ≡ settled standing page can_begin order }
 {
     Standing {
         is_ready: can_begin,
@@ -54,6 +57,7 @@ pub(crate) fn settled(standing: Standing, can_begin: bool, order: u64) -> Standi
         } else {
             order
         },
+        page,
         ..standing
     }
 }

@@ -5,6 +5,9 @@ use crate::peer::Peer;
 use gate_turns::Standing;
 use std::alloc::{AllocError, Global};
 
+// How many bytes an operator may have at its place: what is kept of a line, and what one read brings.
+const ROOM: usize = 24_577;
+
 /// The peers of a worker that wait, by their places, and how each of them stands.
 #[derive(Drop)]
 pub(crate) struct Table {
@@ -12,17 +15,49 @@ pub(crate) struct Table {
     pub(crate) standings: Vec<Option<Standing>>,
     // Places that may be free.
     free: Vec<usize>,
+    // The rooms of operators that nobody has.
+    rooms: Vec<Vec<u8>>,
     ghost same: { vec_len peers ≡ vec_len standings },
 }
 
 impl Table {
-    pub(crate) fn new(alloc: Global) -> Table
-        ensures { result.standings.items ≡ [] }
+    /// Nobody waits yet. Of so many peers there are the places and rooms from the beginning, so that they are
+    /// served also once memory has run out.
+    pub(crate) fn new(alloc: Global, count: usize) -> Result<Table, AllocError>
+        ensures { IfOk result (λ table. table.standings.items ≡ []) }
     {
-        Table {
-            peers: Vec::new(alloc),
-            standings: Vec::new(alloc),
-            free: Vec::new(alloc),
+        let mut rooms = Vec::with_capacity(alloc, count)?;
+        for _ in 0..count {
+            rooms.push(Vec::with_capacity(alloc, ROOM)?)?;
+        }
+        Ok(Table {
+            peers: Vec::with_capacity(alloc, count)?,
+            standings: Vec::with_capacity(alloc, count)?,
+            free: Vec::with_capacity(alloc, count)?,
+            rooms,
+        })
+    }
+
+    /// A room for a new peer, or none where there is none any more: then it takes memory as it needs it.
+    pub(crate) fn take_room(&mut self, alloc: Global) -> Vec<u8>
+        ensures room { result.items ≡ [] }
+        ensures standings { self.new.standings.items ≡ self.old.standings.items }
+    {
+        match self.rooms.pop() {
+            Some(mut room) => {
+                room.clear();
+                room
+            }
+            None => Vec::new(alloc),
+        }
+    }
+
+    /// Takes a room back, for the next peer.
+    pub(crate) fn keep_room(&mut self, room: Vec<u8>)
+        ensures standings { self.new.standings.items ≡ self.old.standings.items }
+    {
+        if self.rooms.len() < self.rooms.capacity() && room.capacity() >= ROOM {
+            self.rooms.push_reserved(room);
         }
     }
 
@@ -62,8 +97,10 @@ impl Table {
     /// Puts the peer at this place, which becomes free before.
     pub(crate) fn put(&mut self, place: usize, peer: Peer, standing: Standing)
         requires { place < length self.old.standings.items }
-        ensures { self.new.standings.items
+        ensures put { self.new.standings.items
             ≡ slice_set self.old.standings.items place (Some standing) }
+        ensures stands { slice_get self.new.standings.items place ≡ Some (Some standing) }
+        ensures only { IsOnlyAt place self.old.standings.items self.new.standings.items }
     {
         self.peers[place] = Some(peer);
         self.standings[place] = Some(standing);
@@ -90,14 +127,24 @@ impl Table {
             return false;
         }
         let had_peer = self.standings[place].is_some();
-        self.peers[place] = None;
+        if let Some(peer) = self.peers[place].take() {
+            self.keep_room(peer.leave());
+        }
         self.standings[place] = None;
         self.leave(place);
         had_peer
     }
 
+    /// The place may be used again, and the room of the peer that had it, which goes.
+    pub(crate) fn give_back(&mut self, place: usize, peer: Peer)
+        ensures standings { self.new.standings.items ≡ self.old.standings.items }
+    {
+        self.keep_room(peer.leave());
+        self.leave(place);
+    }
+
     // The place may be used again. Where memory is missing for that, it isn't.
-    pub(crate) fn leave(&mut self, place: usize)
+    fn leave(&mut self, place: usize)
         ensures standings { self.new.standings.items ≡ self.old.standings.items }
     {
         let _ = self.free.push(place);

@@ -8,6 +8,7 @@ use Rattle.std.proofs.lemmas.List.Elements.{filter_map-append, filter-append, Al
 use Rattle.gate_turns.specs.declared.standing.Standing.{Standing}
 use Rattle.gate_turns.specs.Standing.{standings, others}
 use Rattle.gate_turns.specs.Turns.{those, IsFirst, was_ready_before, owes_longer, gives_way_before}
+use Rattle.gate_turns.specs.Pages.{is_behind}
 use Rattle.gate_turns.specs.inner.Firsts.{next_first, comes_first, place_of}
 
 -- ---- one more peer
@@ -284,6 +285,13 @@ was_ready_before-order = record {
 
 pub owes_longer-order : IsOrder owes_longer
 owes_longer-order = record {
+  irreflexive = λ x. grind (arith, nat_tests);
+  asymmetric = λ x y p. grind (arith, nat_tests);
+  across = λ x y z p q. grind (arith, nat_tests);
+}
+
+pub is_behind-order : IsOrder is_behind
+is_behind-order = record {
   irreflexive = λ x. grind (arith, nat_tests);
   asymmetric = λ x y p. grind (arith, nat_tests);
   across = λ x y z p q. grind (arith, nat_tests);

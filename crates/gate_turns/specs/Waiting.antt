@@ -8,6 +8,7 @@ use Rattle.gate_turns.specs.declared.standing.Stage.{Stage}
 use Rattle.gate_turns.specs.declared.standing.Stage.TheVariants.{Open, Last, Parting}
 use Rattle.gate_turns.specs.declared.standing.Standing.{Standing}
 use Rattle.gate_turns.specs.Standing.{standings, can_be_served}
+use Rattle.gate_turns.specs.Pages.{page_time}
 
 -- for how long an agent may be silent: as long as what it then brings is not too old, and 60 seconds at least; 15 minutes
 -- where nothing is ever too old
@@ -16,16 +17,16 @@ silence_of greatest_age = if greatest_age == 0 then 900000 else 1000 * max 60 gr
 
 -- for how long a peer may owe what it owes: an agent a packet, an operator the end of a line, each of them and the reader of
 -- a page that it takes what is left for it, and then the end of its side
-abbrev pub time_of : Role → Stage → ℕ → ℕ
-time_of Agent Open silence = silence
-time_of Agent Last silence = 10000
-time_of Agent Parting silence = 500
-time_of Operator Open silence = 60000
-time_of Operator Last silence = 60000
-time_of Operator Parting silence = 500
-time_of Reader Open silence = 10000
-time_of Reader Last silence = 10000
-time_of Reader Parting silence = 500
+abbrev pub time_of : Role → Stage → ℕ → ℕ → ℕ
+time_of Agent Open silence page = silence
+time_of Agent Last silence page = 10000
+time_of Agent Parting silence page = 500
+time_of Operator Open silence page = 60000
+time_of Operator Last silence page = 60000
+time_of Operator Parting silence page = 500
+time_of Reader Open silence page = page_time page
+time_of Reader Last silence page = page_time page
+time_of Reader Parting silence page = 500
 
 -- the same once the daemon is to end
 abbrev pub last_time_of : Stage → ℕ
@@ -37,7 +38,7 @@ last_time_of Parting = 500
 abbrev pub limit_of : ℕ → Bool → Standing → Option ℕ
 limit_of silence ending standing =
     if can_be_served standing then None
-    else Some (if ending then last_time_of standing.stage else time_of standing.role standing.stage silence)
+    else Some (if ending then last_time_of standing.stage else time_of standing.role standing.stage silence standing.page.bytes)
 
 -- a peer has owed for as long as it may
 abbrev pub IsLate : ℕ → ℕ → Bool → Standing → Type 0

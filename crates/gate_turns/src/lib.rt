@@ -3,10 +3,12 @@
 #![tactic(auto)]
 
 mod counts;
+mod pages;
 mod standing;
 mod turns;
 mod waiting;
 
-pub use standing::{Role, Stage, Standing};
-pub use turns::{first_ready, gives_way, is_over, longest_owing};
+pub use pages::{PAGE_BYTES_A_MILLI, kept};
+pub use standing::{Page, Role, Stage, Standing};
+pub use turns::{first_ready, gives_way, is_over, longest_owing, longest_parting, slowest};
 pub use waiting::{is_late, limit_of, silence_of, time_left};

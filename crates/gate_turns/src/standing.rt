@@ -22,6 +22,17 @@ pub enum Stage {
     Parting,
 }
 
+/// What a reader has of its page. All is 0 where it has none, and for other peers.
+#[derive(Clone, Copy)]
+pub struct Page {
+    /// Which text it is: those who read the same one share it.
+    pub text: u64,
+    /// How many bytes it has.
+    pub bytes: u64,
+    /// How many of them the reader took.
+    pub taken: u64,
+}
+
 /// What counts of a peer for its turn.
 #[derive(Clone, Copy)]
 pub struct Standing {
@@ -35,6 +46,7 @@ pub struct Standing {
     pub order: u64,
     /// Its address: an IPv6 address, or an IPv4 one mapped to it.
     pub address: u128,
+    pub page: Page,
 }
 
 impl Standing {

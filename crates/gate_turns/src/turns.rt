@@ -3,11 +3,13 @@
 ghost use Rattle.std.specs.Prelude.{◌≡◌, ◌<◌, ◌↔◌, [], length, IsTrue, IsNone, IfSome};
 ghost use Rattle.gate_turns.specs.Standing.{others, can_be_served, connections};
 ghost use Rattle.gate_turns.specs.Turns.{those, IsFirst, was_ready_before, owes, owes_longer, is_silent, outweighs, gives_way_before, IsOver};
+ghost use Rattle.gate_turns.specs.Pages.{is_slow, is_behind, is_parting};
 ghost use Rattle.gate_turns.specs.inner.Firsts.{next_first, comes_first, place_of};
 ghost use Rattle.gate_turns.specs.inner.Counts.{AreCounts};
 
 use crate::counts::{OTHER_PRIME, PRIME, connections, count_remainders, most_from};
-use crate::standing::{Role, Standing, other_at};
+use crate::pages::{is_slow, pace};
+use crate::standing::{Role, Stage, Standing, other_at};
 use crate::waiting::limit_of;
 
 // How many bytes of an agent are handed out in a piece before others are served.
@@ -38,6 +40,16 @@ fn first_by_time(first: First, place: usize, peer: Standing) -> First
 {
     match first {
         Some((_, longest)) if peer.since >= longest.since => first,
+        _ => Some((place, peer)),
+    }
+}
+
+// The one that is the furthest behind, of those so far and this one.
+fn first_by_pace(first: First, place: usize, peer: Standing) -> First
+    ensures { result ≡ next_first is_behind first place peer }
+{
+    match first {
+        Some((_, slowest)) if pace(&peer) >= pace(&slowest) => first,
         _ => Some((place, peer)),
     }
 }
@@ -78,6 +90,47 @@ pub fn longest_owing(
     for place in 0..peers.len() {
         if let Some(peer) = other_at(peers, except, place) {
             if limit_of(&peer, silence_millis, is_ending).is_some() {
+                first = first_by_time(first, place, peer);
+            }
+        }
+    }
+    place_of(first)
+}
+
+/// Of the readers that take less of their page than 1 MB a second, the place of the one that is the
+/// furthest behind: it gives way to others. No reader that takes more does.
+pub fn slowest(peers: &[Option<Standing>], now: u64) -> Option<usize>
+    ensures none { IsNone result ↔ (those (is_slow now) peers.now ≡ []) }
+    ensures first { IfSome result (IsFirst (is_slow now) is_behind peers.now None) }
+    ensures within { IfSome result (λ place. place < length peers.now) }
+{
+    let mut first: First = None;
+    for place in 0..peers.len() {
+        if let Some(peer) = other_at(peers, None, place) {
+            if is_slow(&peer, now) {
+                first = first_by_pace(first, place, peer);
+            }
+        }
+    }
+    place_of(first)
+}
+
+fn is_parting(peer: &Standing) -> bool
+    ensures { result ≡ is_parting peer.now }
+{
+    peer.stage == Stage::Parting
+}
+
+/// Of the peers that have all, the place of the one that hasn't ended its side for the longest time.
+pub fn longest_parting(peers: &[Option<Standing>]) -> Option<usize>
+    ensures none { IsNone result ↔ (those is_parting peers.now ≡ []) }
+    ensures first { IfSome result (IsFirst is_parting owes_longer peers.now None) }
+    ensures within { IfSome result (λ place. place < length peers.now) }
+{
+    let mut first: First = None;
+    for place in 0..peers.len() {
+        if let Some(peer) = other_at(peers, None, place) {
+            if is_parting(&peer) {
                 first = first_by_time(first, place, peer);
             }
         }

@@ -4,10 +4,11 @@ ghost use Rattle.std.specs.Prelude.{◌≡◌, ◌↔◌, [], Some, Any, IsTrue,
 ghost use Rattle.gate_turns.specs.Standing.{standings};
 ghost use Rattle.gate_turns.specs.Waiting.{silence_of, limit_of, IsLate, time_left_of, times_left, IsLeast};
 
+use crate::pages::page_millis;
 use crate::standing::{Role, Stage, Standing};
 use gate_environment::times::{
     AGELESS_SILENCE_SECONDS, ANSWER_MILLIS, GREETING_MILLIS, LAST_MILLIS, LEAST_SILENCE_SECONDS,
-    LINE_MILLIS, PAGE_MILLIS, PARTING_MILLIS,
+    LINE_MILLIS, PARTING_MILLIS,
 };
 
 /// For how many milliseconds an agent may be silent, by the greatest age of a packet in seconds. 0:
@@ -37,7 +38,7 @@ pub fn limit_of(standing: &Standing, silence_millis: u64, is_ending: bool) -> Op
         (Stage::Last, Role::Agent) => GREETING_MILLIS,
         (Stage::Open, Role::Operator) => LINE_MILLIS,
         (Stage::Last, Role::Operator) => ANSWER_MILLIS,
-        (Stage::Open | Stage::Last, Role::Reader) => PAGE_MILLIS,
+        (Stage::Open | Stage::Last, Role::Reader) => page_millis(standing.page.bytes),
     })
 }
 

@@ -9,4 +9,5 @@ invariant_of-self c =
       ends = omega (arith, all);
       packet = packet_end c.args.self.now.role c.args.self.now.bytes.items c.len-self.result (omega (arith, all));
       line = line_end c.args.self.now.role c.args.self.now.bytes.items c.len-self.result (omega (arith, all));
+      few = c.args.self.now.few;
     }

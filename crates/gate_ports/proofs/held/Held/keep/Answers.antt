@@ -10,4 +10,5 @@ invariant_of-self-in-Err c =
       ends = omega (arith, none, whole);
       packet = packet_end c.args.self.now.role c.new.result.items c.args.self.now.whole (omega (arith, none));
       line = line_end c.args.self.now.role c.new.result.items c.args.self.now.whole (omega (arith, none));
+      few = c.args.self.now.few;
     }

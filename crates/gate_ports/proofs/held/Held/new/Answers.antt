@@ -5,6 +5,7 @@ use Rattle.gate_ports.proofs.held.Held.new.Goals as goal
 pub invariant_of-result : goal.invariant_of-result
 invariant_of-result c = record {
   ends = omega arith;
-  packet = packet_none c.args.role c.new.result.items c.new.ensures.items;
-  line = line_none c.args.role c.new.result.items c.new.ensures.items;
+  packet = packet_none c.args.role c.args.room.items c.requires;
+  line = line_none c.args.role c.args.room.items c.requires;
+  few = omega arith;
 }

@@ -1,5 +1,6 @@
-use Rattle.std.proofs.Common.{IfSome, ◌≡◌, ◌≤◌, ◌+◌, length, take, drop, ◌∙◌, arith, ap, subst}
+use Rattle.std.proofs.Common.{IfSome, ◌≡◌, ◌≤◌, ◌+◌, length, take, drop, ◌∙◌, arith, ap, sym, subst}
 use Rattle.std.proofs.lemmas.List.{length-take-le}
+use Rattle.gate_turns.specs.declared.standing.Role.TheVariants.{Agent, Operator}
 use Rattle.gate_ports.proofs.Handing.{split_in_order, where_ok}
 use Rattle.gate_ports.proofs.peer.Peer.read_packets.Goals as goal
 
@@ -27,4 +28,5 @@ returns-else-is_err-clause-handed c =
         split_in_order c.args.self.now.held.bytes.items buf c.split-whole.new.self.bytes.items begun n whole front
             (omega arith) (omega (arith, bound, long)) within (kept ∙ ap (drop whole) c.front.ensures),
       );
+      lines = λ operator. let both : Agent ≡ Operator = sym c.requires.role ∙ operator in absurd cc;
     }

@@ -4,7 +4,7 @@ use Rattle.gate_ports.proofs.peer.Peer.send.Given as goal
 
 abbrev pub invariant-loop : goal.invariant-loop
 invariant-loop l = record {
-  sent : Sends l.fn.self.unsent.items l.self.unsent.items;
+  sent : Sends l.fn.self.unsent l.self.unsent;
   held : l.self.held ≡ l.fn.self.held;
   is_new : l.self.is_new ≡ l.fn.self.is_new;
 }
