@@ -1,20 +1,22 @@
 //! Prints a line for each packet of a stream on standard input, `timestamp;code;host;service;output`,
-//! or why the block is not read as a packet at the moment 1000.
+//! or why the block is not read as a packet at the moment 1000. Each word is a size: for each the
+//! stream is cut anew, in pieces of so many bytes, and what is not as in the first pieces is printed.
 #![tactic(auto)]
 
 use gate_model::Moment;
 use gate_packet::{Block, Cutter, decode_block};
 use std::alloc::Global;
 use std::fmt::Write as _;
-use std::io::{BufWriter, Read, Write};
-use std::{fmt, io};
+use std::io::{BufWriter, Error, ErrorKind, Read, Write};
+use std::rt::Env;
+use std::{env, fmt, io};
 
 const NOW: Moment = Moment(1000);
 
 // In seconds.
 const GREATEST_AGE: u32 = 30;
 
-// How many bytes are read at once.
+// How many bytes a piece has, unless the words say so.
 const PIECE_SIZE: usize = 4096;
 
 // A text of a packet, with an escape for each byte that is not printable ASCII, and for a backslash.
@@ -57,21 +59,17 @@ fn show_whole(alloc: Global, cutter: &mut Cutter, output: &mut impl Write) -> io
     Ok(())
 }
 
-fn show_packets(alloc: Global, input: &mut impl Read, output: &mut impl Write) -> io::Result<()> {
+fn show_packets(
+    alloc: Global,
+    stream: &[u8],
+    piece_size: usize,
+    output: &mut impl Write,
+) -> io::Result<()> {
     let mut cutter = Cutter::new(alloc);
-    let mut piece = Vec::with_capacity(alloc, PIECE_SIZE)?;
-    for _ in 0..u64::MAX {
-        piece.clear();
-        input
-            .by_ref()
-            .take(PIECE_SIZE as u64)
-            .read_to_end(&mut piece)?;
-        if piece.is_empty() {
-            break;
-        }
-        if cutter.feed(&piece).is_err() {
+    for piece in stream.chunks(piece_size.max(1)) {
+        if cutter.feed(piece).is_err() {
             writeln!(output, "out of memory")?;
-            cutter.feed(&piece)?;
+            cutter.feed(piece)?;
         }
         show_whole(alloc, &mut cutter, output)?;
     }
@@ -81,8 +79,51 @@ fn show_packets(alloc: Global, input: &mut impl Read, output: &mut impl Write) -
     Ok(())
 }
 
+// Shows the packets once for each size of pieces: all of the first, and of each other one whether they
+// are the same.
+fn show_by_sizes(
+    alloc: Global,
+    stream: &[u8],
+    sizes: &[usize],
+    output: &mut impl Write,
+) -> io::Result<()> {
+    let Some((first, others)) = sizes.split_first() else {
+        return show_packets(alloc, stream, PIECE_SIZE, output);
+    };
+    let mut shown = Vec::new(alloc);
+    show_packets(alloc, stream, *first, &mut shown)?;
+    output.write_all(&shown)?;
+    for size in others {
+        let mut again = Vec::new(alloc);
+        show_packets(alloc, stream, *size, &mut again)?;
+        if again.as_slice() == shown.as_slice() {
+            writeln!(output, "the same in pieces of {size}")?;
+        } else {
+            writeln!(output, "otherwise in pieces of {size}:")?;
+            output.write_all(&again)?;
+        }
+    }
+    Ok(())
+}
+
+fn sizes_in_words(rt: &(impl Env + AllocGlobal)) -> io::Result<Vec<usize>> {
+    let mut words = env::args(rt)?;
+    let _name = words.next();
+    let mut sizes = Vec::new(rt.alloc());
+    for word in words {
+        match word.parse::<usize>() {
+            Ok(size) if size > 0 => sizes.push(size)?,
+            _ => return Err(Error::from(ErrorKind::InvalidInput)),
+        }
+    }
+    Ok(sizes)
+}
+
 fn main(rt: HostRuntime) -> io::Result<()> {
+    let sizes = sizes_in_words(&rt)?;
+    let mut stream = Vec::new(rt.alloc());
+    rt.stdin().lock().read_to_end(&mut stream)?;
     let mut output = BufWriter::new(rt.alloc(), rt.stdout().lock())?;
-    show_packets(rt.alloc(), &mut rt.stdin().lock(), &mut output)?;
+    show_by_sizes(rt.alloc(), &stream, &sizes, &mut output)?;
     output.flush()
 }

@@ -1,4 +1,4 @@
-ghost use Rattle.std.specs.Prelude.{◌≤◌, length};
+ghost use Rattle.std.specs.Prelude.{◌≡◌, ◌≤◌, length};
 
 use crate::settings::Settings;
 use gate_environment::Clock;
@@ -8,15 +8,18 @@ use std::io;
 use std::io::{Error, ErrorKind, Write};
 
 /// A reader that gives a stream in pieces. One read may fail and one be interrupted; the next ones
-/// go on where the last one ended.
+/// go on where the last one ended. Or every read fails that would go on after the first bytes. It counts
+/// its calls, and those that fail.
 #[derive(Drop)]
 pub struct Pieces<'a> {
     front: &'a [u8],
     back: &'a [u8],
     piece: usize,
-    calls: u32,
+    calls: u64,
+    failures: u64,
     failed: u32,
     interrupted: u32,
+    is_cut_off: bool,
 }
 
 impl<'a> Pieces<'a> {
@@ -27,13 +30,17 @@ impl<'a> Pieces<'a> {
             back,
             piece: settings.piece as usize,
             calls: 0,
+            failures: 0,
             failed: settings.failed_read,
             interrupted: settings.interrupted_read,
+            is_cut_off: settings.every_failure > 0,
         }
     }
 
     fn copy(&mut self, buf: &mut [u8]) -> usize
-        ensures { result ≤ length buf.new }
+        ensures count { result ≤ length buf.new }
+        ensures calls { self.new.calls ≡ self.old.calls }
+        ensures failures { self.new.failures ≡ self.old.failures }
     {
         if self.front.is_empty() {
             self.front = self.back;
@@ -45,16 +52,36 @@ impl<'a> Pieces<'a> {
         self.front = left;
         count
     }
+
+    // How the call of this number fails, if it does.
+    fn fault(&self) -> Option<ErrorKind> {
+        if self.calls == self.interrupted as u64 {
+            return Some(ErrorKind::Interrupted);
+        }
+        if self.calls == self.failed as u64 || self.is_cut_off && self.front.is_empty() {
+            return Some(ErrorKind::ConnectionReset);
+        }
+        None
+    }
 }
 
 impl Source for Pieces<'_> {
+    ghost use Rattle.std.specs.Prelude.{◌-◌, ◌^◌, nat_lt, if◌then◌else◌, Some, None};
+
+    ghost state = { λ pieces. record {
+      left = None;
+      tally = if nat_lt pieces.calls (2 ^ 64 - 1)
+          then (if nat_lt pieces.failures (2 ^ 64 - 1)
+          then Some (record { calls = pieces.calls; failures = pieces.failures })
+          else None)
+          else None;
+    } };
+
     fn take_some(&mut self, buf: &mut [u8]) -> io::Result<usize> {
         self.calls = self.calls.saturating_add(1);
-        if self.calls == self.failed {
-            return Err(Error::from(ErrorKind::ConnectionReset));
-        }
-        if self.calls == self.interrupted {
-            return Err(Error::from(ErrorKind::Interrupted));
+        if let Some(fault) = self.fault() {
+            self.failures = self.failures.saturating_add(1);
+            return Err(Error::from(fault));
         }
         Ok(self.copy(buf))
     }

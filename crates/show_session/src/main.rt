@@ -1,5 +1,5 @@
-//! Serves the bytes on standard input as one connection, or as one after another of a size, and
-//! prints what came of each in one line:
+//! Serves the bytes on standard input as one connection, or as one after another of a size, or as one of
+//! each length, and prints what came of each in one line:
 //!
 //!     STOP | ANSWERS | WRITTEN | QUEUED
 //!
@@ -10,10 +10,12 @@ mod devices;
 mod printing;
 mod serving;
 mod settings;
+mod sweeping;
 
 use crate::printing::print_outcome;
 use crate::serving::serve;
 use crate::settings::{Settings, settings_of};
+use crate::sweeping::run_every;
 use gate_streams::{Sink, Source};
 use std::alloc::Global;
 use std::io::{BufReader, BufWriter};
@@ -51,7 +53,7 @@ fn run(
 ) -> io::Result<()> {
     let outcome = serve(alloc, settings, stream)?;
     let mut line = Vec::new(alloc);
-    print_outcome(alloc, outcome, &mut line)?;
+    print_outcome(alloc, outcome, None, &mut line)?;
     output.put(&line)
 }
 
@@ -82,7 +84,11 @@ fn run_all(
         run_each(alloc, settings, input, output)?;
     } else {
         let stream = read_most(alloc, input, usize::MAX)?;
-        run(alloc, settings, &stream, output)?;
+        if settings.every_end > 0 || settings.every_failure > 0 {
+            run_every(alloc, settings, &stream, output)?;
+        } else {
+            run(alloc, settings, &stream, output)?;
+        }
     }
     output.deliver()
 }

@@ -2,7 +2,7 @@ use crate::serving::Outcome;
 use gate_core::{Event, Reply, World};
 use gate_grammar::write_body;
 use gate_model::{Moment, Numbered};
-use gate_reader::Answer;
+use gate_reader::{Answer, Stop};
 use std::alloc::Global;
 use std::io::Write;
 use std::{fmt, io};
@@ -86,14 +86,31 @@ fn print_close(world: &mut World, output: &mut impl Write) -> io::Result<()> {
     }
 }
 
-/// Prints the line of an outcome.
-pub fn print_outcome(alloc: Global, outcome: Outcome, output: &mut impl Write) -> io::Result<()> {
+// Prints why the session stopped; in one of many streams, which have n bytes, how many bytes are left
+// over as a difference.
+fn print_stop(stop: &Stop, length: Option<usize>, output: &mut impl Write) -> io::Result<()> {
+    match (stop, length) {
+        (Stop::Truncated(rest), Some(length)) if *rest <= length => {
+            write!(output, "Truncated(n - {})", length - *rest)
+        }
+        _ => write!(output, "{stop:?}"),
+    }
+}
+
+/// Prints the line of an outcome: of the one stream, or of the one of this length among many.
+pub fn print_outcome(
+    alloc: Global,
+    outcome: Outcome,
+    length: Option<usize>,
+    output: &mut impl Write,
+) -> io::Result<()> {
     let Outcome {
         report,
         written,
         mut world,
     } = outcome;
-    write!(output, "{:?} |", report.stop)?;
+    print_stop(&report.stop, length, output)?;
+    write!(output, " |")?;
     print_answers(report.answers.as_slice(), output)?;
     print_written(&written, output)?;
     print_items(alloc, &mut world, output)?;

@@ -24,6 +24,10 @@ pub struct Settings {
     pub taken: u32,
     /// How many bytes of the input are a stream by themselves; 0 is all.
     pub each: u32,
+    /// Whether the stream is served once for each number of bytes after which it ends, and whether once
+    /// for each after which every read fails; 0 is not.
+    pub every_end: u32,
+    pub every_failure: u32,
     /// Which read fails, which is interrupted, and which call of the writer fails; 0 is none.
     pub failed_read: u32,
     pub interrupted_read: u32,
@@ -45,6 +49,8 @@ const DEFAULTS: Settings = Settings {
     cut: 0,
     taken: 0,
     each: 0,
+    every_end: 0,
+    every_failure: 0,
     failed_read: 0,
     interrupted_read: 0,
     failed_write: 0,
@@ -66,6 +72,8 @@ impl Settings {
             "cut" => Some(&mut self.cut),
             "taken" => Some(&mut self.taken),
             "each" => Some(&mut self.each),
+            "every_end" => Some(&mut self.every_end),
+            "every_failure" => Some(&mut self.every_failure),
             "failed_read" => Some(&mut self.failed_read),
             "interrupted_read" => Some(&mut self.interrupted_read),
             "failed_write" => Some(&mut self.failed_write),

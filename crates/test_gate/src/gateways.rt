@@ -194,6 +194,31 @@ fn three_workers_serve_at_once(rt: HostRuntime) {
     assert!(rt; met.late.load(Ordering::SeqCst) == 0);
 }
 
+// An agents' worker and the operator's, each kept at its session until both have come to theirs.
+fn meet_the_operator<R: Threads + Wait + Clock + Sync>(
+    rt: &R,
+    alloc: Global,
+    met: &Met,
+) -> Option<(usize, [u64; 4])> {
+    let worker = Meeting {
+        is_counted: true,
+        sessions: 2,
+        ..free(met)
+    };
+    let bytes = packet(alloc)?;
+    let lines = b"[1] ADD_HOST_COMMENT;web1;0;ann;hi\n";
+    let left = run(rt, alloc, 1, &bytes, lines, (worker, worker, free(met)));
+    let (records, _, numbers) = left?;
+    Some((records, numbers))
+}
+
+#[test]
+fn an_agent_and_an_operator_are_served_at_once(rt: HostRuntime) {
+    let met = nobody_met();
+    assert!(rt; meet_the_operator(&rt, rt.alloc(), &met) == Some((2, [1, 1, 0, 0])));
+    assert!(rt; met.late.load(Ordering::SeqCst) == 0);
+}
+
 // The operator waits until the packet's item is about to be applied, and that waits until the
 // operator's lines are answered.
 fn apply_beside_workers<R: Threads + Wait + Clock + Sync>(
@@ -245,4 +270,21 @@ fn packets_are_queued_after_the_operators_worker_has_ended(rt: HostRuntime) {
     let met = nobody_met();
     assert!(rt; serve_on(&rt, rt.alloc(), &met) == Some((1, 1, [1, 0, 0, 0])));
     assert!(rt; met.late.load(Ordering::SeqCst) == 1);
+}
+
+// The most agents' workers that there may be, none of which has a connection; nor has the operator's.
+fn run_without_connections<R: Threads + Wait + Clock + Sync>(
+    rt: &R,
+    alloc: Global,
+    met: &Met,
+) -> Option<(usize, u32, [u64; 4])> {
+    let nobody = (free(met), free(met), free(met));
+    run(rt, alloc, 63, b"", b"", nobody)
+}
+
+#[test]
+fn sixty_three_workers_without_connections_end(rt: HostRuntime) {
+    let met = nobody_met();
+    let left = run_without_connections(&rt, rt.alloc(), &met);
+    assert!(rt; left == Some((0, 0, [0, 0, 0, 0])));
 }

@@ -1,6 +1,6 @@
 use gate_turns::{
-    Role, Stage, Standing, first_ready, gives_way, is_late, is_over, limit_of, longest_owing,
-    silence_of, time_left,
+    Page, Role, Stage, Standing, first_ready, gives_way, is_late, is_over, kept, limit_of,
+    longest_owing, longest_parting, silence_of, slowest, time_left,
 };
 
 // For how long the agents of these tests may be silent, in milliseconds.
@@ -14,6 +14,11 @@ fn agent(is_ready: bool, since: u64, order: u64, address: u128) -> Option<Standi
         since,
         order,
         address,
+        page: Page {
+            text: 0,
+            bytes: 0,
+            taken: 0,
+        },
     })
 }
 
@@ -84,4 +89,65 @@ fn are_pieces_over() -> bool {
 #[test]
 fn a_piece_ends_where_others_wait(rt: HostRuntime) {
     assert!(rt; are_pieces_over());
+}
+
+fn reader(stage: Stage, since: u64, text: u64, bytes: u64, taken: u64) -> Option<Standing> {
+    Some(Standing {
+        role: Role::Reader,
+        stage,
+        is_ready: false,
+        since,
+        order: 0,
+        address: 1,
+        page: Page { text, bytes, taken },
+    })
+}
+
+// Two readers share a text of 30 MB, of which the second took 20 MB and the third nothing; the fifth takes
+// another one, and two have all.
+fn readers() -> [Option<Standing>; 6] {
+    [
+        reader(Stage::Parting, 900, 0, 0, 0),
+        reader(Stage::Last, 0, 1, 30_000_000, 20_000_000),
+        reader(Stage::Last, 500, 1, 30_000_000, 0),
+        None,
+        reader(Stage::Last, 0, 2, 7, 6),
+        reader(Stage::Parting, 800, 1, 30_000_000, 30_000_000),
+    ]
+}
+
+fn give_way_where_they_are_slow() -> bool {
+    slowest(&readers(), 10_000) == Some(4)
+        && slowest(&readers(), 0).is_none()
+        && longest_parting(&readers()) == Some(5)
+}
+
+#[test]
+fn the_slowest_reader_gives_way(rt: HostRuntime) {
+    assert!(rt; give_way_where_they_are_slow());
+}
+
+fn is_kept_once() -> bool {
+    kept(&readers()) == 30_000_007
+}
+
+#[test]
+fn a_text_of_two_readers_is_kept_once(rt: HostRuntime) {
+    assert!(rt; is_kept_once());
+}
+
+fn has_a_second_for_each_megabyte() -> bool {
+    let (Some(large), Some(small)) = (
+        reader(Stage::Last, 0, 1, 30_000_000, 0),
+        reader(Stage::Last, 0, 1, 7, 0),
+    ) else {
+        return false;
+    };
+    limit_of(&large, SILENCE, false) == Some(30_000)
+        && limit_of(&small, SILENCE, false) == Some(10_000)
+}
+
+#[test]
+fn a_reader_of_a_large_page_has_more_time(rt: HostRuntime) {
+    assert!(rt; has_a_second_for_each_megabyte());
 }

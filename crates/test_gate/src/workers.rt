@@ -82,3 +82,36 @@ fn a_worker_whose_connections_have_ended_reports_what_it_queued(rt: HostRuntime)
     };
     assert!(rt; accounts_for_both);
 }
+
+// Whether a worker without connections ends, at a gate that nobody has closed, and reports nothing.
+fn ends_without_connections<R: Wait + Clock>(rt: &R, alloc: Global) -> bool {
+    let Some((gate, taker, client)) = one_client(alloc, 16) else {
+        return false;
+    };
+    let sending = Sending {
+        alloc,
+        connections: 0,
+        bytes: &[],
+    };
+    let end = run_worker(
+        rt,
+        alloc,
+        &gate,
+        client,
+        None,
+        sending,
+        &AlwaysAt(1020),
+        NoHold,
+        limits(),
+    );
+    let has_ended = end.cause == Cause::NoMoreConnections && end.reports.is_empty();
+    drop(end);
+    drop(taker);
+    drop(gate);
+    has_ended
+}
+
+#[test]
+fn a_worker_without_connections_ends(rt: HostRuntime) {
+    assert!(rt; ends_without_connections(&rt, rt.alloc()));
+}
