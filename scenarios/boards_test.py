@@ -192,14 +192,15 @@ def play_little_memory(_, folder):
 
 
 def play_a_thread_too_few(_, folder):
-    """Whichever of its threads isn't started, the daemon ends by itself, and reports it."""
+    """Whichever of its threads isn't started, the daemon ends by itself, and reports it; but for the first one, which only watches
+    the log page."""
     if len(sys.argv) < 3:
         print("a thread too few ... skipped: cc is not installed")
         return
     program = os.path.join(folder, "..", "thread_too_few")
     workers = 3
-    threads = workers + 3  # an applier, pages and an operator
-    for number in range(1, threads + 1):
+    threads = workers + 4  # one that watches the log page, an applier, pages and an operator
+    for number in range(2, threads + 1):
         own = os.path.join(folder, str(number))
         os.mkdir(own)
         daemon = Daemon(program, own, f"workers = {workers}\n" + CONFIGURATION)
@@ -210,9 +211,10 @@ def play_a_thread_too_few(_, folder):
             daemon.end()
             ended = "it goes on"
         check(f"a thread too few: without thread {number} the daemon ends", ended, (3, "", "nscagate: Spawn\n"))
-    own = os.path.join(folder, str(threads + 1))
-    os.mkdir(own)
-    end(Daemon(program, own, f"workers = {workers}\n" + CONFIGURATION), "a thread too few: with all threads")
+    for number, what in ((1, "without the one that watches"), (threads + 1, "with all threads")):
+        own = os.path.join(folder, str(number))
+        os.mkdir(own)
+        end(Daemon(program, own, f"workers = {workers}\n" + CONFIGURATION), f"a thread too few: {what}")
 
 
 PLAYS = [play for name, play in sorted(globals().items()) if name.startswith("play_")]

@@ -143,9 +143,9 @@ def ask(daemon, *lines):
 
 
 def applier_of(daemon):
-    """The applier's thread, which is the first one that is started."""
+    """The applier's thread, which is started after the one that watches the log page."""
     ask(daemon, "[1] x")  # all threads have started
-    return sorted(int(thread) for thread in os.listdir(f"/proc/{daemon.process.pid}/task"))[1]
+    return sorted(int(thread) for thread in os.listdir(f"/proc/{daemon.process.pid}/task"))[2]
 
 
 def hold(thread, wait):

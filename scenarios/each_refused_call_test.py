@@ -156,12 +156,9 @@ def begun(printed):
 
 
 def judge_close(ample, printed):
-    """The gate's opening, its close, and the close of all: each goes on when it is called again."""
+    """The gate's opening, and the close of all: each goes on when it is called again. The close itself has its room from the
+    opening, or else takes it then."""
     call, text = begun(printed)
-    if "close: OutOfMemory" in text:
-        text = text.replace("close: OutOfMemory, found none\nclose: 1600, found 1600\n" + "closing 1600\n" * 2,
-                            "close: 1500, found 1500\nclose: AlreadyClosing(Moment(1500)), found 1500\n" + "closing 1500\n" * 2)
-        call = "close"
     applied = re.search(r"close_all: OutOfMemory, 0 clients left\n((?:\d:\d\n)*)closed\n", text)
     if applied is not None:
         if not text[applied.end():].startswith(applied[1]):
@@ -218,18 +215,14 @@ def judge_worker(steps, capacity):
             raise Wrong("more than one call was out of memory")
         if cause == "OutOfMemory":
             raise Wrong("one refusal ended it")
-        # A session of which nothing was queued has no report: neither one that was out of memory before, nor the one that meets the
-        # close where the queue is full.
+        # A session of which nothing was queued has no report, but for the one that meets the close.
         goes_on = cause == "Closing" and bool(starved)
-        is_full = goes_on and reports[-1].startswith("OutOfMemory") and not queued_in(" ".join(answers_to(steps, queued, capacity)))
         is_silent = not starved and not call and cause == "NoMoreConnections" and len(reports) == len(wanted) - 1
-        if cause != wanted_cause or len(reports) + is_silent != len(wanted) + (goes_on and not is_full):
+        if cause != wanted_cause or len(reports) + is_silent != len(wanted) + goes_on:
             raise Wrong("another cause")
         if is_silent:
             return "a session"
-        if not starved:
-            return call
-        return "the close" if starved == [len(steps) - 1] and steps[-1] != PUSH else "a session"
+        return "a session" if starved else call
 
     return judge
 
@@ -305,13 +298,12 @@ def main():
     refuse_each("triggered downtime", "show_records", [], TRIGGERED, judge_records, pages)
     refuse_each("downtime for all services", "show_records", [], ALL_SERVICES, judge_records, pages)
     refuse_each("growing lists", "show_records", [], GROWING, judge_records, pages)
-    refuse_each("a gate", "show_gate", ["close"], b"", judge_close, ["open", "close", "close_all"])
+    refuse_each("a gate", "show_gate", ["close"], b"", judge_close, ["open", "close_all"])
     check("a full log, by show_gate full", run("show_gate", ["full"], b"", 0, ""), (0, FULL))
     refuse_each("TooManySessions", "show_gate", ["worker"], long + short, judge_worker([PUSH, PUSH], 16),
                 ["open", "a session"])
     refuse_each("Closing", "show_gate", ["operator"], SHUTDOWN,
-                judge_worker([PUSH, "Bad(UnknownCommand)", PUSH, "Down(Moment(1500))"], 1),
-                ["open", "a session", "the close"])
+                judge_worker([PUSH, "Bad(UnknownCommand)", PUSH, "Down(Moment(1500))"], 1), ["open", "a session"])
     refuse_each("NoMoreConnections", "show_gate", ["operator"], SHUTDOWN[:-len(lines_of(b"SHUTDOWN_PROGRAM"))],
                 judge_worker([PUSH, "Bad(UnknownCommand)", PUSH], 1), ["open", "a session"])
     refuse_each("a gateway", "show_gate", ["gateway"], long, judge_gateway,

@@ -231,8 +231,14 @@ def play_readers_that_hold_on(program, folder):
     shut_down(daemon, "readers that hold on", 3.0)
 
 
+def kilobytes_of(daemon, name):
+    """The daemon's memory by this line of its status: what it has, or the most that it had."""
+    with open(f"/proc/{daemon.process.pid}/status", encoding="ascii") as file:
+        return int(re.search(rf"^{name}:\s+(\d+) kB$", file.read(), re.MULTILINE)[1])
+
+
 def play_many_readers_that_never_read(program, folder):
-    """Of 60 readers that take nothing of a page of 8 MB, those that came first are let go of; the daemon keeps 128 MiB for them."""
+    """For 60 readers that take nothing of a page of 8 MB the daemon keeps it once."""
     daemon = large_daemon(program, folder)
     deaf = []
     for _ in range(60):
@@ -241,23 +247,20 @@ def play_many_readers_that_never_read(program, folder):
         reader.connect((daemon.hosts["pages"], daemon.ports["pages"]))
         deaf.append(reader)
     deaf[-1].settimeout(60.0)
-    first = deaf[-1].recv(1)  # all others have been served
+    deaf[-1].recv(1)  # all others have been served
     check_next_reader(daemon, "60 readers that never read")
-    with open(f"/proc/{daemon.process.pid}/status", encoding="ascii") as file:
-        kilobytes = int(re.search(r"^VmRSS:\s+(\d+) kB$", file.read(), re.MULTILINE)[1])
+    kilobytes = kilobytes_of(daemon, "VmRSS")
     print(f"60 readers that never read: the daemon has {kilobytes // 1024} MiB", flush=True)
-    check("60 readers that never read: the daemon keeps no page for each", kilobytes < 400 * 1024, True)
-    check("60 readers that never read: the first is let go of", len(read_to_its_end(deaf[0])) < 8_000_000, True)
-    check("60 readers that never read: the last is not", (first + read_to_its_end(deaf[-1])).count(b"\n"), OBJECTS + 3)
+    check("60 readers that never read: the daemon keeps no page for each", kilobytes < 150 * 1024, True)
     for reader in deaf:
         reader.close()
     shut_down(daemon, "60 readers that never read", 4.0)
 
 
-def read_to_its_end(connection):
+def read_to_its_end(connection, time_limit=TIME_LIMIT):
     """What comes until a connection ends, also by a reset."""
     pieces = []
-    connection.settimeout(TIME_LIMIT)
+    connection.settimeout(time_limit)
     try:
         while piece := connection.recv(65536):
             pieces.append(piece)
@@ -324,8 +327,7 @@ def play_silent_operators(program, folder):
     for connection in more:
         connection.close()
     slow = daemon.connect("operators")
-    slow.settimeout(70.0)
-    check("silent operators: they are let go of", slow.recv(1), b"")
+    check("silent operators: they are let go of", read_to_its_end(slow, 70.0), b"")
     took = time.monotonic() - began
     check("silent operators: after a minute", 59.0 < took < 65.0, True)
     shut_down(daemon, "silent operators", 3.0)
@@ -410,9 +412,64 @@ def play_too_many_lines(program, folder):
     check("too many lines: all of them are logged", output.split("\n", 1)[0], "log 50000")
 
 
+def talk(daemon, count):
+    """Sends so many lines that are no commands on one connection: how many answers came."""
+    answers = 0
+    with daemon.connect("operators") as operator:
+        operator.settimeout(60.0)
+        sender = threading.Thread(target=send_all, args=(operator, b"x\n" * count))
+        sender.start()
+        while answers < count:
+            piece = operator.recv(65536)
+            if not piece:
+                break
+            answers += piece.count(b"\n")
+        sender.join()
+    return answers
+
+
+def play_lines_that_are_no_commands(program, folder):
+    """Operators that send a million lines that are no commands use up no memory, one alone and two at once; a third is answered
+    meanwhile."""
+    what = "lines that are no commands"
+    daemon = Daemon(program, folder, limited(items=1000000))
+    ask(daemon, "[1] x")
+    before = {name: kilobytes_of(daemon, name) for name in ("VmRSS", "VmHWM")}
+    check(f"{what}: each of one operator is answered", talk(daemon, 500000), 500000)
+    answers = []
+    talking = [threading.Thread(target=lambda: answers.append(talk(daemon, 250000))) for _ in range(2)]
+    for thread in talking:
+        thread.start()
+    slowest = 0.0
+    others = []
+    while any(thread.is_alive() for thread in talking):
+        began = time.monotonic()
+        others += ask(daemon, "x")
+        slowest = max(slowest, time.monotonic() - began)
+        time.sleep(0.1)
+    for thread in talking:
+        thread.join()
+    print(f"{what}: a third operator is answered within {slowest:.2f} s", flush=True)
+    check(f"{what}: a third operator is answered each time", set(others), {"bad NoTime"})
+    check(f"{what}: a third operator is answered soon", slowest < 5.0, True)
+    check(f"{what}: each of two operators is answered", answers, [250000, 250000])
+    for name, kilobytes in before.items():
+        grown = kilobytes_of(daemon, name) - kilobytes
+        print(f"{what}: {name} has grown by {grown} kB", flush=True)
+        check(f"{what}: memory hardly grows ({name})", grown < 4096, True)
+    shut_down(daemon, what, 4.0)
+
+
 def send_all(connection, data):
     try:
         connection.sendall(data)
+    except OSError:
+        pass
+
+
+def end_its_side(connection):
+    try:
+        connection.shutdown(socket.SHUT_WR)
     except OSError:
         pass
 
@@ -537,8 +594,9 @@ def play_bursts(program, folder):
                 with daemon.connect("operators") as connection:
                     lines = [f"[1] ADD_HOST_COMMENT;web1;0;ann;{number}.{one}" for one in range(200)]
                     send_all(connection, "".join(line + "\n" for line in lines).encode())
-                    connection.shutdown(socket.SHUT_WR)
-                    answers = read_all(connection).decode().splitlines()
+                    end_its_side(connection)
+                    # Where the daemon ends meanwhile, its answers so far come, and then a reset.
+                    answers = read_to_its_end(connection).decode().splitlines()
                     for line, answer in zip(lines, answers):
                         if answer.startswith("queued "):
                             answered[int(answer.split()[1])] = line[4:]
