@@ -413,10 +413,10 @@ def play_marks(program):
         check("they come", soon(lambda: len(east.lines) == 3 and len(west.lines) == 2), True)
         check("its commands", (commands_at(east)[2:], commands_at(west)[1:]), (
             ["SCHEDULE_SVC_DOWNTIME;web1;SSH;N;+7200;1;0;0;ann;two hours"], ["SCHEDULE_HOST_DOWNTIME;mail1;N;+7200;1;0;0;ann;two hours"]))
-        check("until a page is newer, the page loads itself again", soon(lambda: "may be from before" not in desk.page(location)), True)
+        found = [[], ["east: web1 SSH: queued 3", "west: mail1: queued 4"]]
+        check("until a page is newer, the page loads itself again", soon(lambda: alarms(desk.page(location)) == found), True)
         page = desk.page(location)
-        check("the orders of that moment", (alarms(page), "http-equiv" in page),
-              ([[], ["east: web1 SSH: queued 3", "west: mail1: queued 4"]], False))
+        check("the orders of that moment", (alarms(page), "http-equiv" in page), (found, False))
         status, fields, _ = desk.post(form, path="/commands?state=problems")
         check("a form that comes again", (status, fields["Location"]), (303, "/marks?state=problems"))
         desk.post(desk.marked("", ["web1;HTTP"], action="comment", text="one", gateway="west"), path="/commands")
