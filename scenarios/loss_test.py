@@ -223,6 +223,69 @@ def play_agents(make, services=4000):
         unit.stop()
 
 
+class Sender(threading.Thread):
+    """Sends one result of its service after another, with the outputs 1, 2, 3 and so on, each on a connection of its own, as a cron job
+    does. An output whose connection was refused, reset or not greeted is sent again."""
+
+    def __init__(self, address, number, is_over):
+        super().__init__(daemon=True)
+        self.address, self.number, self.is_over = address, number, is_over
+        self.sent = 0
+        self.start()
+
+    def run(self):
+        while not self.is_over.wait(0.25):
+            try:
+                with socket.create_connection(self.address, TIME_LIMIT) as connection:
+                    if len(read_exactly(connection, GREETING)) < GREETING:
+                        continue
+                    connection.sendall(packet(int(time.time()), b"web1", b"s%d" % self.number, 2, b"%d" % (self.sent + 1)))
+                    connection.shutdown(socket.SHUT_WR)
+                    read_all(connection)
+                self.sent += 1
+            except OSError:
+                pass
+
+
+def results(log):
+    """The outputs of the accepted results in a log page, in its order, by their services."""
+    found = {}
+    for service, output in re.findall(r"PROCESS_SERVICE_CHECK_RESULT;web1;(s\d+);2;(\d+) -> Accepted$", log, re.M):
+        found.setdefault(service, []).append(int(output))
+    return found
+
+
+def play_restarts_beside_senders(make, senders=500, restarts=4):
+    """Restarts beside senders: what one run has applied last is what the next one begins with, and nothing newer is overwritten."""
+    unit = make(configuration(senders, workers=16))
+    logs = []
+    unit.start()
+    is_over = threading.Event()
+    address = (unit.daemon.hosts["agents"], unit.daemon.ports["agents"])
+    threads = [Sender(address, number, is_over) for number in range(senders)]
+    for turn in range(restarts + 1):
+        time.sleep(2.0)
+        if turn == restarts:
+            is_over.set()
+            for thread in threads:
+                thread.join(TIME_LIMIT)
+        unit.stop()
+        logs.append(results(unit.last_log()))
+        if turn < restarts:
+            unit.start()
+    check("most senders were served by each run", min(len(log) for log in logs) > senders // 2, True)
+    for turn, (one, next_one) in enumerate(zip(logs, logs[1:])):
+        begins = {service: outputs[0] for service, outputs in next_one.items() if service in one}
+        check(f"restart {turn}: it begins with what was applied last", begins, {service: outputs[-1] for service, outputs in one.items()})
+    whole = [sum((log.get(f"s{number}", [])[turn > 0:] for turn, log in enumerate(logs)), []) for number in range(senders)]
+    check("nothing newer is overwritten, nothing comes twice", [number for number, outputs in enumerate(whole)
+                                                               if any(one >= next_one for one, next_one in zip(outputs, outputs[1:]))], [])
+    missing = sum(thread.sent - len(set(outputs) & set(range(1, thread.sent + 1))) for thread, outputs in zip(threads, whole))
+    sent = sum(thread.sent for thread in threads)
+    check("senders were served over the restarts", sent > senders * restarts, True)
+    print(f"{restarts} restarts beside {senders} senders: {missing} of {sent} results aren't in a log: they came in the moment of a close")
+
+
 def play_quiet_agents(make, services=4000):
     """The same without agents: all results are there again."""
     unit = make(configuration(services, workers=4))
@@ -421,7 +484,7 @@ def play_quick_restarts(make):
 
 
 PLAYS = {"crash": play_a_crash, "shutdown": play_an_operators_shutdown, "readers": play_other_readers, "agents": play_agents,
-         "quiet": play_quiet_agents, "watch": play_a_stop_amid_the_watch, "slow": play_slow_readers,
+         "senders": play_restarts_beside_senders, "quiet": play_quiet_agents, "watch": play_a_stop_amid_the_watch, "slow": play_slow_readers,
          "disabled": play_disabled_checks, "large": play_a_large_page, "typo": play_a_typo, "quick": play_quick_restarts}
 
 

@@ -129,6 +129,12 @@ class Unit:
         self.environment["SERVICE_RESULT"] = "success" if status == 0 else "exit-code" if status > 0 else "signal"
         self.run("ExecStopPost")
 
+    def last_log(self):
+        """The log page of the run that ended last."""
+        folder = os.path.dirname(self.log)
+        with open(max((os.path.join(folder, name) for name in os.listdir(folder)), key=os.path.getmtime), encoding="latin-1") as file:
+            return file.read()
+
     def crash(self):
         """Ends the daemon at once, and starts it again."""
         self.daemon.process.send_signal(signal.SIGKILL)
