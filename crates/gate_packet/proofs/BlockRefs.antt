@@ -7,10 +7,10 @@ use Rattle.byteorder.specs.Endian.{big_number}
 use Rattle.gate_packet.specs.declared.decoding.PacketFault.{PacketFault}
 use Rattle.std.proofs.lemmas.Bool.{eq-eqb, ne_eqb}
 use Rattle.gate_packet.specs.declared.decoding.PacketFault.TheVariants.{BadVersion, BadCheckWord}
-use Rattle.gate_check_word.specs.CheckWord.{after_bytes, check_word}
+use Rattle.gate_packet.specs.CheckWord.{after_bytes, check_word}
 use Rattle.gate_packet.specs.Layout.{packet_version, crc32_value, without_check_word, zeros, IsPacketSize}
 use Rattle.gate_packet.specs.Decoding.{is_sound}
-use Rattle.gate_check_word.proofs.CheckWordBlocks.{after_bytes-append}
+use Rattle.gate_packet.proofs.CheckWordBlocks.{after_bytes-append}
 use Rattle.gate_packet.specs.Stream.{begins_short, Begins, IsRest}
 use Rattle.gate_packet.specs.inner.BlockRefs.{integrity_fault, IsBlockRef}
 use Rattle.gate_packet.proofs.Cuts.{rest_of_few, enough_decide, long_begins, size_at_most}

@@ -7,7 +7,7 @@ use Rattle.std.proofs.lemmas.List.{append-nil}
 use Rattle.std.proofs.lemmas.Bool.{leb-true}
 use Rattle.byteorder.specs.Endian.{big_number, big_bytes}
 use Rattle.byteorder.specs.Numbers.{big_number-reads_back}
-use Rattle.gate_check_word.specs.CheckWord.{check_word}
+use Rattle.gate_packet.specs.CheckWord.{check_word}
 use Rattle.gate_packet.specs.Layout.{slice_of, zeros, text_at, without_check_word, IsPacketSize, output_size}
 use Rattle.gate_packet.specs.inner.Writes.{written, HasRoom}
 use Rattle.gate_packet.specs.Packet.{Content, content, IsContent}

@@ -1,3 +1,7 @@
+mod CheckWordBits
+mod CheckWordShares
+pub mod CheckWordBlocks
+mod CheckWordTables
 pub mod Texts
 pub mod ContentFaults
 pub mod PacketFaults

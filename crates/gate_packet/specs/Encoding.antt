@@ -6,7 +6,7 @@ use Rattle.std.specs.Prelude.{◌≡◌, ℕ, ◌-◌, List, [], ◌∷◌, ◌+
 use Rattle.std.specs.List.{concat}
 use Rattle.std.specs.Int.{w16, cast_unsigned}
 use Rattle.byteorder.specs.Endian.{big_bytes}
-use Rattle.gate_check_word.specs.CheckWord.{check_word}
+use Rattle.gate_packet.specs.CheckWord.{check_word}
 use Rattle.gate_packet.specs.Layout.{slice_of, zeros, output_size}
 use Rattle.gate_packet.specs.Packet.{Content}
 

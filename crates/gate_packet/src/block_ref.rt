@@ -1,15 +1,15 @@
 ghost use Rattle.std.specs.Prelude.{◌≡◌, ◌≢◌, ◌≤◌, length, take, false, IfSome, IfNone};
-ghost use Rattle.gate_check_word.specs.CheckWord.{after_bytes};
+ghost use Rattle.gate_packet.specs.CheckWord.{after_bytes};
 ghost use Rattle.gate_packet.specs.Layout.{IsPacketSize, packet_version, without_check_word};
 ghost use Rattle.gate_packet.specs.Stream.{begins_short, block_bytes, Begins, IsRest};
 ghost use Rattle.gate_packet.specs.inner.BlockRefs.{integrity_fault};
 
 use crate::block::Block;
+use crate::check_word::extended;
 use crate::decoding::{PacketFault, u16_at, u32_at};
 use crate::packet::{
     CHECK_WORD_OFFSET, CHECK_WORD_SIZE, PACKET_SIZE, SHORT_PACKET_SIZE, VERSION, VERSION_OFFSET,
 };
-use gate_check_word::extended;
 use std::marker::Model;
 
 /// A whole block where it stands, which is to be read as a packet. Its version and its check word

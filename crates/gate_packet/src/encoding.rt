@@ -6,12 +6,12 @@ ghost use Rattle.gate_packet.specs.Decoding.{IsPacket};
 ghost use Rattle.gate_packet.specs.Encoding.{IsZeroFilled, encoded};
 ghost use Rattle.gate_packet.specs.inner.Writes.{written, HasRoom};
 
+use crate::check_word::crc32;
 use crate::packet::{
     CHECK_WORD_OFFSET, CODE_OFFSET, HOST_OFFSET, OTHER_SIZE, OUTPUT_OFFSET, PACKET_SIZE, Packet,
     SERVICE_OFFSET, SHORT_PACKET_SIZE, TIMESTAMP_OFFSET, VERSION, VERSION_OFFSET,
 };
 use byteorder::{BigEndian, ByteOrder};
-use gate_check_word::crc32;
 
 fn put_u16(bytes: &mut [u8], offset: usize, value: u16)
     requires { offset + 2 ≤ length bytes.old }

@@ -4,6 +4,8 @@ use Rattle.std.specs.Option.{option_map}
 use Rattle.gate_turns.specs.declared.standing.Role.{Role}
 use Rattle.gate_turns.specs.declared.standing.Role.TheVariants.{Agent, Operator, Reader}
 use Rattle.gate_turns.specs.Standing.{can_be_served}
+use Rattle.gate_turns.specs.declared.standing.Standing.{Standing}
+use Rattle.gate_turns.specs.Pages.{kept}
 use Rattle.gate_turns.specs.Turns.{those, least_piece}
 use Rattle.gate_ports.specs.declared.held.Held.{Held}
 use Rattle.gate_ports.specs.declared.peers.Door.{Door}
@@ -11,7 +13,7 @@ use Rattle.gate_ports.specs.declared.peers.Door.TheVariants.{Shut, Open, Rests, 
 use Rattle.gate_ports.specs.declared.served.Served.{Served}
 use Rattle.gate_ports.specs.declared.serving.Serving.{Serving}
 use Rattle.gate_ports.specs.Peers.{HandsOut}
-use Rattle.gate_ports.specs.Waiting.{earlier}
+use Rattle.gate_ports.specs.Waiting.{earlier, IsFirstReady}
 
 -- when a rest of the listener is over
 abbrev pub rests_until : Door → Option ℕ
@@ -53,6 +55,12 @@ pub record IsBegun (taken : ℕ) (served : Served) : Type 0 where
 
 abbrev pub IsServedNext : ℕ → Serving → Type 0
 IsServedNext place serving = (served : Served) × (serving.served ≡ Some served) × IsBegun place served
+
+-- the peer at this place is served next of those that stand so: it was ready first, and of readers one is served only where
+-- no more than 128 MiB are kept for those that wait
+pub record IsNextOf (role : Role) (standings : List (Option Standing)) (place : ℕ) : Type 0 where
+  pub first : IsFirstReady standings place
+  pub room : role ≡ Reader → kept standings ≤ 134217728
 
 -- a piece goes on: less was handed out since others were looked at, or nobody else can be served
 abbrev pub GoesOnSince : Role → Serving → Served → Type 0

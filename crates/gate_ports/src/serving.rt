@@ -5,7 +5,7 @@ ghost use Rattle.gate_ports.specs.Waiting.{IsFirstReady, IsSameTime};
 ghost use Rattle.gate_turns.specs.Turns.{those, least_piece, IsOver};
 ghost use Rattle.gate_turns.specs.Pages.{is_slow, kept};
 ghost use Rattle.gate_ports.specs.Room.{GiveWay};
-ghost use Rattle.gate_ports.specs.Serving.{timeout_of, most_wait, KeepsServed, HandsOutServed, IsServedNext, GoesOnSince};
+ghost use Rattle.gate_ports.specs.Serving.{timeout_of, most_wait, KeepsServed, HandsOutServed, IsServedNext, GoesOnSince, IsNextOf};
 
 use crate::peers::{Door, Peers, earlier};
 use crate::selector::LISTENER;
@@ -197,6 +197,7 @@ impl Serving {
         ensures first { IfSome result
             (λ next. IsFirstReady self.old.peers.table.standings.items next.0) }
         ensures served { IfSome result (λ next. IsServedNext next.0 self.new) }
+        ensures rules { self.new.peers.rules ≡ self.old.peers.rules }
     {
         let place = first_ready(&self.peers.table.standings, None)?;
         let (mut peer, standing) = self.peers.table.take(place)?;
@@ -250,7 +251,7 @@ impl Serving {
         most: Option<u64>,
     ) -> Option<(usize, bool)>
         ensures first { IfSome result (λ next. (standings : List (Option Standing))
-            × IsFirstReady standings next.0) }
+            × IsNextOf self.new.peers.rules.role standings next.0) }
         ensures served { IfSome result (λ next. IsServedNext next.0 self.new) }
     {
         if is_ending {

@@ -9,7 +9,7 @@ use Rattle.status_merge.specs.declared.gateway.Gateway.{Gateway}
 use Rattle.page_watching.specs.declared.places.Place.{Place}
 use Rattle.page_watching.specs.declared.watching.Seen.{Seen}
 use Rattle.page_watching.specs.Watching.{seen_place}
-use Rattle.web_answers.specs.Answers.{IsSent}
+use Rattle.web_connections.specs.Answers.{IsSent}
 use Rattle.status_serving.specs.declared.headings.Heading.{Heading}
 use Rattle.status_serving.specs.declared.bodies.Form.{Form}
 use Rattle.status_serving.specs.declared.changing.ChangesForm.{ChangesForm}

@@ -5,7 +5,7 @@ ghost use Rattle.form_urlencoded.specs.Form.{raw_pairs};
 ghost use Rattle.http.specs.Request.{head_of};
 ghost use Rattle.http_header.specs.HeaderMap.{get_all};
 ghost use Rattle.http_server.specs.Response.{IsBlank};
-ghost use Rattle.web_answers.specs.Answers.{IsKept};
+ghost use Rattle.web_connections.specs.Answers.{IsKept};
 ghost use Rattle.status_serving.specs.Sending.{is_reached, reached_code, status_code, is_named, has_object, object_code, IsStatusOf, AreChangesOf, IsObjectOf};
 
 use crate::bodies::{Form, gateways_of, status_body, status_kind};
@@ -21,7 +21,7 @@ use status_reading::ShownObject;
 use status_view::{STYLE, read_object_name};
 use std::alloc::{AllocError, Global};
 use std::sync::Wait;
-use web_answers::{send, send_kept};
+use web_connections::{send, send_kept};
 
 /// The gateways that are shown, and how.
 pub struct Site<'a, R> {

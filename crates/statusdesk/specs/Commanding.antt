@@ -11,7 +11,7 @@ use Rattle.status_reading.specs.Rows.{PageView}
 use Rattle.status_view.specs.Links.{object_link}
 use Rattle.page_watching.specs.declared.watching.Seen.{Seen}
 use Rattle.page_watching.specs.Watching.{seen_place}
-use Rattle.web_answers.specs.Answers.{IsSent}
+use Rattle.web_connections.specs.Answers.{IsSent}
 use Rattle.desk_guard.specs.declared.guard.Guard.{Guard}
 use Rattle.desk_guard.specs.declared.sent.SentForm.{SentForm}
 use Rattle.desk_guard.specs.declared.refusal.Refusal.TheVariants.{Repeated}

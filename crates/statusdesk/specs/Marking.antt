@@ -11,7 +11,7 @@ use Rattle.http.specs.Uri.{uri_query}
 use Rattle.http_server.specs.declared.response.Response.{Response}
 use Rattle.page_watching.specs.declared.watching.Seen.{Seen}
 use Rattle.page_watching.specs.Watching.{seen_place}
-use Rattle.web_answers.specs.Answers.{IsSent}
+use Rattle.web_connections.specs.Answers.{IsSent}
 use Rattle.desk_forms.specs.declared.admitting.AdmitFault.{AdmitFault}
 use Rattle.desk_forms.specs.declared.requests.FormFault.{FormFault}
 use Rattle.desk_forms.specs.Sender.{Sender}

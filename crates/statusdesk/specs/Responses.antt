@@ -2,7 +2,7 @@
 -- 15.5.6 and 15.4.4).
 use Rattle.std.specs.Prelude.{ℕ, ◌==◌, List, [], ◌∷◌, codes, if◌then◌else◌}
 use Rattle.http_server.specs.declared.response.Response.{Response}
-use Rattle.web_answers.specs.Answers.{Extends, IsRefusal}
+use Rattle.web_connections.specs.Answers.{Extends, IsRefusal}
 
 -- where the method is wrong, POST is allowed
 abbrev pub allow_fields : ℕ → List (List ℕ × List ℕ)

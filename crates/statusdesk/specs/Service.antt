@@ -9,8 +9,8 @@ use Rattle.http.specs.Uri.{uri_path, uri_query}
 use Rattle.http_server.specs.declared.response.Response.{Response}
 use Rattle.gate_grammar.specs.Numbers.{number_of}
 use Rattle.status_view.specs.declared.style.TheConstants.{STYLE}
-use Rattle.web_answers.specs.Answers.{IsSent, IsKept, IsRefusal, IsDated}
-use Rattle.web_answers.specs.Hosts.{answers_host}
+use Rattle.web_connections.specs.Answers.{IsSent, IsKept, IsRefusal, IsDated}
+use Rattle.web_connections.specs.Hosts.{answers_host}
 use Rattle.status_serving.specs.declared.bodies.Form.TheVariants.{Html, Json, Metrics}
 use Rattle.status_serving.specs.declared.changing.ChangesForm.TheVariants as changes
 use Rattle.status_serving.specs.Methods.{body_asked}

@@ -34,7 +34,7 @@ use page_watching::Seen;
 use status_view::object_link;
 use std::alloc::{AllocError, Global};
 use std::sync::Wait;
-use web_answers::send;
+use web_connections::send;
 
 /// What became of a form at a gateway.
 #[derive(Drop)]

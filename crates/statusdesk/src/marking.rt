@@ -29,7 +29,7 @@ use http_server::Response;
 use page_watching::Seen;
 use std::alloc::{AllocError, Global};
 use std::sync::Wait;
-use web_answers::send;
+use web_connections::send;
 
 // Carries out the form for one mark at each gateway.
 fn carry_out_mark<'a, R: Wait>(

@@ -7,7 +7,7 @@ use http::header::{ALLOW, LOCATION};
 use http::{HeaderValue, StatusCode};
 use http_server::Response;
 use std::alloc::{AllocError, Global};
-use web_answers::refuse;
+use web_connections::refuse;
 
 /// Refuses a request with the status of this code.
 pub fn refuse_with(response: &mut Response, code: u16, alloc: Global) -> Result<(), AllocError>

@@ -4,7 +4,7 @@ ghost use Rattle.http.specs.Request.{head_of};
 ghost use Rattle.http.specs.Uri.{uri_path};
 ghost use Rattle.http_header.specs.HeaderMap.{get};
 ghost use Rattle.http_server.specs.Response.{IsBlank};
-ghost use Rattle.web_answers.specs.Hosts.{answers_host};
+ghost use Rattle.web_connections.specs.Hosts.{answers_host};
 ghost use Rattle.status_serving.specs.Methods.{body_asked};
 ghost use Rattle.statusdesk.specs.Objects.{desk_view, known_view, AreKnown};
 ghost use Rattle.desk_outbox.specs.Labels.{host_in, service_in};
@@ -31,7 +31,7 @@ use std::alloc::AllocError;
 use std::sync::atomic::AtomicU64;
 use std::sync::{Mutex, Wait};
 use std::time::Clock;
-use web_answers::{add_date, answers_host, refuse, refuse_method, send};
+use web_connections::{add_date, answers_host, refuse, refuse_method, send};
 
 /// What is shown at a path.
 #[derive(Clone, Copy)]

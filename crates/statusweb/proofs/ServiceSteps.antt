@@ -5,8 +5,8 @@ use Rattle.http.specs.Uri.{uri_path, uri_query}
 use Rattle.http_header.specs.HeaderMap.{get, get_all}
 use Rattle.http_server.specs.declared.response.Response.{Response}
 use Rattle.page_watching.specs.declared.places.Place.{Place}
-use Rattle.web_answers.specs.Answers.{IsRefusal}
-use Rattle.web_answers.specs.Hosts.{answers_host}
+use Rattle.web_connections.specs.Answers.{IsRefusal}
+use Rattle.web_connections.specs.Hosts.{answers_host}
 use Rattle.status_serving.specs.declared.headings.Heading.{Heading}
 use Rattle.statusweb.specs.declared.service.Route.{Route}
 use Rattle.status_serving.specs.Methods.{body_asked}

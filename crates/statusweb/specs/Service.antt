@@ -12,8 +12,8 @@ use Rattle.http.specs.Uri.{uri_path, uri_query}
 use Rattle.http_server.specs.declared.response.Response.{Response}
 use Rattle.status_view.specs.declared.style.TheConstants.{STYLE}
 use Rattle.page_watching.specs.declared.places.Place.{Place}
-use Rattle.web_answers.specs.Answers.{IsKept, IsRefusal, IsDated}
-use Rattle.web_answers.specs.Hosts.{answers_host}
+use Rattle.web_connections.specs.Answers.{IsKept, IsRefusal, IsDated}
+use Rattle.web_connections.specs.Hosts.{answers_host}
 use Rattle.status_serving.specs.declared.headings.Heading.{Heading}
 use Rattle.status_serving.specs.declared.bodies.Form.TheVariants.{Html, Json, Metrics}
 use Rattle.status_serving.specs.declared.changing.ChangesForm.TheVariants as changes

@@ -15,7 +15,7 @@ use status_serving::{
 use std::alloc::AllocError;
 use std::sync::Wait;
 use std::time::Clock;
-use web_answers::{add_date, answers_host, refuse, refuse_method};
+use web_connections::{add_date, answers_host, refuse, refuse_method};
 
 /// What is shown at a path.
 #[derive(Clone, Copy)]

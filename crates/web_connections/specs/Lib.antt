@@ -1,1 +1,4 @@
+pub mod Answers
+pub mod Hosts
+pub mod Refusals
 pub mod Times

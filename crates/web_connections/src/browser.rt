@@ -1,9 +1,10 @@
 ghost use Rattle.std.specs.Prelude.{◌≡◌, IfOk};
 ghost use Rattle.httpdate.specs.declared.date.HttpDate.{HttpDate as Date};
 ghost use Rattle.http_server.specs.Connection.{history};
-ghost use Rattle.web_answers.specs.Refusals.{guarded};
+ghost use Rattle.web_connections.specs.Refusals.{guarded};
 ghost use Rattle.web_connections.specs.Times.{limit_of};
 
+use crate::refusals::guarded;
 use bytes::Bytes;
 use http_server::{Connection, Reason, Service, State};
 use httpdate::HttpDate;
@@ -13,7 +14,6 @@ use std::io;
 use std::io::{ErrorKind, Read, Write};
 use std::net::Shutdown;
 use std::time::{Clock, SystemTime};
-use web_answers::guarded;
 
 // How many bytes are read and dropped at a time.
 const PIECE: usize = 16_384;

@@ -2,7 +2,7 @@
 use Rattle.std.specs.Prelude.{◌≡◌, ℕ, not, ◌==◌, if◌then◌else◌, List, length, Option, Some, None}
 use Rattle.gate_packet.specs.declared.decoding.PacketFault.{PacketFault}
 use Rattle.gate_packet.specs.declared.decoding.PacketFault.TheVariants.{BadVersion, BadCheckWord}
-use Rattle.gate_check_word.specs.CheckWord.{check_word}
+use Rattle.gate_packet.specs.CheckWord.{check_word}
 use Rattle.gate_packet.specs.Layout.{IsPacketSize, packet_version, crc32_value, without_check_word}
 
 -- the fault of the bytes' version or check word

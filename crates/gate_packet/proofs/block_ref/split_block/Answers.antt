@@ -1,5 +1,5 @@
 use Rattle.std.proofs.Common.{◌<◌, length, sym, ap, ◌∙◌, inr, arith}
-use Rattle.gate_check_word.specs.CheckWord.{after_bytes}
+use Rattle.gate_packet.specs.CheckWord.{after_bytes}
 use Rattle.gate_packet.specs.Layout.{packet_version, without_check_word}
 use Rattle.gate_packet.proofs.Cuts.{rest_of_few, too_few, short_begins}
 use Rattle.gate_packet.proofs.BlockRefs.{version_in_front, short_found, long_found}

@@ -1,7 +1,7 @@
 use Rattle.std.proofs.Common.{◌≡◌, take, drop, ◌∷◌, [], length, ◌-◌, ◌∙◌, sym, arith}
 use Rattle.std.proofs.lemmas.Slice.{between_to_end}
 use Rattle.gate_packet.specs.Layout.{zeros}
-use Rattle.gate_check_word.proofs.CheckWordBlocks.{after_bytes-three}
+use Rattle.gate_packet.proofs.CheckWordBlocks.{after_bytes-three}
 use Rattle.gate_packet.proofs.block_ref.word_after.Goals as goal
 
 pub returns : goal.returns

@@ -1,4 +1,4 @@
-use Rattle.web_answers.proofs.FieldSteps.{on_ok}
+use Rattle.web_connections.proofs.FieldSteps.{on_ok}
 use Rattle.status_serving.proofs.SendingSteps.{named_as}
 use Rattle.status_serving.proofs.sending.send_object.Goals as goal
 

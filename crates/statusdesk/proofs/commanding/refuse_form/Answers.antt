@@ -1,6 +1,6 @@
 use Rattle.std.proofs.Common.{ℕ, Bool, sym, subst, ◌∙◌}
 use Rattle.http.specs.Request.{body_of}
-use Rattle.web_answers.proofs.FieldSteps.{on_ok}
+use Rattle.web_connections.proofs.FieldSteps.{on_ok}
 use Rattle.desk_forms.specs.Fields.{fields_of}
 use Rattle.statusdesk.specs.Responses.{IsRefusedWith}
 use Rattle.statusdesk.specs.Commanding.{link_of}

@@ -1,7 +1,7 @@
 use Rattle.std.proofs.Common.{◌≡◌, ℕ, List, ap, rules, subst, ◌∙◌}
 use Rattle.http.specs.Request.{body_of}
 use Rattle.status_view.specs.Links.{object_link}
-use Rattle.web_answers.proofs.FieldSteps.{on_ok}
+use Rattle.web_connections.proofs.FieldSteps.{on_ok}
 use Rattle.desk_forms.specs.Fields.{fields_of}
 use Rattle.desk_outbox.specs.Labels.{host_in, service_in}
 use Rattle.statusdesk.specs.Responses.{IsSentTo}

@@ -1,5 +1,5 @@
 use Rattle.std.proofs.Common.{◌≡◌, ℕ, Bool, List, sym, subst, ◌∙◌}
-use Rattle.web_answers.proofs.FieldSteps.{on_ok}
+use Rattle.web_connections.proofs.FieldSteps.{on_ok}
 use Rattle.statusdesk.specs.Commanding.{location_after, IsTakenAnswer}
 use Rattle.statusdesk.specs.Responses.{IsSentTo}
 use Rattle.statusdesk.proofs.commanding.send_on.Goals as goal

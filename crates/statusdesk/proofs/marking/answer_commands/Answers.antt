@@ -1,5 +1,5 @@
 use Rattle.std.proofs.Common.{rules, Ok, Err}
-use Rattle.web_answers.proofs.FieldSteps.{on_ok}
+use Rattle.web_connections.proofs.FieldSteps.{on_ok}
 use Rattle.statusdesk.specs.Objects.{desk_view}
 use Rattle.statusdesk.proofs.MarkSteps.{answered}
 use Rattle.statusdesk.proofs.marking.answer_commands.Goals as goal

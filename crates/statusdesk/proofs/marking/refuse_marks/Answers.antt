@@ -1,5 +1,5 @@
 use Rattle.std.proofs.Common.{◌≡◌, ℕ, Bool, List, rules, sym, subst, ◌∙◌}
-use Rattle.web_answers.proofs.FieldSteps.{on_ok}
+use Rattle.web_connections.proofs.FieldSteps.{on_ok}
 use Rattle.statusdesk.specs.Responses.{IsRefusedWith, IsSentTo}
 use Rattle.statusdesk.specs.Marks.{marks_link}
 use Rattle.statusdesk.proofs.FaultSteps.{AnswerBy, fault_answer}

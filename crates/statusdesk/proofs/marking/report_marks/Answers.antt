@@ -1,5 +1,5 @@
 use Rattle.std.proofs.Common.{◌≡◌, ℕ, List, Option, None, rules, ap, subst, ◌∙◌}
-use Rattle.web_answers.proofs.FieldSteps.{on_ok}
+use Rattle.web_connections.proofs.FieldSteps.{on_ok}
 use Rattle.statusdesk.specs.Responses.{IsSentTo}
 use Rattle.statusdesk.specs.Objects.{desk_view}
 use Rattle.statusdesk.specs.Marks.{marks_after}

@@ -1,8 +1,8 @@
 use Rattle.std.proofs.Common.{ℕ, List, [], ap, sym, refl, subst, append-nil}
 use Rattle.http.specs.FieldValue.{FieldValue}
 use Rattle.http_server.specs.Response.{fields_of}
-use Rattle.web_answers.specs.Answers.{Extends, IsRefusal}
-use Rattle.web_answers.proofs.FieldSteps.{valued}
+use Rattle.web_connections.specs.Answers.{Extends, IsRefusal}
+use Rattle.web_connections.proofs.FieldSteps.{valued}
 use Rattle.statusdesk.specs.Responses.{allow_fields}
 use Rattle.statusdesk.proofs.ResponseSteps.{none_allowed}
 use Rattle.statusdesk.proofs.responses.refuse_with.Goals as goal

@@ -1,6 +1,6 @@
 use Rattle.std.proofs.Common.{ℕ, List, ap, sym, append-nil}
 use Rattle.http.specs.FieldValue.{FieldValue}
-use Rattle.web_answers.proofs.FieldSteps.{valued, on_ok}
+use Rattle.web_connections.proofs.FieldSteps.{valued, on_ok}
 use Rattle.statusdesk.proofs.responses.send_to.Goals as goal
 
 pub returns : goal.returns

@@ -1,8 +1,8 @@
 use Rattle.std.proofs.Common.{ℕ, Bool, List, Bor, codes, ap, sym, subst, ◌∙◌}
 use Rattle.http.specs.Request.{head_of}
 use Rattle.http_header.specs.HeaderMap.{get}
-use Rattle.web_answers.specs.Hosts.{answers_host}
-use Rattle.web_answers.proofs.FieldSteps.{on_ok}
+use Rattle.web_connections.specs.Hosts.{answers_host}
+use Rattle.web_connections.proofs.FieldSteps.{on_ok}
 use Rattle.statusdesk.specs.Objects.{desk_view}
 use Rattle.statusdesk.specs.Service.{IsAnswerAt}
 use Rattle.statusdesk.proofs.service.answer.Goals as goal

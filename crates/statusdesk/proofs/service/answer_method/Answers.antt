@@ -1,6 +1,6 @@
 use Rattle.std.proofs.Common.{◌≡◌, Bool, Option, Some, rules, subst}
 use Rattle.http.specs.Request.{head_of}
-use Rattle.web_answers.proofs.FieldSteps.{on_ok}
+use Rattle.web_connections.proofs.FieldSteps.{on_ok}
 use Rattle.statusdesk.specs.Objects.{desk_view}
 use Rattle.status_serving.specs.Methods.{body_asked}
 use Rattle.statusdesk.specs.Service.{IsMethodAnswer}

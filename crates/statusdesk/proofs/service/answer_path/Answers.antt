@@ -1,7 +1,7 @@
 use Rattle.std.proofs.Common.{Bool, subst, rules, ◌≡◌, true, false}
 use Rattle.http.specs.Request.{head_of}
 use Rattle.http.specs.Uri.{uri_path}
-use Rattle.web_answers.proofs.FieldSteps.{on_ok}
+use Rattle.web_connections.proofs.FieldSteps.{on_ok}
 use Rattle.statusdesk.specs.Objects.{desk_view}
 use Rattle.statusdesk.specs.Service.{is_command, IsPathAnswer}
 use Rattle.statusdesk.proofs.service.answer_path.Goals as goal

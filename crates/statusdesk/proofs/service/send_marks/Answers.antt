@@ -1,5 +1,5 @@
 use Rattle.std.proofs.Common.{ℕ, List, subst, inl, inr}
-use Rattle.web_answers.proofs.FieldSteps.{on_ok}
+use Rattle.web_connections.proofs.FieldSteps.{on_ok}
 use Rattle.desk_forms.specs.Fields.{IsFaultOf}
 use Rattle.statusdesk.specs.Responses.{IsRefusedWith}
 use Rattle.statusdesk.proofs.service.send_marks.Goals as goal

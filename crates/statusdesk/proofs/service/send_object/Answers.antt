@@ -1,7 +1,7 @@
 use Rattle.std.proofs.Common.{◌≡◌, ℕ, List, [], map, ap, sym, subst, inl, inr, rules, ◌∙◌}
 use Rattle.std.proofs.lemmas.Bool.{eqb-true}
 use Rattle.std.proofs.lemmas.List.{nil_from_length}
-use Rattle.web_answers.proofs.FieldSteps.{on_ok}
+use Rattle.web_connections.proofs.FieldSteps.{on_ok}
 use Rattle.desk_forms.specs.Fields.{fields_of, IsFaultOf}
 use Rattle.desk_outbox.specs.Labels.{host_in, service_in}
 use Rattle.statusdesk.specs.Responses.{IsRefusedWith}

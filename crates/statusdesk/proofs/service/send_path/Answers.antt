@@ -1,5 +1,5 @@
 use Rattle.std.proofs.Common.{rules, Some}
-use Rattle.web_answers.proofs.FieldSteps.{on_ok}
+use Rattle.web_connections.proofs.FieldSteps.{on_ok}
 use Rattle.statusdesk.specs.declared.service.Route.TheVariants.{Status, Changes, Object, Marks}
 use Rattle.statusdesk.specs.Objects.{desk_view}
 use Rattle.statusdesk.proofs.ServiceSteps.{shown_at}

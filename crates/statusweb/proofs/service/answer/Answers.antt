@@ -1,5 +1,5 @@
 use Rattle.http.specs.Request.{head_of}
-use Rattle.web_answers.proofs.FieldSteps.{on_ok}
+use Rattle.web_connections.proofs.FieldSteps.{on_ok}
 use Rattle.statusweb.proofs.ServiceSteps.{host_answered, host_refused}
 use Rattle.statusweb.proofs.service.answer.Goals as goal
 

@@ -2,7 +2,7 @@ use Rattle.std.proofs.Common.{◌≡◌, Bool, Option, Some, rules, subst}
 use Rattle.http.specs.Request.{head_of}
 use Rattle.status_serving.specs.Methods.{body_asked}
 use Rattle.statusweb.specs.Service.{IsMethodAnswer}
-use Rattle.web_answers.proofs.FieldSteps.{on_ok}
+use Rattle.web_connections.proofs.FieldSteps.{on_ok}
 use Rattle.statusweb.proofs.service.answer_method.Goals as goal
 
 pub returns-in-Some : goal.returns-in-Some

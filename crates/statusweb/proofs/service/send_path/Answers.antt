@@ -1,7 +1,7 @@
 use Rattle.std.proofs.Common.{rules, Some}
 use Rattle.http.specs.Request.{head_of}
 use Rattle.statusweb.specs.declared.service.Route.TheVariants.{Status, Object, Changes}
-use Rattle.web_answers.proofs.FieldSteps.{on_ok}
+use Rattle.web_connections.proofs.FieldSteps.{on_ok}
 use Rattle.statusweb.proofs.ServiceSteps.{shown_at}
 use Rattle.statusweb.proofs.service.send_path.Goals as goal
 

@@ -1,5 +1,5 @@
 use Rattle.std.proofs.Common.{ap, ◌∙◌}
-use Rattle.web_answers.specs.Refusals.{guarded}
+use Rattle.web_connections.specs.Refusals.{guarded}
 use Rattle.web_connections.proofs.browser.take_refusal.Goals as goal
 
 pub returns : goal.returns

@@ -1,4 +1,4 @@
-use Rattle.web_answers.proofs.FieldSteps.{on_ok}
+use Rattle.web_connections.proofs.FieldSteps.{on_ok}
 use Rattle.statusweb.proofs.service.WebService.call.Goals as goal
 
 pub returns-clause-ok : goal.returns-clause-ok

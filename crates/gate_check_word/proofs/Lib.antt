@@ -1,4 +1,0 @@
-mod CheckWordBits
-mod CheckWordShares
-pub mod CheckWordBlocks
-mod CheckWordTables
