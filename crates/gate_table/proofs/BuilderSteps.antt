@@ -5,7 +5,7 @@ use Rattle.std.specs.List.{position_from, list_all, list_any}
 use Rattle.std.specs.Str.{bytes_eq}
 use Rattle.std.specs.Cmp.Lexicographic.{bytes_decides}
 use Rattle.std.proofs.lemmas.Bool.{and_parts, and_from, and_right, cases_Bool, cond-true, cond-false, true≢false, le-ltb, lt-ltb}
-use Rattle.std.proofs.lemmas.List.{map-append, length-append, length-take, get_or_append_left}
+use Rattle.std.proofs.lemmas.List.{map-append, length-append, length-map, length-take, get_or_append_left, append-nil}
 use Rattle.std.proofs.Common.{get_or-set_same, get_or-set_other}
 use Rattle.std.proofs.Math.ListN.{length-set}
 use Rattle.std.proofs.lemmas.Option.{slice_get-get_or}
@@ -17,9 +17,13 @@ use Rattle.gate_table.specs.Names.{is_name, is_padded, is_barred}
 use Rattle.gate_table.specs.inner.Keys.{key_of, line_key, is_short, is_short_service, is_short_line}
 use Rattle.gate_model.specs.Table.{is_same_service, is_line_of, place_of, has_object, is_host_line, is_service_line_of}
 use Rattle.gate_table.specs.Faults.{is_service_name, is_named, host_fault, service_fault, line_fault, line_fault_at, fault_at}
-use Rattle.gate_table.specs.inner.TableBuilder.{count_at, AreKeysAndCounts}
+use Rattle.std.specs.Map.{keys_of, values_of}
+use Rattle.gate_table.specs.declared.table_builder.TableBuilder.{TableBuilder}
+use Rattle.gate_table.specs.inner.NamedObjects.{AreKeysAndServices, service_places, row_at, row_of}
+use Rattle.gate_table.specs.inner.TableBuilder.{TracksLines}
 use Rattle.gate_model.proofs.Lists.{position_from-within, position_from-found, position_from-more, position_from-push, none, some_is}
 use Rattle.gate_table.proofs.KeySteps.{place_of-key, line_decides}
+use Rattle.gate_table.proofs.ServicePlaces.{places-push, services-counted}
 
 -- ---- names
 
@@ -116,66 +120,82 @@ service_fault-there lines i line service is =
     ∙ cond-false (is_host_line line) (host_fault (take i lines) (i + 1) line) (service_fault (take i lines) (i + 1) line) (ap is_none is.service_is)
 
 -- the builder of the lines before this one
-module _ (lines : List ObjectLine) (i : ℕ) (line : ObjectLine) (keys : List (List ℕ)) (hosts : ℕ) (services : List ℕ) (tracks : AreKeysAndCounts (take i lines) keys hosts services) where
+module _ (lines : List ObjectLine) (i : ℕ) (line : ObjectLine) (builder : TableBuilder) (tracks : TracksLines (take i lines) builder) where
+  abbrev keys : List (List ℕ)
+  keys = keys_of builder.objects
+
+  abbrev rows : List (List ℕ)
+  rows = values_of builder.objects
+
   -- a key has the place of its names
   pub place-key : (service : Option (List ℕ)) (key : List ℕ) → is_short line.host service ≡ true → key ≡ key_of line.host service → position_from (bytes_eq key) 0 keys ≡ place_of (take i lines) line.host service
-  place-key service key short e = ap (λ (k : List ℕ). position_from (bytes_eq k) 0 keys) e ∙ place_of-key line.host service (take i lines) keys tracks.keys_are short tracks.short
+  place-key service key short e = ap (λ (k : List ℕ). position_from (bytes_eq k) 0 keys) e ∙ place_of-key line.host service (take i lines) keys tracks.are_objects.keys_are short tracks.are_objects.short
 
   pub duplicate_host : IsHostLine lines i line → is_some (place_of (take i lines) line.host None) ≡ true → fault_at lines i ≡ Some (DuplicateHost (i + 1))
   duplicate_host is taken =
       host_fault-there lines i line is
       ∙ cond-true (has_object (take i lines) line.host None) (Some (DuplicateHost (i + 1))) (if nat_lt (count_by is_host_line (take i lines)) 1024 then None else Some (TooMany (i + 1))) taken
 
-  host_fault-new : IsHostLine lines i line → place_of (take i lines) line.host None ≡ None → fault_at lines i ≡ (if nat_lt hosts 1024 then None else Some (TooMany (i + 1)))
+  host_fault-new : IsHostLine lines i line → place_of (take i lines) line.host None ≡ None → fault_at lines i ≡ (if nat_lt builder.hosts 1024 then None else Some (TooMany (i + 1)))
   host_fault-new is free =
       host_fault-there lines i line is
       ∙ cond-false (has_object (take i lines) line.host None) (Some (DuplicateHost (i + 1))) (if nat_lt (count_by is_host_line (take i lines)) 1024 then None else Some (TooMany (i + 1))) (ap is_some free)
       ∙ ap (λ (n : ℕ). if nat_lt n 1024 then None else Some (TooMany (i + 1))) (sym tracks.hosts_are)
 
-  pub too_many_hosts : IsHostLine lines i line → place_of (take i lines) line.host None ≡ None → 1024 ≤ hosts → fault_at lines i ≡ Some (TooMany (i + 1))
-  too_many_hosts is free many = host_fault-new is free ∙ cond-false (nat_lt hosts 1024) None (Some (TooMany (i + 1))) (le-ltb hosts 1024 many)
+  pub too_many_hosts : IsHostLine lines i line → place_of (take i lines) line.host None ≡ None → 1024 ≤ builder.hosts → fault_at lines i ≡ Some (TooMany (i + 1))
+  too_many_hosts is free many = host_fault-new is free ∙ cond-false (nat_lt builder.hosts 1024) None (Some (TooMany (i + 1))) (le-ltb builder.hosts 1024 many)
 
-  pub faultless_host : IsHostLine lines i line → place_of (take i lines) line.host None ≡ None → hosts < 1024 → fault_at lines i ≡ None
-  faultless_host is free few = host_fault-new is free ∙ cond-true (nat_lt hosts 1024) None (Some (TooMany (i + 1))) (lt-ltb hosts 1024 few)
+  pub faultless_host : IsHostLine lines i line → place_of (take i lines) line.host None ≡ None → builder.hosts < 1024 → fault_at lines i ≡ None
+  faultless_host is free few = host_fault-new is free ∙ cond-true (nat_lt builder.hosts 1024) None (Some (TooMany (i + 1))) (lt-ltb builder.hosts 1024 few)
 
-  new_host-count : (host : List ℕ) → line.service ≡ None → count_by (is_service_line_of host) (take i lines ++ line ∷ []) ≡ count_by (is_service_line_of host) (take i lines)
-  new_host-count host e =
-      count_by-push (is_service_line_of host) (take i lines) line
-      ∙ ap (λ (b : Bool). count_by (is_service_line_of host) (take i lines) + cond b 1 0) (and_right (bytes_eq line.host host) (is_some line.service) (ap is_some e))
-      ∙ add-zero (count_by (is_service_line_of host) (take i lines))
+  -- a line's place is the number of lines before it
+  pushed : (host : List ℕ) → i < length lines → service_places host 0 (take i lines ++ line ∷ []) ≡ service_places host 0 (take i lines) ++ cond (is_service_line_of host line) (i ∷ []) []
+  pushed host within =
+      places-push host 0 (take i lines) line
+      ∙ ap (λ n. service_places host 0 (take i lines) ++ cond (is_service_line_of host line) (n ∷ []) []) (let here : 0 + length (take i lines) ≡ i = omega (arith, length-before lines i within) in here)
 
-  new_host-place : (host : List ℕ) (found : Option ℕ) → place_of (take i lines) host None ≡ found → count_at (services ++ 0 ∷ []) (place_of (take i lines ++ line ∷ []) host None) ≡ count_at services found
-  new_host-place host (Some p) e =
+  new_host-places : (host : List ℕ) → i < length lines → line.service ≡ None → service_places host 0 (take i lines ++ line ∷ []) ≡ service_places host 0 (take i lines)
+  new_host-places host within e =
+      pushed host within
+      ∙ ap (λ (b : Bool). service_places host 0 (take i lines) ++ cond b (i ∷ []) []) (and_right (bytes_eq line.host host) (is_some line.service) (ap is_some e))
+      ∙ append-nil (service_places host 0 (take i lines))
+
+  new_host-row : (host : List ℕ) (found : Option ℕ) → place_of (take i lines) host None ≡ found → row_of (rows ++ [] ∷ []) (place_of (take i lines ++ line ∷ []) host None) ≡ row_of rows found
+  new_host-row host (Some p) e =
       let within = position_from-within (is_line_of host None) 0 (take i lines) p e in
-      ap (count_at (services ++ 0 ∷ [])) (position_from-more (is_line_of host None) 0 (take i lines) (line ∷ []) p e)
-      ∙ get_or_append_left services (0 ∷ []) 0 p (omega (arith, tracks.one_each))
-  new_host-place host None e = elim (cases_Bool (is_line_of host None line)) [
+      ap (row_of (rows ++ [] ∷ [])) (position_from-more (is_line_of host None) 0 (take i lines) (line ∷ []) p e)
+      ∙ get_or_append_left rows ([] ∷ []) [] p (omega (arith, tracks.are_objects.one_each))
+  new_host-row host None e = elim (cases_Bool (is_line_of host None line)) [
     | inl passes ↦
-        ap (count_at (services ++ 0 ∷ [])) (position_from-push (is_line_of host None) 0 (take i lines) line e ∙ cond-true (is_line_of host None line) (Some (0 + length (take i lines))) None passes ∙ ap (λ (n : ℕ). Some n) (zero-add (length (take i lines)) ∙ sym tracks.one_each))
-        ∙ get_or-append_seam services 0 [] 0
+        ap (row_of (rows ++ [] ∷ [])) (position_from-push (is_line_of host None) 0 (take i lines) line e ∙ cond-true (is_line_of host None line) (Some (0 + length (take i lines))) None passes ∙ ap (λ (n : ℕ). Some n) (zero-add (length (take i lines)) ∙ sym tracks.are_objects.one_each))
+        ∙ get_or-append_seam rows [] [] []
     | inr fails ↦
-        ap (count_at (services ++ 0 ∷ [])) (position_from-push (is_line_of host None) 0 (take i lines) line e ∙ cond-false (is_line_of host None line) (Some (0 + length (take i lines))) None fails)
+        ap (row_of (rows ++ [] ∷ [])) (position_from-push (is_line_of host None) 0 (take i lines) line e ∙ cond-false (is_line_of host None line) (Some (0 + length (take i lines))) None fails)
   ]
 
-  length-more : length (services ++ 0 ∷ []) ≡ length (take i lines ++ line ∷ [])
-  length-more = simp length-append (omega (arith, tracks.one_each))
+  length-more : length (rows ++ [] ∷ []) ≡ length (take i lines ++ line ∷ [])
+  length-more = simp length-append (omega (arith, tracks.are_objects.one_each))
 
   keys-more : (service : Option (List ℕ)) (key : List ℕ) → key ≡ key_of line.host service → line.service ≡ service → keys ++ key ∷ [] ≡ map line_key (take i lines ++ line ∷ [])
   keys-more service key k e =
-      ap (λ (ks : List (List ℕ)). ks ++ key ∷ []) tracks.keys_are
+      ap (λ (ks : List (List ℕ)). ks ++ key ∷ []) tracks.are_objects.keys_are
       ∙ ap (λ (x : List ℕ). map line_key (take i lines) ++ x ∷ []) (k ∙ ap (key_of line.host) (sym e))
       ∙ sym (map-append line_key (take i lines) (line ∷ []))
 
   -- a new host is kept beside the lines before it
-  pub tracks_host : (key : List ℕ) → IsHostLine lines i line → key ≡ key_of line.host None → AreKeysAndCounts (take (i + 1) lines) (keys ++ key ∷ []) (hosts + 1) (services ++ 0 ∷ [])
-  tracks_host key is k =
+  pub tracks_host : (key : List ℕ) (new : TableBuilder) → IsHostLine lines i line → key ≡ key_of line.host None → new.objects ≡ builder.objects ++ (key, []) ∷ [] → new.hosts ≡ builder.hosts + 1 → TracksLines (take (i + 1) lines) new
+  tracks_host key new is k objects hosts =
       rw (take-line lines i line is.within is.there)
       (record {
-        keys_are = keys-more None key k is.service_is;
-        short = list_all-push is_short_line (take i lines) line tracks.short (named_short line is.named);
-        hosts_are = ap (λ (n : ℕ). n + 1) tracks.hosts_are ∙ sym (count_by-push is_host_line (take i lines) line ∙ ap (λ (b : Bool). count_by is_host_line (take i lines) + cond b 1 0) (ap is_none is.service_is));
-        one_each = length-more;
-        services_are = λ host. new_host-place host (place_of (take i lines) host None) refl ∙ tracks.services_are host ∙ sym (new_host-count host is.service_is);
+        are_objects = subst (λ all. AreKeysAndServices (take i lines ++ line ∷ []) (keys_of all) (values_of all)) (sym objects)
+            (rw (map-append (λ (one : List ℕ × List ℕ). one.0) builder.objects ((key, []) ∷ []), map-append (λ (one : List ℕ × List ℕ). one.1) builder.objects ((key, []) ∷ []))
+            (record {
+              keys_are = keys-more None key k is.service_is;
+              short = list_all-push is_short_line (take i lines) line tracks.are_objects.short (named_short line is.named);
+              one_each = length-more;
+              services_are = λ host. new_host-row host (place_of (take i lines) host None) refl ∙ tracks.are_objects.services_are host ∙ sym (new_host-places host is.within is.service_is);
+            }));
+        hosts_are = hosts ∙ ap (λ (n : ℕ). n + 1) tracks.hosts_are ∙ sym (count_by-push is_host_line (take i lines) line ∙ ap (λ (b : Bool). count_by is_host_line (take i lines) + cond b 1 0) (ap is_none is.service_is));
       })
 
   -- ---- a service
@@ -188,35 +208,35 @@ module _ (lines : List ObjectLine) (i : ℕ) (line : ObjectLine) (keys : List (L
       (ap (λ (o : Option ℕ). not (is_some o)) none)
 
   service_fault-known : (service : List ℕ) (p : ℕ) → IsServiceLine lines i line service → place_of (take i lines) line.host None ≡ Some p
-      → fault_at lines i ≡ (if is_some (place_of (take i lines) line.host (Some service)) then Some (DuplicateService (i + 1)) else (if nat_lt (slice_index services p) 1024 then None else Some (TooMany (i + 1))))
+      → fault_at lines i ≡ (if is_some (place_of (take i lines) line.host (Some service)) then Some (DuplicateService (i + 1)) else (if nat_lt (length (row_at rows p)) 1024 then None else Some (TooMany (i + 1))))
   service_fault-known service p is known =
       service_fault-there lines i line service is
       ∙ cond-false (not (has_object (take i lines) line.host None)) (Some (NoSuchHost (i + 1)))
       (if has_object (take i lines) line.host line.service then Some (DuplicateService (i + 1)) else (if nat_lt (count_by (is_service_line_of line.host) (take i lines)) 1024 then None else Some (TooMany (i + 1))))
       (ap (λ (o : Option ℕ). not (is_some o)) known)
       ∙ ap (λ (s : Option (List ℕ)). if has_object (take i lines) line.host s then Some (DuplicateService (i + 1)) else (if nat_lt (count_by (is_service_line_of line.host) (take i lines)) 1024 then None else Some (TooMany (i + 1)))) is.service_is
-      ∙ ap (λ (n : ℕ). if has_object (take i lines) line.host (Some service) then Some (DuplicateService (i + 1)) else (if nat_lt n 1024 then None else Some (TooMany (i + 1)))) (sym (tracks.services_are line.host) ∙ ap (count_at services) known)
+      ∙ ap (λ (n : ℕ). if has_object (take i lines) line.host (Some service) then Some (DuplicateService (i + 1)) else (if nat_lt n 1024 then None else Some (TooMany (i + 1)))) (sym (services-counted (take i lines) builder.objects tracks.are_objects line.host (Some p) known))
 
   pub duplicate_service : (service : List ℕ) (p : ℕ) → IsServiceLine lines i line service → place_of (take i lines) line.host None ≡ Some p → is_some (place_of (take i lines) line.host (Some service)) ≡ true → fault_at lines i ≡ Some (DuplicateService (i + 1))
   duplicate_service service p is known taken =
       service_fault-known service p is known
-      ∙ cond-true (is_some (place_of (take i lines) line.host (Some service))) (Some (DuplicateService (i + 1))) (if nat_lt (slice_index services p) 1024 then None else Some (TooMany (i + 1))) taken
+      ∙ cond-true (is_some (place_of (take i lines) line.host (Some service))) (Some (DuplicateService (i + 1))) (if nat_lt (length (row_at rows p)) 1024 then None else Some (TooMany (i + 1))) taken
 
-  pub too_many_services : (service : List ℕ) (p : ℕ) → IsServiceLine lines i line service → place_of (take i lines) line.host None ≡ Some p → place_of (take i lines) line.host (Some service) ≡ None → 1024 ≤ slice_index services p → fault_at lines i ≡ Some (TooMany (i + 1))
+  pub too_many_services : (service : List ℕ) (p : ℕ) → IsServiceLine lines i line service → place_of (take i lines) line.host None ≡ Some p → place_of (take i lines) line.host (Some service) ≡ None → 1024 ≤ length (row_at rows p) → fault_at lines i ≡ Some (TooMany (i + 1))
   too_many_services service p is known free many =
       service_fault-known service p is known
-      ∙ cond-false (is_some (place_of (take i lines) line.host (Some service))) (Some (DuplicateService (i + 1))) (if nat_lt (slice_index services p) 1024 then None else Some (TooMany (i + 1))) (ap is_some free)
-      ∙ cond-false (nat_lt (slice_index services p) 1024) None (Some (TooMany (i + 1))) (le-ltb (slice_index services p) 1024 many)
+      ∙ cond-false (is_some (place_of (take i lines) line.host (Some service))) (Some (DuplicateService (i + 1))) (if nat_lt (length (row_at rows p)) 1024 then None else Some (TooMany (i + 1))) (ap is_some free)
+      ∙ cond-false (nat_lt (length (row_at rows p)) 1024) None (Some (TooMany (i + 1))) (le-ltb (length (row_at rows p)) 1024 many)
 
-  pub faultless_service : (service : List ℕ) (p : ℕ) → IsServiceLine lines i line service → place_of (take i lines) line.host None ≡ Some p → place_of (take i lines) line.host (Some service) ≡ None → slice_index services p < 1024 → fault_at lines i ≡ None
+  pub faultless_service : (service : List ℕ) (p : ℕ) → IsServiceLine lines i line service → place_of (take i lines) line.host None ≡ Some p → place_of (take i lines) line.host (Some service) ≡ None → length (row_at rows p) < 1024 → fault_at lines i ≡ None
   faultless_service service p is known free few =
       service_fault-known service p is known
-      ∙ cond-false (is_some (place_of (take i lines) line.host (Some service))) (Some (DuplicateService (i + 1))) (if nat_lt (slice_index services p) 1024 then None else Some (TooMany (i + 1))) (ap is_some free)
-      ∙ cond-true (nat_lt (slice_index services p) 1024) None (Some (TooMany (i + 1))) (lt-ltb (slice_index services p) 1024 few)
+      ∙ cond-false (is_some (place_of (take i lines) line.host (Some service))) (Some (DuplicateService (i + 1))) (if nat_lt (length (row_at rows p)) 1024 then None else Some (TooMany (i + 1))) (ap is_some free)
+      ∙ cond-true (nat_lt (length (row_at rows p)) 1024) None (Some (TooMany (i + 1))) (lt-ltb (length (row_at rows p)) 1024 few)
 
-  -- the place of a host that is known lies among the counts
-  pub place-within : (host : List ℕ) (p : ℕ) → place_of (take i lines) host None ≡ Some p → p < length services
-  place-within host p e = let within = position_from-within (is_line_of host None) 0 (take i lines) p e in omega (arith, tracks.one_each)
+  -- the place of a host that is known lies among the objects
+  pub place-within : (host : List ℕ) (p : ℕ) → place_of (take i lines) host None ≡ Some p → p < length rows
+  place-within host p e = let within = position_from-within (is_line_of host None) 0 (take i lines) p e in omega (arith, tracks.are_objects.one_each)
 
   service_place : (service host : List ℕ) (found : Option ℕ) → line.service ≡ Some service → place_of (take i lines) host None ≡ found → place_of (take i lines ++ line ∷ []) host None ≡ found
   service_place service host (Some q) is e = position_from-more (is_line_of host None) 0 (take i lines) (line ∷ []) q e
@@ -224,10 +244,10 @@ module _ (lines : List ObjectLine) (i : ℕ) (line : ObjectLine) (keys : List (L
       position_from-push (is_line_of host None) 0 (take i lines) line e
       ∙ cond-false (is_line_of host None line) (Some (0 + length (take i lines))) None (and_right (bytes_eq line.host host) (is_same_service line.service None) (ap (λ (s : Option (List ℕ)). is_same_service s None) is))
 
-  new_service-count : (service host : List ℕ) → line.service ≡ Some service → count_by (is_service_line_of host) (take i lines ++ line ∷ []) ≡ count_by (is_service_line_of host) (take i lines) + cond (bytes_eq line.host host) 1 0
-  new_service-count service host is =
-      count_by-push (is_service_line_of host) (take i lines) line
-      ∙ ap (λ (b : Bool). count_by (is_service_line_of host) (take i lines) + cond b 1 0) (ap (λ (s : Option (List ℕ)). bytes_eq line.host host && is_some s) is ∙ and_yes (bytes_eq line.host host))
+  new_service-places : (service host : List ℕ) → i < length lines → line.service ≡ Some service → service_places host 0 (take i lines ++ line ∷ []) ≡ service_places host 0 (take i lines) ++ cond (bytes_eq line.host host) (i ∷ []) []
+  new_service-places service host within is =
+      pushed host within
+      ∙ ap (λ (b : Bool). service_places host 0 (take i lines) ++ cond b (i ∷ []) []) (ap (λ (s : Option (List ℕ)). bytes_eq line.host host && is_some s) is ∙ and_yes (bytes_eq line.host host))
 
   -- hosts of one place have one name
   one_name : (host : List ℕ) (p : ℕ) → place_of (take i lines) line.host None ≡ Some p → place_of (take i lines) host None ≡ Some p → line.host ≡ host
@@ -237,46 +257,55 @@ module _ (lines : List ObjectLine) (i : ℕ) (line : ObjectLine) (keys : List (L
       let same : x.0 ≡ y.0 = some_is x.0 y.0 (sym x.1 ∙ y.1) in
       sym ((line_decides line.host None x.0).0 x.2).0 ∙ ap (λ (l : ObjectLine). l.host) same ∙ ((line_decides host None y.0).0 y.2).0
 
-  new_service-place : (service host : List ℕ) (p : ℕ) (found : Option ℕ) → line.service ≡ Some service → place_of (take i lines) line.host None ≡ Some p → place_of (take i lines) host None ≡ found
-      → count_at (set (services ++ 0 ∷ []) p (get_or services p 0 + 1)) found ≡ count_at services found + cond (bytes_eq line.host host) 1 0
-  new_service-place service host p (Some q) is known e =
+  new_service-row : (host : List ℕ) (p n : ℕ) (found : Option ℕ) → place_of (take i lines) line.host None ≡ Some p → place_of (take i lines) host None ≡ found
+      → row_of (set (rows ++ [] ∷ []) p (row_at rows p ++ n ∷ [])) found ≡ row_of rows found ++ cond (bytes_eq line.host host) (n ∷ []) []
+  new_service-row host p n (Some q) known e =
       let lp = place-within line.host p known in
       let lq = place-within host q e in
-      let kept = get_or_append_left services (0 ∷ []) 0 in
-      let long : p < length (services ++ 0 ∷ []) = omega (arith, length-append services (0 ∷ [])) in
+      let kept = get_or_append_left rows ([] ∷ []) [] in
+      let long : p < length (rows ++ [] ∷ []) = omega (arith, length-append rows ([] ∷ [])) in
       elim (cases_Bool (bytes_eq line.host host)) [
         | inl same ↦
             let name : line.host ≡ host = (bytes_decides line.host host).0 same in
             let at_p : p ≡ q = some_is p q (sym known ∙ ap (λ (h : List ℕ). place_of (take i lines) h None) name ∙ e) in
-            ap (λ (k : ℕ). get_or (set (services ++ 0 ∷ []) p (get_or services p 0 + 1)) k 0) (sym at_p)
-            ∙ get_or-set_same (services ++ 0 ∷ []) p (get_or services p 0 + 1) 0 long
-            ∙ ap (λ (k : ℕ). get_or services k 0 + 1) at_p
-            ∙ ap (λ (b : Bool). get_or services q 0 + cond b 1 0) (sym same)
+            ap (row_at (set (rows ++ [] ∷ []) p (row_at rows p ++ n ∷ []))) (sym at_p)
+            ∙ get_or-set_same (rows ++ [] ∷ []) p (row_at rows p ++ n ∷ []) [] long
+            ∙ ap (λ (k : ℕ). row_at rows k ++ n ∷ []) at_p
+            ∙ ap (λ (b : Bool). row_at rows q ++ cond b (n ∷ []) []) (sym same)
         | inr differs ↦
             let apart : q ≡ p → ⊥ = λ q_is. true≢false (sym ((bytes_decides line.host host).1 (one_name host p known (e ∙ ap (λ (k : ℕ). Some k) q_is))) ∙ differs) in
-            get_or-set_other (services ++ 0 ∷ []) p q (get_or services p 0 + 1) 0 apart
+            get_or-set_other (rows ++ [] ∷ []) p q (row_at rows p ++ n ∷ []) [] apart
             ∙ kept q lq
-            ∙ sym (add-zero (get_or services q 0))
-            ∙ ap (λ (b : Bool). get_or services q 0 + cond b 1 0) (sym differs)
+            ∙ sym (append-nil (row_at rows q))
+            ∙ ap (λ (b : Bool). row_at rows q ++ cond b (n ∷ []) []) (sym differs)
       ]
-  new_service-place service host p None is known e = elim (cases_Bool (bytes_eq line.host host)) [
+  new_service-row host p n None known e = elim (cases_Bool (bytes_eq line.host host)) [
     | inl same ↦ absurd (none_is_some p (sym e ∙ ap (λ (h : List ℕ). place_of (take i lines) h None) (sym ((bytes_decides line.host host).0 same)) ∙ known))
-    | inr differs ↦ ap (λ (b : Bool). 0 + cond b 1 0) (sym differs)
+    | inr differs ↦ ap (λ (b : Bool). [] ++ cond b (n ∷ []) []) (sym differs)
   ]
 
-  -- a new service is kept beside the lines before it, and counted at its host
-  pub tracks_service : (service : List ℕ) (key : List ℕ) (p : ℕ) → IsServiceLine lines i line service → place_of (take i lines) line.host None ≡ Some p → key ≡ key_of line.host (Some service)
-      → AreKeysAndCounts (take (i + 1) lines) (keys ++ key ∷ []) hosts (set (services ++ 0 ∷ []) p (get_or services p 0 + 1))
-  tracks_service service key p is known k =
+  -- the next object's place is that of the line
+  next_place : i < length lines → length builder.objects ≡ i
+  next_place within = omega (arith, length-map builder.objects (λ (one : List ℕ × List ℕ). one.1), tracks.are_objects.one_each, length-before lines i within)
+
+  -- a new service is kept beside the lines before it, and listed at its host
+  pub tracks_service : (service key : List ℕ) (p : ℕ) (new : TableBuilder) → IsServiceLine lines i line service → place_of (take i lines) line.host None ≡ Some p → key ≡ key_of line.host (Some service)
+      → keys_of new.objects ≡ keys ++ key ∷ [] → values_of new.objects ≡ set (rows ++ [] ∷ []) p (row_at rows p ++ length builder.objects ∷ []) → new.hosts ≡ builder.hosts → TracksLines (take (i + 1) lines) new
+  tracks_service service key p new is known k more_keys more_rows hosts =
+      let listed : values_of new.objects ≡ set (rows ++ [] ∷ []) p (row_at rows p ++ i ∷ []) =
+      more_rows ∙ ap (λ (n : ℕ). set (rows ++ [] ∷ []) p (row_at rows p ++ n ∷ [])) (next_place is.within) in
       rw (take-line lines i line is.within is.there)
       (record {
-        keys_are = keys-more (Some service) key k is.service_is;
-        short = list_all-push is_short_line (take i lines) line tracks.short (named_short line is.named);
-        hosts_are = tracks.hosts_are ∙ sym (count_by-push is_host_line (take i lines) line ∙ ap (λ (b : Bool). count_by is_host_line (take i lines) + cond b 1 0) (ap is_none is.service_is) ∙ add-zero (count_by is_host_line (take i lines)));
-        one_each = length-set (services ++ 0 ∷ []) p (get_or services p 0 + 1) ∙ length-more;
-        services_are = λ host.
-            ap (count_at (set (services ++ 0 ∷ []) p (get_or services p 0 + 1))) (service_place service host (place_of (take i lines) host None) is.service_is refl)
-            ∙ new_service-place service host p (place_of (take i lines) host None) is.service_is known refl
-            ∙ ap (λ (n : ℕ). n + cond (bytes_eq line.host host) 1 0) (tracks.services_are host)
-            ∙ sym (new_service-count service host is.service_is);
+        are_objects = rw (more_keys, listed)
+            (record {
+              keys_are = keys-more (Some service) key k is.service_is;
+              short = list_all-push is_short_line (take i lines) line tracks.are_objects.short (named_short line is.named);
+              one_each = length-set (rows ++ [] ∷ []) p (row_at rows p ++ i ∷ []) ∙ length-more;
+              services_are = λ host.
+                  ap (row_of (set (rows ++ [] ∷ []) p (row_at rows p ++ i ∷ []))) (service_place service host (place_of (take i lines) host None) is.service_is refl)
+                  ∙ new_service-row host p i (place_of (take i lines) host None) known refl
+                  ∙ ap (λ (before : List ℕ). before ++ cond (bytes_eq line.host host) (i ∷ []) []) (tracks.are_objects.services_are host)
+                  ∙ sym (new_service-places service host is.within is.service_is);
+            });
+        hosts_are = hosts ∙ tracks.hosts_are ∙ sym (count_by-push is_host_line (take i lines) line ∙ ap (λ (b : Bool). count_by is_host_line (take i lines) + cond b 1 0) (ap is_none is.service_is) ∙ add-zero (count_by is_host_line (take i lines)));
       })

@@ -8,7 +8,6 @@ use Rattle.gate_model.specs.declared.object.ObjectLine.{ObjectLine}
 use Rattle.gate_table.specs.declared.table.TableFault.{TableFault}
 use Rattle.gate_table.specs.declared.table.TableFault.TheVariants as faults
 use Rattle.gate_table.specs.declared.table_builder.TableBuilder.{TableBuilder}
-use Rattle.gate_table.specs.inner.Keys.{IsIndex}
 use Rattle.gate_table.specs.Faults.{line_fault_at, fault_at, IsFaultOf, IsFaultless}
 use Rattle.gate_table.specs.inner.TableBuilder.{TracksLines, AddsOrRefuses}
 
@@ -44,11 +43,7 @@ tracks_all lines i builder le tracks = subst (λ (ls : List ObjectLine). TracksL
 no_fault_past : (lines : List ObjectLine) (i : ℕ) → length lines ≤ i → fault_at lines i ≡ None
 no_fault_past lines i le = ap (line_fault_at lines i) (slice_get_past lines i le)
 
-pub index_of_all : (lines : List ObjectLine) (i : ℕ) (builder : TableBuilder) → length lines ≤ 16384 → length lines ≤ i → FaultlessBelow lines i → TracksLines (take i lines) builder → IsIndex lines builder.keys
-index_of_all lines i builder few le before tracks =
-    let known = tracks_all lines i builder le tracks in
-    record {
-      keys_are = known.keys_are;
-      short = known.short;
-      faultless = record { few = few; each = λ j. elim (cases_lt j i) [ inl lt ↦ before j lt | inr ge ↦ no_fault_past lines j (omega arith) ] };
-    }
+-- where none of the lines is faulty they are faultless
+pub faultless_all : (lines : List ObjectLine) (i : ℕ) → length lines ≤ 16384 → length lines ≤ i → FaultlessBelow lines i → IsFaultless lines
+faultless_all lines i few le before =
+    record { few = few; each = λ j. elim (cases_lt j i) [ inl lt ↦ before j lt | inr ge ↦ no_fault_past lines j (omega arith) ] }

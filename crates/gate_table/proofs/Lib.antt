@@ -1,7 +1,7 @@
 pub mod KeySteps
-pub mod PlaceSteps
+pub mod IndexSteps
 pub mod BuilderSteps
 pub mod Hosts
 pub mod Faults
 pub mod ServiceSteps
-pub mod ServiceListSteps
+pub mod ServicePlaces

@@ -34,7 +34,7 @@ length-cond : (b : Bool) (object : ObjectId) (rest : List ObjectId) → length (
 length-cond true object rest = omega arith
 length-cond false object rest = omega arith
 
-length-services : (host : List ℕ) (place : ℕ) (lines : List ObjectLine) → length (services_from host place lines) ≡ count_by (is_service_line_of host) lines
+pub length-services : (host : List ℕ) (place : ℕ) (lines : List ObjectLine) → length (services_from host place lines) ≡ count_by (is_service_line_of host) lines
 length-services host place [] = refl
 length-services host place (line ∷ lines) =
     ap length (services-cons host place line lines)

@@ -1,4 +1,4 @@
 -- Definitions that only proofs and private functions use.
 pub mod Keys
-pub mod ServiceLists
+pub mod NamedObjects
 pub mod TableBuilder

@@ -1,8 +1,9 @@
 //! The table of monitored objects: hosts and their services, found by their names.
 #![tactic(auto)]
 
+mod keys;
+mod named_objects;
 mod names;
-mod service_lists;
 mod services;
 mod table;
 mod table_builder;

@@ -1,6 +1,6 @@
-//! The table of monitored objects, and the keys by which they are found.
+//! The table of monitored objects.
 
-ghost use Rattle.std.specs.Prelude.{◌≡◌, ◌≢◌, ◌<◌, ◌≤◌, ℕ, List, length, map, slice_get, option_copied, [], IfErr, IfOk, IfSome, MatchResult, None, Some, true, false, ◌↔◌, IsTrue, ◌∷◌, ◌++◌, is_some, OnOk, OnErr};
+ghost use Rattle.std.specs.Prelude.{◌≡◌, ◌≢◌, ◌<◌, ◌≤◌, ℕ, List, length, map, slice_get, option_copied, IfErr, IfOk, IfSome, MatchResult, None, Some, true, false, ◌↔◌, IsTrue};
 ghost use Rattle.gate_table.specs.declared.table.TableFault.TheVariants.{OutOfMemory};
 ghost use Rattle.gate_model.specs.declared.object.Kind.TheVariants.{Service};
 ghost use Rattle.gate_model.specs.declared.record.Outcome.{Outcome};
@@ -8,19 +8,15 @@ ghost use Rattle.gate_model.specs.Table.{has_object, object_at, object_kind, obj
 ghost use Rattle.gate_table.specs.Faults.{IsFaultless, IsFaultOf};
 ghost use Rattle.gate_model.specs.Record.{is_accepted};
 ghost use Rattle.gate_model.specs.Meaning.{outcome_for};
-ghost use Rattle.gate_table.specs.inner.Keys.{IsIndex, key_of, is_short, line_key, is_short_line};
-ghost use Rattle.std.specs.List.{position_from, list_all};
+ghost use Rattle.gate_table.specs.inner.NamedObjects.{IsTable};
 ghost use Rattle.std.specs.Option.{option_copied};
-ghost use Rattle.std.specs.Str.{bytes_eq};
 ghost use Rattle.gate_model.specs.declared.object.ObjectLine.{ObjectLine};
 
-use crate::service_lists::ServiceLists;
+use crate::named_objects::NamedObjects;
 use crate::services::Services;
 use crate::table_builder::TableBuilder;
-use arrayvec::ArrayVec;
-use gate_model::{HOST_NAME, Kind, LINES, ObjectId, ObjectLine, Outcome, SERVICE_NAME, Text};
-use std::alloc::{AllocError, Global};
-use std::collections::HashMap;
+use gate_model::{Kind, LINES, ObjectId, ObjectLine, Outcome, Text};
+use std::alloc::Global;
 use std::error::Error;
 use std::fmt;
 use std::marker::Model;
@@ -100,8 +96,7 @@ impl Error for BuildFault {}
 /// The monitored objects: hosts and their services. The index of an object, from 0, is its place.
 pub struct ObjectTable {
     lines: Vec<ObjectLine>,
-    keys: Keys,
-    services: ServiceLists,
+    objects: NamedObjects,
     // How many services the host with the most of them has.
     most: usize,
 }
@@ -111,8 +106,7 @@ impl Drop for ObjectTable {
     fn drop(self) {
         let ObjectTable {
             lines: _lines,
-            keys: _keys,
-            services: _services,
+            objects: _objects,
             most: _,
         } = self;
     }
@@ -121,14 +115,14 @@ impl Drop for ObjectTable {
 impl Model for ObjectTable {
     ghost use Rattle.std.specs.Prelude.{List};
     ghost use Rattle.gate_model.specs.declared.object.ObjectLine.{ObjectLine};
-    ghost use Rattle.gate_table.specs.inner.ServiceLists.{IsTable};
+    ghost use Rattle.gate_table.specs.inner.NamedObjects.{IsTable};
 
     ghost Value = { List ObjectLine };
 
     ghost view = { λ table. table.lines.items };
 
     ghost invariant = { λ table.
-        IsTable table.lines.items table.keys table.services table.most };
+        IsTable table.lines.items table.objects table.most };
 }
 
 impl ObjectTable {
@@ -146,21 +140,13 @@ impl ObjectTable {
         ensures faulty { IfErr result (λ refused.
             refused.cause ≢ OutOfMemory → ¬ IsFaultless refused.lines.items) }
     {
-        let (keys, most) = match keys_of(alloc, &lines) {
-            Ok(found) => found,
-            Err(cause) => return Err(BuildFault { cause, lines }),
-        };
-        match ServiceLists::of(alloc, &lines, &keys) {
-            Ok(services) => Ok(ObjectTable {
+        match objects_of(alloc, &lines) {
+            Ok((objects, most)) => Ok(ObjectTable {
                 lines,
-                keys,
-                services,
+                objects,
                 most,
             }),
-            Err(_) => Err(BuildFault {
-                cause: TableFault::OutOfMemory,
-                lines,
-            }),
+            Err(cause) => Err(BuildFault { cause, lines }),
         }
     }
 
@@ -240,9 +226,9 @@ impl ObjectTable {
     {
         match self.line(place) {
             None => &[],
-            Some(line) => match self.keys.find(line.host.bytes(), None) {
+            Some(line) => match self.objects.find(line.host.bytes(), None) {
                 None => &[],
-                Some(host) => self.services.row(host),
+                Some(host) => self.objects.services(host),
             },
         }
     }
@@ -252,7 +238,7 @@ impl ObjectTable {
         ensures within { IfSome result (λ place. place < length self.now) }
         ensures host { IfSome result (λ _. has_object self.now host.now None ≡ true) }
     {
-        match self.keys.find(host, service) {
+        match self.objects.find(host, service) {
             Some(place) => Some(place as u32),
             None => None,
         }
@@ -295,11 +281,10 @@ pub fn find_object(
     }
 }
 
-/// The keys of the lines and how many services the host with the most of them has, or why these are
-/// no table.
-fn keys_of(alloc: Global, lines: &[ObjectLine]) -> Result<(Keys, usize), TableFault>
-    ensures index { IfOk result (λ found. IsIndex lines.now found.0) }
-    ensures most { IfOk result (λ found. found.1 ≡ most_services lines.now) }
+/// The objects of the lines and how many services the host with the most of them has, or why these
+/// are no table.
+fn objects_of(alloc: Global, lines: &[ObjectLine]) -> Result<(NamedObjects, usize), TableFault>
+    ensures table { IfOk result (λ found. IsTable lines.now found.0 found.1) }
     ensures fault { IfErr result (IsFaultOf lines.now) }
     ensures faulty { IfErr result (λ fault. fault ≢ OutOfMemory → ¬ IsFaultless lines.now) }
 {
@@ -313,120 +298,5 @@ fn keys_of(alloc: Global, lines: &[ObjectLine]) -> Result<(Keys, usize), TableFa
         }
     }
     let most = builder.most_services(lines);
-    Ok((builder.into_keys(), most))
-}
-
-const KEY_BYTES: usize = 1 + HOST_NAME + SERVICE_NAME;
-
-const SERVICE_MARK: u8 = 128;
-
-/// The bytes by which an object is found. They are on the stack, so a lookup allocates nothing.
-pub type Key = ArrayVec<u8, KEY_BYTES>;
-
-fn host_key(host: &[u8]) -> Option<Key>
-    ensures value { IfSome result (λ key. key.items ≡ key_of host.now None) }
-    ensures short { is_some result ≡ is_short host.now None }
-{
-    if host.len() > HOST_NAME {
-        return None;
-    }
-    let mut key = ArrayVec::new();
-    key.push(host.len() as u8);
-    key.try_extend_from_slice(host).ok()?;
-    Some(key)
-}
-
-fn service_key(host: &[u8], service: &[u8]) -> Option<Key>
-    ensures value { IfSome result (λ key. key.items ≡ key_of host.now (Some service.now)) }
-    ensures short { is_some result ≡ is_short host.now (Some service.now) }
-{
-    if host.len() > HOST_NAME || service.len() > SERVICE_NAME {
-        return None;
-    }
-    let mut key = ArrayVec::new();
-    key.push(host.len() as u8 + SERVICE_MARK);
-    key.try_extend_from_slice(host).ok()?;
-    key.try_extend_from_slice(service).ok()?;
-    Some(key)
-}
-
-/// The key of an object's names. Names that are longer than any of a table have none.
-pub fn key_of(host: &[u8], service: Option<&[u8]>) -> Option<Key>
-    ensures value { IfSome result (λ key.
-        key.items ≡ key_of host.now (option_copied service.entry)) }
-    ensures short { is_some result ≡ is_short host.now (option_copied service.entry) }
-{
-    match service {
-        None => host_key(host),
-        Some(service) => service_key(host, service),
-    }
-}
-
-/// Distinct keys, each found by its hash. A key's place is how many keys were added before it.
-///
-/// An `IndexSet` would hold them once, but the library of each crate above would hold all of the crate
-/// indexmap.
-#[derive(Drop)]
-pub struct Keys {
-    // In the order in which they were added.
-    all: Vec<Vec<u8>>,
-    places: HashMap<Vec<u8>, usize>,
-}
-
-impl Model for Keys {
-    ghost use Rattle.std.specs.Prelude.{ℕ, List};
-    ghost use Rattle.gate_table.specs.inner.Keys.{ArePlaced, keys_in};
-
-    ghost Value = { List (List ℕ) };
-
-    ghost view = { λ keys. keys_in keys.all.items };
-
-    ghost invariant = { λ keys. ArePlaced (keys_in keys.all.items) keys.places };
-}
-
-impl Keys {
-    pub fn new(alloc: Global) -> Keys
-        ensures { result ≡ [] }
-    {
-        Keys {
-            all: Vec::new(alloc),
-            places: HashMap::new(alloc),
-        }
-    }
-
-    /// The place of a key.
-    pub fn place(&self, key: &[u8]) -> Option<usize>
-        ensures { result ≡ position_from (bytes_eq key.now) 0 self.now }
-    {
-        match self.places.get(key) {
-            Some(place) => Some(*place),
-            None => None,
-        }
-    }
-
-    /// The place of the object of these names, in a table whose lines have these keys.
-    pub fn find(&self, host: &[u8], service: Option<&[u8]>) -> Option<usize>
-        ensures { (lines : List ObjectLine)
-            → self.now ≡ map line_key lines → list_all is_short_line lines ≡ true
-            → result ≡ place_of lines host.now (option_copied service.entry) }
-    {
-        match key_of(host, service) {
-            None => None,
-            Some(key) => self.place(&key),
-        }
-    }
-
-    /// Adds a new key.
-    pub fn add(&mut self, alloc: Global, key: &[u8]) -> Result<(), AllocError>
-        requires { position_from (bytes_eq key.now) 0 self.old ≡ None }
-        ensures ok { OnOk result (self.new ≡ self.old ++ key.now ∷ []) }
-        ensures err { OnErr result (self.new ≡ self.old) }
-    {
-        let listed = Vec::from_slice(alloc, key)?;
-        let owned = Vec::from_slice(alloc, key)?;
-        self.all.reserve(1)?;
-        self.places.insert(owned, self.all.len())?;
-        self.all.push_reserved(listed);
-        Ok(())
-    }
+    Ok((builder.into_objects(), most))
 }

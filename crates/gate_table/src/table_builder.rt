@@ -1,26 +1,24 @@
 //! Finds the first fault of a list of lines, from the first line to the last.
 
-ghost use Rattle.std.specs.Prelude.{◌≡◌, ◌<◌, ◌≤◌, [], None, true, Some, length, take, slice_get, count_by, max, OnOk, IfSome};
-ghost use Rattle.std.specs.List.{position_from};
-ghost use Rattle.std.specs.Str.{bytes_eq};
+ghost use Rattle.std.specs.Prelude.{◌≡◌, ◌<◌, ◌≤◌, [], None, true, Some, length, take, slice_get, count_by, max, IfSome};
 ghost use Rattle.gate_model.specs.Table.{is_service_line_of, most_services};
 ghost use Rattle.gate_table.specs.Faults.{is_named};
-ghost use Rattle.gate_table.specs.inner.TableBuilder.{TracksLines, AddsKey, AddsOrRefuses};
+ghost use Rattle.gate_table.specs.inner.TableBuilder.{TracksLines, AddsOrRefuses};
 
+use crate::keys::key_of;
+use crate::named_objects::NamedObjects;
 use crate::names::is_named;
-use crate::table::{Keys, TableFault, key_of};
+use crate::table::TableFault;
 use gate_model::{HOSTS, ObjectLine, SERVICES_OF_HOST};
-use std::alloc::{AllocError, Global};
+use std::alloc::Global;
 
 /// What is kept of the lines that were added.
 #[derive(Drop)]
 pub struct TableBuilder {
-    /// The keys of the lines.
-    pub keys: Keys,
+    /// The objects of the lines.
+    pub objects: NamedObjects,
     /// How many hosts there are.
     pub hosts: usize,
-    /// At the place of a host, how many services it has.
-    pub services: Vec<usize>,
 }
 
 impl TableBuilder {
@@ -28,9 +26,8 @@ impl TableBuilder {
         ensures { TracksLines [] result }
     {
         TableBuilder {
-            keys: Keys::new(alloc),
+            objects: NamedObjects::new(alloc),
             hosts: 0,
-            services: Vec::new(alloc),
         }
     }
 
@@ -51,20 +48,17 @@ impl TableBuilder {
         requires { TracksLines lines.now self.now }
         ensures { result ≡ count_by (is_service_line_of host.now) lines.now }
     {
-        match self.keys.find(host, None) {
+        match self.objects.find(host, None) {
             None => 0,
-            Some(place) => match self.services.get(place) {
-                None => 0,
-                Some(count) => *count,
-            },
+            Some(place) => self.objects.services(place).len(),
         }
     }
 
-    /// The keys of the lines that were added.
-    pub fn into_keys(self) -> Keys
-        ensures { result ≡ self.keys }
+    /// The objects of the lines that were added.
+    pub fn into_objects(self) -> NamedObjects
+        ensures { result ≡ self.objects }
     {
-        self.keys
+        self.objects
     }
 
     /// Adds the line at index `i`, or returns what is wrong with it after the lines before it.
@@ -101,14 +95,14 @@ impl TableBuilder {
         let Some(key) = key_of(lines[i].host.bytes(), None) else {
             return Err(TableFault::BadName(number));
         };
-        if self.keys.place(&key).is_some() {
+        if self.objects.place(&key).is_some() {
             return Err(TableFault::DuplicateHost(number));
         }
         if self.hosts >= HOSTS {
             return Err(TableFault::TooMany(number));
         }
-        match self.add_key(alloc, &key) {
-            Ok(()) => {
+        match self.objects.add(alloc, &key) {
+            Ok(_) => {
                 self.hosts += 1;
                 Ok(())
             }
@@ -132,35 +126,22 @@ impl TableBuilder {
     {
         let number = i as u32 + 1;
         let host = lines[i].host.bytes();
-        let Some(place) = self.keys.find(host, None) else {
+        let Some(place) = self.objects.find(host, None) else {
             return Err(TableFault::NoSuchHost(number));
         };
         let Some(key) = key_of(host, Some(service)) else {
             return Err(TableFault::BadName(number));
         };
-        if self.keys.place(&key).is_some() {
+        if self.objects.place(&key).is_some() {
             return Err(TableFault::DuplicateService(number));
         }
-        let count = self.services[place];
-        if count >= SERVICES_OF_HOST {
+        if self.objects.services(place).len() >= SERVICES_OF_HOST {
             return Err(TableFault::TooMany(number));
         }
-        match self.add_key(alloc, &key) {
-            Ok(()) => {
-                self.services[place] = count + 1;
-                Ok(())
-            }
+        match self.objects.add_service(alloc, place, &key) {
+            Ok(()) => Ok(()),
             Err(_) => Err(TableFault::OutOfMemory),
         }
-    }
-
-    /// Adds a new key, with no services.
-    fn add_key(&mut self, alloc: Global, key: &[u8]) -> Result<(), AllocError>
-        requires { position_from (bytes_eq key.now) 0 self.old.keys ≡ None }
-        ensures { OnOk result (AddsKey self.old self.new key.now) }
-    {
-        self.services.push(0)?;
-        self.keys.add(alloc, key)
     }
 }
 

@@ -1,4 +1,4 @@
-use Rattle.std.proofs.Common.{◌≡◌, List, ℕ, take, ap, sym, ◌∙◌, is_some, None, true}
+use Rattle.std.proofs.Common.{◌≡◌, List, ℕ, take, ap, sym, ◌∙◌, is_some, None, true, refl}
 use Rattle.gate_table.specs.inner.Keys.{key_of, is_short}
 use Rattle.gate_model.specs.Table.{place_of}
 use Rattle.gate_model.specs.declared.object.ObjectLine.{ObjectLine}
@@ -13,9 +13,9 @@ returns-then-is_some c =
     let name = c.bytes.ensures ∙ ap (λ (l : ObjectLine). l.host) (sym c.index-lines-i.is) in
     let key = c.deref.ensures.0 ∙ c.in-Some.ensures.value ∙ ap (λ (h : List ℕ). key_of h None) name in
     let short = ap (λ (h : List ℕ). is_short h None) (sym name) ∙ sym c.in-Some.ensures.short in
-    let place = c.place.ensures ∙ place-key c.args.lines.now c.args.i c.index-lines-i.result c.args.self.now.keys c.args.self.now.hosts c.args.self.now.services.items c.requires.tracks None c.deref.result.now short key in
+    let place = c.place.ensures ∙ place-key c.args.lines.now c.args.i c.index-lines-i.result c.args.self.now c.requires.tracks None c.deref.result.now short key in
     let taken : is_some (place_of (take c.args.i c.args.lines.now) line.host None) ≡ true = sym (ap is_some place) ∙ sym c.is_some.ensures ∙ c.if-is_some.true in
-    duplicate_host c.args.lines.now c.args.i c.index-lines-i.result c.args.self.now.keys c.args.self.now.hosts c.args.self.now.services.items c.requires.tracks is taken
+    duplicate_host c.args.lines.now c.args.i c.index-lines-i.result c.args.self.now c.requires.tracks is taken
 
 pub returns-then-self-ge-HOSTS : goal.returns-then-self-ge-HOSTS
 returns-then-self-ge-HOSTS c =
@@ -24,9 +24,9 @@ returns-then-self-ge-HOSTS c =
     let name = c.bytes.ensures ∙ ap (λ (l : ObjectLine). l.host) (sym c.index-lines-i.is) in
     let key = c.deref.ensures.0 ∙ c.in-Some.ensures.value ∙ ap (λ (h : List ℕ). key_of h None) name in
     let short = ap (λ (h : List ℕ). is_short h None) (sym name) ∙ sym c.in-Some.ensures.short in
-    let place = c.place.ensures ∙ place-key c.args.lines.now c.args.i c.index-lines-i.result c.args.self.now.keys c.args.self.now.hosts c.args.self.now.services.items c.requires.tracks None c.deref.result.now short key in
+    let place = c.place.ensures ∙ place-key c.args.lines.now c.args.i c.index-lines-i.result c.args.self.now c.requires.tracks None c.deref.result.now short key in
     let free : place_of (take c.args.i c.args.lines.now) line.host None ≡ None = none_from_is_some _ (sym (ap is_some place) ∙ sym c.is_some.ensures ∙ c.if-is_some.false) in
-    too_many_hosts c.args.lines.now c.args.i c.index-lines-i.result c.args.self.now.keys c.args.self.now.hosts c.args.self.now.services.items c.requires.tracks is free c.if-self-ge-HOSTS.true
+    too_many_hosts c.args.lines.now c.args.i c.index-lines-i.result c.args.self.now c.requires.tracks is free c.if-self-ge-HOSTS.true
 
 pub returns-in-Ok : goal.returns-in-Ok
 returns-in-Ok c =
@@ -35,12 +35,11 @@ returns-in-Ok c =
     let name = c.bytes.ensures ∙ ap (λ (l : ObjectLine). l.host) (sym c.index-lines-i.is) in
     let key = c.deref.ensures.0 ∙ c.in-Some.ensures.value ∙ ap (λ (h : List ℕ). key_of h None) name in
     let short = ap (λ (h : List ℕ). is_short h None) (sym name) ∙ sym c.in-Some.ensures.short in
-    let place = c.place.ensures ∙ place-key c.args.lines.now c.args.i c.index-lines-i.result c.args.self.now.keys c.args.self.now.hosts c.args.self.now.services.items c.requires.tracks None c.deref.result.now short key in
+    let place = c.place.ensures ∙ place-key c.args.lines.now c.args.i c.index-lines-i.result c.args.self.now c.requires.tracks None c.deref.result.now short key in
     let free : place_of (take c.args.i c.args.lines.now) line.host None ≡ None = none_from_is_some _ (sym (ap is_some place) ∙ sym c.is_some.ensures ∙ c.if-is_some.false) in
-    let adds = c.in-Ok.ensures in
     record {
-      faultless = faultless_host c.args.lines.now c.args.i c.index-lines-i.result c.args.self.now.keys c.args.self.now.hosts c.args.self.now.services.items c.requires.tracks is free c.if-self-ge-HOSTS.false;
-      tracks = rw (adds.keys_are, adds.services_are, adds.hosts_are) (tracks_host c.args.lines.now c.args.i c.index-lines-i.result c.args.self.now.keys c.args.self.now.hosts c.args.self.now.services.items c.requires.tracks c.deref-2.result.now is (c.deref-2.ensures.0 ∙ c.in-Some.ensures.value ∙ ap (λ (h : List ℕ). key_of h None) name));
+      faultless = faultless_host c.args.lines.now c.args.i c.index-lines-i.result c.args.self.now c.requires.tracks is free c.if-self-ge-HOSTS.false;
+      tracks = tracks_host c.args.lines.now c.args.i c.index-lines-i.result c.args.self.now c.requires.tracks c.deref-2.result.now _ is (c.deref-2.ensures.0 ∙ c.in-Some.ensures.value ∙ ap (λ (h : List ℕ). key_of h None) name) c.in-Ok.ensures.added refl;
     }
 
 pub returns-in-Err : goal.returns-in-Err
@@ -50,6 +49,6 @@ returns-in-Err c =
     let name = c.bytes.ensures ∙ ap (λ (l : ObjectLine). l.host) (sym c.index-lines-i.is) in
     let key = c.deref.ensures.0 ∙ c.in-Some.ensures.value ∙ ap (λ (h : List ℕ). key_of h None) name in
     let short = ap (λ (h : List ℕ). is_short h None) (sym name) ∙ sym c.in-Some.ensures.short in
-    let place = c.place.ensures ∙ place-key c.args.lines.now c.args.i c.index-lines-i.result c.args.self.now.keys c.args.self.now.hosts c.args.self.now.services.items c.requires.tracks None c.deref.result.now short key in
+    let place = c.place.ensures ∙ place-key c.args.lines.now c.args.i c.index-lines-i.result c.args.self.now c.requires.tracks None c.deref.result.now short key in
     let free : place_of (take c.args.i c.args.lines.now) line.host None ≡ None = none_from_is_some _ (sym (ap is_some place) ∙ sym c.is_some.ensures ∙ c.if-is_some.false) in
-    faultless_host c.args.lines.now c.args.i c.index-lines-i.result c.args.self.now.keys c.args.self.now.hosts c.args.self.now.services.items c.requires.tracks is free c.if-self-ge-HOSTS.false
+    faultless_host c.args.lines.now c.args.i c.index-lines-i.result c.args.self.now c.requires.tracks is free c.if-self-ge-HOSTS.false

@@ -1,13 +1,18 @@
 use Rattle.std.proofs.Common.{arith, refl, inl}
-use Rattle.gate_table.proofs.Faults.{first_fault, faulty, faultless_next, tracks_all, index_of_all}
-use Rattle.gate_table.proofs.table.keys_of.Goals as goal
+use Rattle.gate_table.proofs.Faults.{first_fault, faulty, faultless_next, faultless_all, tracks_all}
+use Rattle.gate_table.proofs.table.objects_of.Goals as goal
 
 pub returns-in-Err-clause-fault : goal.returns-in-Err-clause-fault
 returns-in-Err-clause-fault c = first_fault c.args.lines.now c.loop-i.i c.in-Err.fault c.add_line.new.self c.if-lines-gt-LINES.false c.loop-i.invariant.1 c.in-Err.ensures
 
-pub returns-clause-index : goal.returns-clause-index
-returns-clause-index c =
-    rw c.into_keys.ensures (index_of_all c.args.lines.now c.loop-i.i c.loop-i.builder c.if-lines-gt-LINES.false (omega arith) c.loop-i.invariant.1 c.loop-i.invariant.0)
+pub returns-clause-table : goal.returns-clause-table
+returns-clause-table c =
+    rw c.into_objects.ensures
+    (record {
+      are_objects = (tracks_all c.args.lines.now c.loop-i.i c.loop-i.builder (omega arith) c.loop-i.invariant.0).are_objects;
+      faultless = faultless_all c.args.lines.now c.loop-i.i c.if-lines-gt-LINES.false (omega arith) c.loop-i.invariant.1;
+      most_is = c.most_services-most.ensures;
+    })
 
 pub returns-then-lines-gt-LINES-clause-fault : goal.returns-then-lines-gt-LINES-clause-fault
 returns-then-lines-gt-LINES-clause-fault c = inl (record { many = c.if-lines-gt-LINES.true; line_0 = refl })
