@@ -9,20 +9,19 @@ use Rattle.gate_model.specs.declared.submission.Body.{Body}
 use Rattle.gate_grammar.specs.declared.parsing.ParsedLine.{ParsedLine}
 use Rattle.gate_grammar.specs.declared.commands.Command.{Command}
 use Rattle.gate_grammar.specs.declared.commands.CommandName.{CommandName}
-use Rattle.gate_grammar.specs.declared.commands.TheConstants.{COMMAND_NAMES}
 use Rattle.gate_grammar.specs.declared.faults.LineFault.{LineFault}
 use Rattle.gate_grammar.specs.declared.faults.LineFault.TheVariants as fault
 use Rattle.gate_grammar.specs.inner.Answers.{Answers, Refuses, answer_of}
 use Rattle.gate_grammar.specs.Arguments.{ArgumentValue, argument_kind}
 use Rattle.gate_grammar.specs.Commands.{command_body}
-use Rattle.gate_grammar.specs.Commands.{text_of, kinds_of, name_of, values_of}
+use Rattle.gate_grammar.specs.Commands.{command_names, text_of, kinds_of, name_of, values_of}
 use Rattle.gate_grammar.specs.Faults.{Begins, IsOnlyCommand}
 use Rattle.gate_grammar.specs.Parsing.{time_before, time_at, name_among, name_at, known, values_at, text_before, text_from, without_blanks, fields_at, parsed_line, fault_in, first_fault}
 use Rattle.gate_grammar.specs.Spelling.{joined, call, timed, IsSplit, SpellEach, Spells, ends_in_blank}
 use Rattle.gate_grammar.proofs.ArgumentLaws.{bind_ok, values_read, values_again, joined_begins}
 use Rattle.gate_grammar.proofs.Cuts.{before_from, from_begins, before_again, from_again, padded, without_blanks_again}
 use Rattle.gate_grammar.proofs.Numerals.{number_facts, none_in_digits, digit_isnt}
-use Rattle.gate_grammar.proofs.Tables.{name_again, text_split, command_again, values_made, name_made}
+use Rattle.gate_grammar.proofs.Tables.{name_again, text_split, command_again, made}
 
 chosen_ok : {A : Type 0} (test : Bool) (read : Result A LineFault) (cause : LineFault) (x : A) → cond test read (Err cause) ≡ Ok x → (test ≡ true) × (read ≡ Ok x)
 chosen_ok true read cause x is = (refl, is)
@@ -90,7 +89,7 @@ known_ok (Some found) name is = cc
 
 pub name_at_read : (text : List ℕ) (name : CommandName) → name_at text ≡ Some name → text_of name ≡ text
 unfolding name_at
-name_at_read text name is = name_read COMMAND_NAMES text name is
+name_at_read text name is = name_read command_names text name is
 
 -- ---- the call
 
@@ -149,9 +148,8 @@ parsed_spells line c is =
     let facts = padded line in
     let trimmed : without_blanks line ≡ facts.front = ap without_blanks facts.whole ∙ without_blanks_again facts.front facts.blanks facts.tight facts.blank in
     let called = fields_read (without_blanks line) c clean.1 in
-    let name = name_made c.name c.arguments in
-    let values = values_made c.name c.arguments called.of_kinds in
-    let front : facts.front ≡ timed called.time (call (text_of (name_of (command_body c.name c.arguments))) called.texts) = sym trimmed ∙ (called.whole ∙ ap (λ (x : CommandName). timed called.time (call (text_of x) called.texts)) (sym name)) in
+    let again = made c.name c.arguments called.of_kinds in
+    let front : facts.front ≡ timed called.time (call (text_of (name_of (command_body c.name c.arguments))) called.texts) = sym trimmed ∙ (called.whole ∙ ap (λ (x : CommandName). timed called.time (call (text_of x) called.texts)) (sym again.same_name)) in
     record {
       short = ltb-false _ _ short.0;
       clean = clean.0;
@@ -161,7 +159,7 @@ parsed_spells line c is =
       whole = facts.whole ∙ ap (λ x. x ++ facts.blanks) front;
       moment = called.moment;
       split = called.split;
-      each = rw values called.each;
+      each = rw again.same_values called.each;
       tight = ap ends_in_blank (sym front) ∙ facts.tight;
       blank = facts.blank;
     }

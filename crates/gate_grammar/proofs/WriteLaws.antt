@@ -16,7 +16,7 @@ use Rattle.gate_grammar.specs.Spelling.{joined, call, timed, IsSplit, SpellEach,
 use Rattle.gate_grammar.specs.Writability.{IsClean, HoldsNoSemicolon, EndsInNoBlank, AreWritable, IsWritable, IsInRange, AreInRange}
 use Rattle.gate_grammar.proofs.Cuts.{ends_append}
 use Rattle.gate_grammar.proofs.Numerals.{number_short, code_short, decimal_digits, number_decimal, code_decimal_plain, code_decimal_minus, none_in_digits, digit_isnt}
-use Rattle.gate_grammar.proofs.Tables.{text_clean, text_tight}
+use Rattle.gate_grammar.proofs.Tables.{named}
 
 -- ---- digits
 
@@ -125,7 +125,7 @@ name_tight text [] tight more = ap (λ x. ends_in_blank (32 ∷ x)) (append-nil 
 name_tight text (byte ∷ rest) tight more = ends_append (32 ∷ text) byte rest ∙ more
 
 pub line_tight : (time : List ℕ) (name : CommandName) (rest : List ℕ) → ends_in_blank rest ≡ false → ends_in_blank (timed time (text_of name ++ rest)) ≡ false
-line_tight time name rest tight = ends_append (91 ∷ time) 93 (32 ∷ (text_of name ++ rest)) ∙ name_tight (text_of name) rest (text_tight name) tight
+line_tight time name rest tight = ends_append (91 ∷ time) 93 (32 ∷ (text_of name ++ rest)) ∙ name_tight (text_of name) rest (named name).tight tight
 
 pub written_spells : (command : Command) → command.entered.0 < 2 ^ 32 → AreInRange command.body → IsWritable command → Spells (canonical_line command) command
 written_spells command small range writable =
@@ -133,7 +133,7 @@ written_spells command small range writable =
     let arguments = are_shown (values_of command.body) range writable.arguments in
     record {
       short = writable.short;
-      clean = none_append is_barred (91 ∷ decimal command.entered.0) (93 ∷ 32 ∷ body_text command.body) (digits_clean command.entered.0 (omega arith)) (none_append is_barred (text_of (name_of command.body)) (joined texts) (text_clean (name_of command.body)) arguments.clean);
+      clean = none_append is_barred (91 ∷ decimal command.entered.0) (93 ∷ 32 ∷ body_text command.body) (digits_clean command.entered.0 (omega arith)) (none_append is_barred (text_of (name_of command.body)) (joined texts) (named (name_of command.body)).clean arguments.clean);
       time = decimal command.entered.0;
       arguments = texts;
       blanks = [];

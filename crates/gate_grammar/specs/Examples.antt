@@ -10,12 +10,12 @@ use Rattle.gate_grammar.specs.declared.commands.Command.{Command}
 use Rattle.gate_grammar.specs.declared.faults.LineFault.TheVariants as fault
 use Rattle.gate_grammar.specs.inner.Answers.{answer_of}
 use Rattle.gate_grammar.specs.Canonical.{canonical_line}
-use Rattle.gate_grammar.specs.Commands.{row_of, text_of, kinds_of, command_body}
+use Rattle.gate_grammar.specs.Commands.{text_of, kinds_of, command_body}
 use Rattle.gate_grammar.specs.Parsing.{parsed_line, fields_at, time_at, name_at, values_at, value_at, first_fault}
 
 -- what an equation on literal lines unfolds
 unfoldable pub on_literals : ⊤
-unfolding digits number_below row_of text_of kinds_of command_body parsed_line fields_at time_at name_at values_at value_at
+unfolding digits number_below text_of kinds_of command_body parsed_line fields_at time_at name_at values_at value_at
 on_literals = tt
 
 -- the command with this body, entered at this moment

@@ -1,6 +1,5 @@
 pub mod Numbers
 pub mod Arguments
-pub mod Bodies
 pub mod Commands
 pub mod Spelling
 pub mod Faults

@@ -38,7 +38,7 @@ impl Default for Argument<'_> {
 }
 
 /// The most arguments of a command.
-pub const ARGUMENTS: usize = 9;
+pub(crate) const ARGUMENTS: usize = 9;
 
 /// The arguments of a command, which contracts see as the list of their values. No memory is taken.
 #[derive(Drop)]
@@ -53,7 +53,7 @@ impl<'a> Model for Arguments<'a> {
 }
 
 impl<'a> Arguments<'a> {
-    pub fn new() -> Self
+    pub(crate) fn new() -> Self
         ensures { result ≡ [] }
     {
         Arguments {
@@ -61,7 +61,7 @@ impl<'a> Arguments<'a> {
         }
     }
 
-    pub fn push(&mut self, argument: Argument<'a>)
+    pub(crate) fn push(&mut self, argument: Argument<'a>)
         requires { length self.old < ARGUMENTS }
         ensures { self.new ≡ self.old ++ value_of argument.entry ∷ [] }
     {
@@ -69,7 +69,7 @@ impl<'a> Arguments<'a> {
     }
 
     /// These arguments and more.
-    pub fn with(mut self, more: &[Argument<'a>]) -> Self
+    pub(crate) fn with(mut self, more: &[Argument<'a>]) -> Self
         requires { length self + length more.now ≤ ARGUMENTS }
         ensures { result ≡ self.entry ++ map value_of more.now }
     {
@@ -89,7 +89,7 @@ impl<'a> Arguments<'a> {
     }
 
     /// These arguments, numbers, and a comment after its author.
-    pub fn with_comment(self, numbers: &[u32], author: &'a Text, text: &'a Text) -> Self
+    pub(crate) fn with_comment(self, numbers: &[u32], author: &'a Text, text: &'a Text) -> Self
         requires { length self + length numbers.now + 2 ≤ ARGUMENTS }
         ensures { result ≡ self.entry ++ map value.Number numbers.now
             ++ value.Text author.now ∷ value.Text text.now ∷ [] }
@@ -119,7 +119,7 @@ impl<'a> Arguments<'a> {
     }
 
     /// The name or text at an index, from 0; nothing where there is none.
-    pub fn text(&self, index: usize) -> &'a [u8]
+    pub(crate) fn text(&self, index: usize) -> &'a [u8]
         ensures { result.now ≡ text_in self.now index }
     {
         match self.get(index) {
@@ -129,7 +129,7 @@ impl<'a> Arguments<'a> {
     }
 
     /// The number at an index, from 0; 0 where there is none.
-    pub fn number(&self, index: usize) -> u32
+    pub(crate) fn number(&self, index: usize) -> u32
         ensures { result ≡ number_in self.now index }
     {
         match self.get(index) {
@@ -139,7 +139,7 @@ impl<'a> Arguments<'a> {
     }
 
     /// The code at an index, from 0; 0 where there is none.
-    pub fn code(&self, index: usize) -> i16
+    pub(crate) fn code(&self, index: usize) -> i16
         ensures { result ≡ code_in self.now index }
     {
         match self.get(index) {

@@ -13,8 +13,9 @@ mod numbers;
 mod parsing;
 mod writability;
 
+pub use arguments::{Argument, Arguments};
 pub use canonical::{push_body, round_trip, write_body, write_line};
-pub use commands::Command;
+pub use commands::{BodyCommand, Command, CommandName, command_of};
 pub use faults::LineFault;
 pub use numbers::{read_code, read_number};
 pub use parsing::read_line;

@@ -12,11 +12,11 @@ ghost use Rattle.gate_grammar.specs.inner.Answers.{ParsesTo, Answers, answer_of}
 
 use crate::arguments::{Argument, ArgumentKind, Arguments};
 use crate::building::body;
-use crate::commands::{COMMAND_NAMES, Command, CommandName};
+use crate::commands::{Command, CommandName, OTHER_COMMANDS, commands_on};
 use crate::faults::LineFault;
 use crate::numbers::{read_code, read_number};
 use bstr::ByteSlice;
-use gate_model::{LINE_LENGTH, Moment};
+use gate_model::{Kind, LINE_LENGTH, Moment};
 use std::alloc::Global;
 
 /// A line's time, command and arguments. The texts still lie in the line.
@@ -119,7 +119,9 @@ fn time_at(line: &[u8]) -> Result<(u32, &[u8]), LineFault>
 fn name_at(text: &[u8]) -> Option<CommandName>
     ensures { result ≡ name_at text.now }
 {
-    name_among(&COMMAND_NAMES, text)
+    name_among(&commands_on(Kind::Host), text)
+        .or(name_among(&commands_on(Kind::Service), text))
+        .or(name_among(&OTHER_COMMANDS, text))
 }
 
 fn name_among(names: &[CommandName], text: &[u8]) -> Option<CommandName>

@@ -1,15 +1,16 @@
 -- What is printed piece by piece.
-use Rattle.std.proofs.Common.{◌≡◌, ℕ, ◌+◌, ◌<◌, List, [], ◌∷◌, ◌++◌, length, map, get_or, drop, None, Result, Ok, Err, refl, sym, ap, ◌∙◌, subst, append-nil, append_assoc}
+use Rattle.std.proofs.Common.{◌≡◌, ℕ, ◌+◌, ◌<◌, List, ◌∷◌, ◌++◌, length, map, get_or, drop, None, Result, Ok, Err, refl, sym, ap, ◌∙◌, subst, append_assoc}
 use Rattle.std.specs.Prelude.{OnOk}
 use Rattle.std.specs.List.{position}
 use Rattle.std.specs.Io.KnownBytes.{Appends}
 use Rattle.std.proofs.lemmas.Grind.{flat_map-append}
-use Rattle.std.proofs.lemmas.List.{map-append, at_drop_more}
+use Rattle.std.proofs.lemmas.List.{at_drop_more}
 use Rattle.gate_model.specs.Escaping.{is_escaped, escaped, escaped_byte}
 use Rattle.gate_model.proofs.EscapeSteps.{rest-escaped}
-use Rattle.gate_grammar.specs.Arguments.{ArgumentValue, Number}
+use Rattle.gate_grammar.specs.declared.arguments.Argument.{Argument}
 use Rattle.gate_grammar.specs.Canonical.{shown}
 use Rattle.gate_grammar.specs.Spelling.{joined}
+use Rattle.gate_grammar.specs.inner.Values.{value_of}
 use Rattle.gate_streams.specs.Source.{Counts, CountsCall}
 use Rattle.gate_streams.specs.Sink.{SinkState, Writes}
 use Rattle.gate_streams.proofs.Calls.{counts_fail}
@@ -43,24 +44,12 @@ last_run done rest whole none same = rest-escaped {E = Unit {0}} (Ok tt) done (d
 pub escaped-append : (xs ys : List ℕ) → escaped (xs ++ ys) ≡ escaped xs ++ escaped ys
 escaped-append xs ys = flat_map-append escaped_byte xs ys
 
--- the fields of two lists
-pub fields-append : (xs ys : List ArgumentValue) → fields_text (xs ++ ys) ≡ fields_text xs ++ fields_text ys
-fields-append xs ys =
-    ap (λ texts. escaped (joined texts)) (map-append shown xs ys)
-    ∙ ap escaped (flat_map-append (λ text. 59 ∷ text) (map shown xs) (map shown ys))
-    ∙ escaped-append (joined (map shown xs)) (joined (map shown ys))
-
--- one field
-pub field-text : (value : ArgumentValue) → escaped (59 ∷ shown value) ≡ fields_text (value ∷ [])
-field-text value = ap escaped (sym (append-nil (59 ∷ shown value)))
-
--- one more number
-pub number-more : (done numbers whole : List ℕ) (index number other : ℕ) → index < length numbers → number ≡ get_or numbers index other
-    → done ++ fields_text (map Number (drop index numbers)) ≡ whole
-    → (done ++ fields_text (Number number ∷ [])) ++ fields_text (map Number (drop (index + 1) numbers)) ≡ whole
-number-more done numbers whole index number other less is same =
-    append_assoc done (fields_text (Number number ∷ [])) (fields_text (map Number (drop (index + 1) numbers)))
-    ∙ ap (λ text. done ++ text) (sym (fields-append (Number number ∷ []) (map Number (drop (index + 1) numbers))))
-    ∙ ap (λ n. done ++ fields_text (Number n ∷ map Number (drop (index + 1) numbers))) is
-    ∙ ap (λ text. done ++ text) (sym (at_drop_more (λ (l : List ℕ). fields_text (map Number l)) numbers index other less))
+-- one more argument
+pub argument-more : (done : List ℕ) (arguments : List Argument) (whole : List ℕ) (index : ℕ) (other : Argument) → index < length arguments
+    → done ++ fields_text (map value_of (drop index arguments)) ≡ whole
+    → (done ++ escaped (59 ∷ shown (value_of (get_or arguments index other)))) ++ fields_text (map value_of (drop (index + 1) arguments)) ≡ whole
+argument-more done arguments whole index other less same =
+    append_assoc done (escaped (59 ∷ shown (value_of (get_or arguments index other)))) (fields_text (map value_of (drop (index + 1) arguments)))
+    ∙ ap (λ text. done ++ text) (sym (escaped-append (59 ∷ shown (value_of (get_or arguments index other))) (joined (map shown (map value_of (drop (index + 1) arguments))))))
+    ∙ ap (λ text. done ++ text) (sym (at_drop_more (λ (l : List Argument). fields_text (map value_of l)) arguments index other less))
     ∙ same

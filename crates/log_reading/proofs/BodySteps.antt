@@ -12,7 +12,7 @@ use Rattle.gate_grammar.specs.declared.commands.CommandName.{CommandName}
 use Rattle.gate_grammar.specs.declared.commands.CommandName.TheVariants as name
 use Rattle.gate_grammar.specs.declared.commands.Command.{Command}
 use Rattle.gate_grammar.specs.Numbers.{code_of}
-use Rattle.gate_grammar.specs.Commands.{text_of, row_of, name_of, values_of}
+use Rattle.gate_grammar.specs.Commands.{text_of, name_of, values_of}
 use Rattle.gate_grammar.specs.Spelling.{holds, joined, Spells}
 use Rattle.gate_grammar.specs.Parsing.{text_before, name_at}
 use Rattle.gate_grammar.specs.Canonical.{shown, body_text, canonical_line}
@@ -57,47 +57,26 @@ same_code one other is = cc
 pub host_text : (host : List ℕ) (code : ℤ) (output : List ℕ)
     → body_text (body.Result host None code output)
     ≡ codes "PROCESS_HOST_CHECK_RESULT" ++ 59 ∷ (host ++ 59 ∷ (signed_decimal code ++ 59 ∷ output))
-unfolding text_of row_of
+unfolding text_of
 host_text host code output =
     ap (λ last. codes "PROCESS_HOST_CHECK_RESULT" ++ 59 ∷ (host ++ 59 ∷ (signed_decimal code ++ 59 ∷ last))) (append-nil output)
 
 pub service_body_text : (host service : List ℕ) (code : ℤ) (output : List ℕ)
     → body_text (body.Result host (Some service) code output)
     ≡ codes "PROCESS_SERVICE_CHECK_RESULT" ++ 59 ∷ (host ++ 59 ∷ (service ++ 59 ∷ (signed_decimal code ++ 59 ∷ output)))
-unfolding text_of row_of
+unfolding text_of
 service_body_text host service code output =
     ap (λ last. codes "PROCESS_SERVICE_CHECK_RESULT" ++ 59 ∷ (host ++ 59 ∷ (service ++ 59 ∷ (signed_decimal code ++ 59 ∷ last)))) (append-nil output)
 
 -- ---- names
 
 abbrev is_result_name : CommandName → Bool
-is_result_name name.ProcessHostCheckResult = true
-is_result_name name.ProcessServiceCheckResult = true
+is_result_name (name.Result _) = true
 is_result_name _ = false
 
 result_named : (one : Body) → is_result_name (name_of one) ≡ is_result one
-result_named (body.Result host None code output) = refl
-result_named (body.Result host (Some service) code output) = refl
-result_named (body.AddComment host None persistent author text) = refl
-result_named (body.AddComment host (Some service) persistent author text) = refl
-result_named (body.DelComment kind.Host id) = refl
-result_named (body.DelComment kind.Service id) = refl
-result_named (body.DelAllComments host None) = refl
-result_named (body.DelAllComments host (Some service)) = refl
-result_named (body.Acknowledge host None sticky notify persistent author text) = refl
-result_named (body.Acknowledge host (Some service) sticky notify persistent author text) = refl
-result_named (body.RemoveAck host None) = refl
-result_named (body.RemoveAck host (Some service)) = refl
-result_named (body.Schedule host None starts ends fixed trigger lasts author text) = refl
-result_named (body.Schedule host (Some service) starts ends fixed trigger lasts author text) = refl
-result_named (body.DelDowntime kind.Host id) = refl
-result_named (body.DelDowntime kind.Service id) = refl
-result_named (body.Passive host None true) = refl
-result_named (body.Passive host None false) = refl
-result_named (body.Passive host (Some service) true) = refl
-result_named (body.Passive host (Some service) false) = refl
-result_named (body.ScheduleServices host starts ends fixed trigger lasts author text) = refl
-result_named body.Shutdown = refl
+result_named (body.Result host service code output) = refl
+result_named _ = refl
 
 -- what stands before the first semicolon of a body's text is its command's name
 name_before : (one : Body) (front rest : List ℕ) → body_text one ≡ front ++ 59 ∷ rest → holds 59 front ≡ false → front ≡ text_of (name_of one)
@@ -121,13 +100,13 @@ no_result one front rest known plain is clean result same =
 
 pub no_host_result : (one : Body) (text front rest : List ℕ) → IsPlainCommand one → text ≡ body_text one → text ≡ front ++ 59 ∷ rest → holds 59 front ≡ false
     → front ≡ codes "PROCESS_HOST_CHECK_RESULT" → ⊥
-unfolding text_of row_of
-no_host_result one text front rest plain is whole clean same = no_result one front rest name.ProcessHostCheckResult plain (sym is ∙ whole) clean refl same
+unfolding text_of
+no_host_result one text front rest plain is whole clean same = no_result one front rest (name.Result kind.Host) plain (sym is ∙ whole) clean refl same
 
 pub no_service_result : (one : Body) (text front rest : List ℕ) → IsPlainCommand one → text ≡ body_text one → text ≡ front ++ 59 ∷ rest → holds 59 front ≡ false
     → front ≡ codes "PROCESS_SERVICE_CHECK_RESULT" → ⊥
-unfolding text_of row_of
-no_service_result one text front rest plain is whole clean same = no_result one front rest name.ProcessServiceCheckResult plain (sym is ∙ whole) clean refl same
+unfolding text_of
+no_service_result one text front rest plain is whole clean same = no_result one front rest (name.Result kind.Service) plain (sym is ∙ whole) clean refl same
 
 -- the two names differ
 unequal : ◌≡◌ {A = ℕ} 72 83 → ⊥

@@ -6,7 +6,7 @@ use Rattle.gate_model.specs.declared.record.Moment.{Moment}
 use Rattle.gate_model.specs.declared.submission.Body.TheVariants.{DelComment}
 use Rattle.gate_packet.specs.Packet.{content}
 use Rattle.gate_grammar.specs.Numbers.{number_below}
-use Rattle.gate_grammar.specs.Commands.{row_of, text_of, kinds_of, command_body}
+use Rattle.gate_grammar.specs.Commands.{text_of, kinds_of, command_body}
 use Rattle.gate_grammar.specs.Parsing.{parsed_line, fields_at, time_at, name_at, values_at, value_at}
 use Rattle.gate_core.specs.Merge.{numbered}
 use Rattle.gate_core.specs.declared.event.Event.TheVariants.{Close}
@@ -53,7 +53,7 @@ shutdown :
       printed = codes "closing\n";
       full = false;
     }
-unfolding digits number_below row_of text_of kinds_of command_body parsed_line fields_at time_at name_at values_at value_at
+unfolding digits number_below text_of kinds_of command_body parsed_line fields_at time_at name_at values_at value_at
 shutdown = refl
 
 -- a line that is queued is recorded by its drain
@@ -68,7 +68,7 @@ recorded_line :
       },
     ) ∷ [])).records
     ≡ record { moment = at; item = numbered 2 1 (DelComment Host 7) } ∷ []
-unfolding digits number_below row_of text_of kinds_of command_body parsed_line fields_at time_at name_at values_at value_at
+unfolding digits number_below text_of kinds_of command_body parsed_line fields_at time_at name_at values_at value_at
 recorded_line = refl
 
 -- without that take the log would have been full with the item left
@@ -76,5 +76,5 @@ full_log :
     (state_after setup
     ((step.Line (codes "[1] DEL_HOST_COMMENT;7"), record { reply = Ok 1; closed = None; takes = [] }) ∷ [])).full
     ≡ true
-unfolding digits number_below row_of text_of kinds_of command_body parsed_line fields_at time_at name_at values_at value_at
+unfolding digits number_below text_of kinds_of command_body parsed_line fields_at time_at name_at values_at value_at
 full_log = refl

@@ -1,5 +1,7 @@
 use Rattle.std.proofs.Common.{refl}
+use Rattle.gate_grammar.specs.Commands.{command_body}
 use Rattle.gate_grammar.proofs.building.acknowledgement.Goals as goal
 
 pub returns : goal.returns
+unfolding command_body
 returns c = rw (c.in_ok-host.ensures.host, c.in_ok-host.ensures.service, c.in_ok-author.ensures.first, c.in_ok-author.ensures.second, c.number.ensures, c.number-2.ensures, c.number-3.ensures, c.names-index.ensures.names) refl
