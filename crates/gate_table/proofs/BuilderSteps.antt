@@ -1,6 +1,6 @@
 -- What a builder keeps of the lines before a line decides that line's fault, and it keeps the same with that line added.
 use Rattle.std.proofs.Common.{◌≡◌, ℕ, ◌+◌, ◌<◌, ◌≤◌, Bool, true, false, cond, not, ◌&&◌, List, [], ◌∷◌, ◌++◌, length, take, map, get_or, set, Option, Some, None, is_some, is_none, refl, sym, ap, subst, ◌∙◌, inl, inr, arith, zero-add, add-zero, add-one, if◌then◌else◌}
-use Rattle.std.specs.Prelude.{IfSome, slice_get, count_by, slice_index, nat_le, nat_lt, ◌==◌}
+use Rattle.std.specs.Prelude.{IfSome, slice_get, count_by, nat_le, nat_lt, ◌==◌}
 use Rattle.std.specs.List.{position_from, list_all, list_any}
 use Rattle.std.specs.Str.{bytes_eq}
 use Rattle.std.specs.Cmp.Lexicographic.{bytes_decides}

@@ -86,7 +86,7 @@ impl NamedObjects {
         ensures keys { OnOk result (keys_of self.new ≡ keys_of self.old ++ key.now ∷ []) }
         ensures services { OnOk result (values_of self.new
             ≡ set (values_of self.old ++ [] ∷ []) host
-                (row_at (values_of self.old) host ++ length self.old ∷ [])) }
+            (row_at (values_of self.old) host ++ length self.old ∷ [])) }
     {
         let place = self.add(alloc, key)?;
         self.services[host].push(place as u32)?;
