@@ -1,5 +1,5 @@
 -- Faults: what a line is refused for is its first fault, by its fields.
-use Rattle.std.proofs.Common.{◌≡◌, ◌≢◌, ℕ, ◌+◌, ◌⊎◌, inl, inr, Bool, true, false, List, [], ◌∷◌, ◌++◌, length, drop, slice_index, ◌==◌, cond, Option, Some, None, IsSome, Result, Ok, Err, IfErr, IsOk, refl, sym, ap, ◌∙◌, subst, arith, append-nil, append_assoc}
+use Rattle.std.proofs.Common.{◌≡◌, ◌≢◌, ℕ, ◌+◌, ◌⊎◌, inl, inr, Bool, true, false, List, [], ◌∷◌, ◌++◌, length, drop, slice_index, ◌==◌, cond, Option, Some, None, IsSome, Result, Ok, Err, IfErr, refl, sym, ap, ◌∙◌, subst, arith, append-nil, append_assoc}
 use Rattle.std.specs.Prelude.{nat_lt}
 use Rattle.std.specs.List.{list_any}
 use Rattle.std.proofs.lemmas.Bool.{ltb-true, ltb-false}
@@ -19,7 +19,7 @@ use Rattle.gate_grammar.specs.Parsing.{◌>>=◌, numeric, time_before, time_at,
 use Rattle.gate_grammar.specs.Spelling.{is_barred, timed, ends_in_blank}
 use Rattle.gate_grammar.proofs.ArgumentLaws.{IsRead, value_read}
 use Rattle.gate_grammar.proofs.Cuts.{before_from, before_clean, from_begins, before_again, padded, without_blanks_again}
-use Rattle.gate_grammar.proofs.ReadLaws.{known_ok, time_read, time_again, name_at_read, command_of, parsed_spells}
+use Rattle.gate_grammar.proofs.ReadLaws.{known_ok, time_read, time_again, name_at_read, command_of, answer_spells}
 use Rattle.gate_grammar.proofs.Tables.{name_again, text_split}
 
 -- where two steps end with a fault, it is the first's or the second's
@@ -245,16 +245,12 @@ parsed_wrong line cause is = elim (refused_err (nat_lt 8192 (length line)) (cond
 
 -- ---- answers
 
-answer_read : (read : Result ParsedLine LineFault) → IsOk (read >>= λ c. Ok (command_of c)) → (c : ParsedLine) × (read ≡ Ok c)
-answer_read (Ok c) is = (c, refl)
-answer_read (Err cause) is = cc
-
 answer_err : (read : Result ParsedLine LineFault) (cause : LineFault) → (read >>= λ c. Ok (command_of c)) ≡ Err cause → read ≡ Err cause
 answer_err (Ok c) cause is = cc
 answer_err (Err one) cause is = cc
 
 is_refusal : (line : List ℕ) (cause : LineFault) → Refuses cause (answer_of line) → IsRefusal line cause
-is_refusal line fault.OutOfMemory refuses = let read = answer_read (parsed_line line) refuses in (command_of read.0, parsed_spells line read.0 read.1)
+is_refusal line fault.OutOfMemory refuses = (refuses.0, answer_spells (Ok refuses.0) line refuses.1, refuses.2)
 is_refusal line fault.TooLong refuses = parsed_wrong line fault.TooLong (answer_err (parsed_line line) _ refuses)
 is_refusal line fault.BadByte refuses = parsed_wrong line fault.BadByte (answer_err (parsed_line line) _ refuses)
 is_refusal line fault.NoTime refuses = parsed_wrong line fault.NoTime (answer_err (parsed_line line) _ refuses)

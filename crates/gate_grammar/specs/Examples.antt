@@ -1,16 +1,18 @@
 -- Worked lines: what they are read to, their canonical lines, their first faults. Each holds by computing the
 -- definitions.
-use Rattle.std.specs.Prelude.{◌≡◌, ⊤, ℕ, [], ◌++◌, Some, None, Ok, pos, codes, refl, replicate}
+use Rattle.std.specs.Prelude.{◌≡◌, ⊤, ℕ, [], ◌∷◌, ◌++◌, not, Some, None, Ok, pos, codes, refl, replicate}
 use Rattle.std.specs.Fmt.{digits}
+use Rattle.std.specs.List.{filter}
 use Rattle.gate_grammar.specs.Numbers.{number_below}
-use Rattle.gate_model.specs.declared.object.Kind.TheVariants.{Service}
+use Rattle.gate_model.specs.declared.object.Kind.TheVariants.{Host, Service}
 use Rattle.gate_model.specs.declared.submission.Body.{Body}
 use Rattle.gate_model.specs.declared.submission.Body.TheVariants as body
 use Rattle.gate_grammar.specs.declared.commands.Command.{Command}
+use Rattle.gate_grammar.specs.declared.commands.CommandName.TheVariants as name
 use Rattle.gate_grammar.specs.declared.faults.LineFault.TheVariants as fault
 use Rattle.gate_grammar.specs.inner.Answers.{answer_of}
 use Rattle.gate_grammar.specs.Canonical.{canonical_line}
-use Rattle.gate_grammar.specs.Commands.{text_of, kinds_of, command_body}
+use Rattle.gate_grammar.specs.Commands.{command_names, text_of, kinds_of, takes_memory, command_body}
 use Rattle.gate_grammar.specs.Parsing.{parsed_line, fields_at, time_at, name_at, values_at, value_at, first_fault}
 
 -- what an equation on literal lines unfolds
@@ -24,6 +26,14 @@ entered_at moment body = record { entered = record { 0 = moment }; body = body }
 
 abbrev pub remark : Command
 remark = entered_at 1000 (body.AddComment (codes "web1") (Some (codes "HTTP")) 1 (codes "ann") (codes "a;b;c"))
+
+-- all commands but these take memory
+taking_no_memory :
+    filter (λ name. not (takes_memory name)) command_names
+    ≡ name.DelComment Host ∷ name.DelDowntime Host ∷ name.DelComment Service ∷ name.DelDowntime Service
+    ∷ name.Shutdown ∷ []
+unfolding on_literals
+taking_no_memory = refl
 
 -- ---- read and written
 

@@ -1,6 +1,6 @@
 -- Why a line spells no command, by its fields. Own rules: the faults and their order. Each fault of a line supposes
 -- that those before it don't apply; arguments are read from the left. `HasFault` is the main definition.
-use Rattle.std.specs.Prelude.{◌≡◌, ◌≢◌, ℕ, ◌+◌, ◌<◌, ◌≤◌, List, [], ◌∷◌, ◌++◌, length, map, true, false, IsSome, Result, MatchResult}
+use Rattle.std.specs.Prelude.{◌≡◌, ◌≢◌, ℕ, ◌+◌, ◌<◌, ◌≤◌, List, [], ◌∷◌, ◌++◌, length, map, true, false, IsSome, IsTrue, Result, MatchResult}
 use Rattle.std.specs.List.{list_any, list_all}
 use Rattle.gate_grammar.specs.Numbers.{number_of}
 use Rattle.gate_grammar.specs.declared.arguments.ArgumentKind.{ArgumentKind}
@@ -10,7 +10,7 @@ use Rattle.gate_grammar.specs.declared.commands.CommandName.{CommandName}
 use Rattle.gate_grammar.specs.declared.faults.LineFault.{LineFault}
 use Rattle.gate_grammar.specs.declared.faults.LineFault.TheVariants as fault
 use Rattle.gate_grammar.specs.Arguments.{ArgumentValue, argument_kind}
-use Rattle.gate_grammar.specs.Commands.{text_of, kinds_of}
+use Rattle.gate_grammar.specs.Commands.{text_of, kinds_of, takes_memory, name_of}
 use Rattle.gate_grammar.specs.Spelling.{Spells, SpellsValue, SpellEach, is_barred, is_blank, ends_in_blank, holds, joined, timed}
 
 -- nothing, or this byte and more
@@ -120,9 +120,13 @@ HasFault line fault.NoTime = IsPlain line × ((rest : List ℕ) → IsTimed line
 HasFault line fault.UnknownCommand = (rest : List ℕ) × IsTimed line rest × CallsNothing rest
 HasFault line cause = IsFaultyCall line cause
 
--- the line is refused for this cause: out of memory only where it spells a command, any other as its first fault
+-- the line spells a command that takes memory
+abbrev pub TakesMemory : List ℕ → Type 0
+TakesMemory line = (command : Command) × Spells line command × IsTrue (takes_memory (name_of command.body))
+
+-- the line is refused for this cause: out of memory only where its command takes memory, any other as its first fault
 abbrev pub IsRefusal : List ℕ → LineFault → Type 0
-IsRefusal line fault.OutOfMemory = (command : Command) × Spells line command
+IsRefusal line fault.OutOfMemory = TakesMemory line
 IsRefusal line cause = HasFault line cause
 
 -- the answer is the only command that the line spells, or out of memory

@@ -21,7 +21,8 @@ pub enum LineFault {
     EmptyName(u32),
     /// This argument isn't a number, or out of its range.
     BadNumber(u32),
-    /// No memory is left. It is reported only of a line without a fault.
+    /// No memory is left. It is reported only of a line without a fault, whose command has a name
+    /// or a text.
     OutOfMemory,
 }
 

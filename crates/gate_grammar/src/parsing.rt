@@ -30,7 +30,8 @@ pub struct ParsedLine<'a> {
 /// Reads a command line, without its LF, as the one command that it spells.
 ///
 /// The error is the line's first fault, in the order of `LineFault`. `OutOfMemory` comes only where
-/// the line has no fault: then its texts could not be copied.
+/// the line has no fault and its command takes memory: a name or a text could not be copied. So a
+/// SHUTDOWN_PROGRAM is read also where no memory is left.
 ///
 /// Nagios Core 4 manual, External Commands; External Command List. The faults are an own rule.
 pub fn read_line(alloc: Global, line: &[u8]) -> Result<Command, LineFault>
@@ -41,7 +42,8 @@ pub fn read_line(alloc: Global, line: &[u8]) -> Result<Command, LineFault>
     // What is spelled is read: a line spells one command at most.
     ensures only { IsOnlyCommand line.now result }
 
-    // The first fault, by the fields of the line, and none where the line has none.
+    // The first fault, by the fields of the line, and none where the line has none. Memory can run
+    // out only where the command takes some.
     ensures refused { IfErr result (λ cause. IsRefusal line.now cause) }
     ensures fault { line_fault_in result ≡ first_fault line.now }
 {

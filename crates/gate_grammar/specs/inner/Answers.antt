@@ -1,11 +1,11 @@
 -- Only proofs and private functions use this file: what `read_line` and its steps answer, each as one function of the
 -- line.
-use Rattle.std.specs.Prelude.{◌≡◌, ℕ, List, Result, Ok, Err, IsOk}
+use Rattle.std.specs.Prelude.{◌≡◌, ℕ, List, Result, Ok, Err, IsTrue}
 use Rattle.gate_grammar.specs.declared.commands.Command.{Command}
 use Rattle.gate_grammar.specs.declared.faults.LineFault.{LineFault}
 use Rattle.gate_grammar.specs.declared.faults.LineFault.TheVariants as fault
 use Rattle.gate_grammar.specs.Parsing.{◌>>=◌, parsed_line}
-use Rattle.gate_grammar.specs.Commands.{command_body}
+use Rattle.gate_grammar.specs.Commands.{command_body, takes_memory, name_of}
 
 -- every fault but out of memory
 abbrev pub IsOfLine : LineFault → Type 0
@@ -23,9 +23,10 @@ answer_of line = do
   parsed ← parsed_line line
   Ok (record { entered = parsed.entered; body = command_body parsed.name parsed.arguments })
 
--- out of memory comes only where the line would have been read
+-- out of memory comes only where the line would have been read as a command that takes memory
 abbrev pub Refuses : LineFault → Result Command LineFault → Type 0
-Refuses fault.OutOfMemory wanted = IsOk wanted
+Refuses fault.OutOfMemory wanted =
+    (command : Command) × (wanted ≡ Ok command) × IsTrue (takes_memory (name_of command.body))
 Refuses fault wanted = wanted ≡ Err fault
 
 -- the answer is the wanted one, or out of memory in place of a command
