@@ -6,5 +6,6 @@ pub mod Record
 pub mod Status
 pub mod Comments
 pub mod Downtime
+pub mod Act
 pub mod Meaning
 pub mod Search

@@ -2,6 +2,7 @@
 //! records with their moments and outcomes; and what a list of records means.
 #![tactic(auto)]
 
+mod act;
 mod comments;
 mod downtime;
 mod limits;
@@ -15,6 +16,7 @@ mod submission;
 mod text;
 mod writing;
 
+pub use act::{Act, Deed, Name, Span};
 pub use comments::{Comment, CommentEvent, Source};
 pub use downtime::{DowntimeEvent, Entry, Plan, Scheduled};
 pub use limits::{
