@@ -1,6 +1,7 @@
 pub mod Lists
 pub mod EscapeSteps
 mod Rows
+mod ActMeaning
 mod MeaningExamples
 mod ServiceExamples
 pub mod ObjectSteps
