@@ -1,7 +1,7 @@
 pub mod Lists
 pub mod EscapeSteps
 mod Rows
-mod ActMeaning
+mod OldMeaning
 mod MeaningExamples
 mod ServiceExamples
 pub mod ObjectSteps

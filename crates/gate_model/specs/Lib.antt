@@ -8,5 +8,5 @@ pub mod Comments
 pub mod Downtime
 pub mod Act
 pub mod Meaning
-pub mod ActMeaning
+pub mod OldMeaning
 pub mod Search

@@ -1,9 +1,11 @@
--- What a list of records means doesn't change where bodies are read as acts: for every body, the tables of acts say what
--- those of bodies say.
-use Rattle.std.proofs.Common.{◌≡◌, ℕ, false, List, [], refl}
-use Rattle.std.specs.Prelude.{Option, Some, None, option_map, unwrap_or}
+-- What a list of records means is what it was by tables over all bodies: for every body the tables of acts say the
+-- same, so each list of records is judged as before, and leaves the same events.
+use Rattle.std.proofs.Common.{◌≡◌, ℕ, false, List, [], ◌∷◌, refl, ap, ◌∙◌}
+use Rattle.std.specs.Prelude.{Option, Some, None, option_map, unwrap_or, filter}
 use Rattle.std.specs.Option.{option_to_list, option_and_then}
 use Rattle.gate_model.specs.declared.record.Moment.{Moment}
+use Rattle.gate_model.specs.declared.record.Outcome.{Outcome}
+use Rattle.gate_model.specs.declared.record.Outcome.TheVariants.{NoSuchComment}
 use Rattle.gate_model.specs.declared.object.Kind.{Kind}
 use Rattle.gate_model.specs.declared.object.ObjectId.{ObjectId}
 use Rattle.gate_model.specs.declared.object.ObjectLine.{ObjectLine}
@@ -12,15 +14,20 @@ use Rattle.gate_model.specs.declared.submission.Body.TheVariants as bodies
 use Rattle.gate_model.specs.declared.act.Deed.TheVariants as deeds
 use Rattle.gate_model.specs.declared.status.ObjectEvent.{ObjectEvent}
 use Rattle.gate_model.specs.declared.status.ObjectEvent.TheVariants as object
+use Rattle.gate_model.specs.declared.downtime.DowntimeEvent.{DowntimeEvent}
 use Rattle.gate_model.specs.declared.downtime.DowntimeEvent.TheVariants as downtime
 use Rattle.gate_model.specs.declared.comments.Source.TheVariants.{User, Ack, Downtime}
+use Rattle.gate_model.specs.declared.comments.Comment.{Comment}
+use Rattle.gate_model.specs.declared.comments.CommentEvent.{CommentEvent}
 use Rattle.gate_model.specs.declared.comments.CommentEvent.TheVariants as comment
 use Rattle.gate_model.specs.Table.{place_of, object_at, object_kind}
 use Rattle.gate_model.specs.State.{state_of_code}
+use Rattle.gate_model.specs.Comments.{comments_of}
+use Rattle.gate_model.specs.Downtime.{is_live}
 use Rattle.gate_model.specs.Act.{act_of, is_persistent, is_sticky, span_of}
-use Rattle.gate_model.specs.Meaning as old
-use Rattle.gate_model.specs.Meaning.{Judged, transition_by, clearing_by}
-use Rattle.gate_model.specs.ActMeaning.{object_event_of, object_event_of_deed, plan_of, downtime_events_of, downtime_events_of_deed, comment_events_of, comment_events_of_deed, outcome_at}
+use Rattle.gate_model.specs.OldMeaning as old
+use Rattle.gate_model.specs.declared.record.Record.{Record}
+use Rattle.gate_model.specs.Meaning.{Judged, transition_by, clearing_by, object_event_of, object_event_of_deed, object_events, plan_of, downtime_events_of, downtime_events_of_deed, downtime_events, comment_events_of, comment_events_of_deed, comment_events, next_entry, outlives, object_of_comment, outcome_of_id, outcome_at, judged}
 
 -- what two tables say of the object at a place, if there is one
 at_place : {A : Type 0} (kind : Kind) (one : Option ℕ → A) (other : Option ObjectId → A)
@@ -130,8 +137,53 @@ comment_events-is table before entry moment log_index (bodies.DelDowntime kind i
 comment_events-is table before entry moment log_index (bodies.ScheduleServices host starts ends fixed trigger lasts author text) = refl
 comment_events-is table before entry moment log_index bodies.Shutdown = refl
 
--- the outcome
+-- ---- lists of records
+
+-- what happened to the objects
+pub object_events-are : (table : List ObjectLine) (judgements : List Judged) → old.object_events table judgements ≡ object_events table judgements
+object_events-are table [] = refl
+object_events-are table (one ∷ before) =
+    rw (object_event-is table one.applied.moment one.log_index one.applied.item.body, object_events-are table before) refl
+
+-- to the downtime entries
+pub downtime_events-are : (table : List ObjectLine) (judgements : List Judged) → old.downtime_events table judgements ≡ downtime_events table judgements
+downtime_events-are table [] = refl
+downtime_events-are table (one ∷ before) =
+    rw (object_events-are table before, downtime_events-is table (object_events table before) one.applied.moment one.log_index one.applied.item.body, downtime_events-are table before)
+    refl
+
+-- and to the comments
+pub comment_events-are : (table : List ObjectLine) (judgements : List Judged) → old.comment_events table judgements ≡ comment_events table judgements
+comment_events-are table [] = refl
+comment_events-are table (one ∷ before) =
+    rw (
+      object_events-are table before,
+      downtime_events-are table before,
+      comment_events-is table (object_events table before) (next_entry table before) one.applied.moment one.log_index one.applied.item.body,
+      comment_events-are table before,
+    ) refl
+
+-- the outcome of a deletion of a comment, after these events
+abbrev without_ended : List ObjectLine → List Judged → Moment → Kind → ℕ → List DowntimeEvent → List CommentEvent → Outcome
+without_ended table before moment kind id downtimes comments =
+    outcome_of_id kind NoSuchComment
+    (object_of_comment id (filter (λ (one : Comment). outlives (is_live 1 downtimes moment) one.source) (comments_of 1 comments)))
+
+-- the outcome of each body
 pub outcome-is : (table : List ObjectLine) (before : List Judged) (moment : Moment) (given : Body)
     → old.outcome_at table before moment given ≡ outcome_at table before moment (act_of given)
-outcome-is table before moment bodies.Shutdown = refl
+outcome-is table before moment (bodies.Result host service code output) = rw (object_events-are table before) refl
+outcome-is table before moment (bodies.Acknowledge host service sticky notify persistent author text) = rw (object_events-are table before) refl
+outcome-is table before moment (bodies.RemoveAck host service) = rw (object_events-are table before) refl
+outcome-is table before moment (bodies.DelComment kind id) =
+    ap (λ (events : List CommentEvent). without_ended table before moment kind id (old.downtime_events table before) events) (comment_events-are table before)
+    ∙ ap (λ (events : List DowntimeEvent). without_ended table before moment kind id events (comment_events table before)) (downtime_events-are table before)
+outcome-is table before moment (bodies.DelDowntime kind id) = rw (downtime_events-are table before) refl
+outcome-is table before moment (bodies.Schedule host service starts ends fixed trigger lasts author text) = rw (downtime_events-are table before) refl
+outcome-is table before moment (bodies.ScheduleServices host starts ends fixed trigger lasts author text) = rw (downtime_events-are table before) refl
 outcome-is table before moment given = refl
+
+-- each list of records is judged as before
+pub judged-is : (table : List ObjectLine) (records : List Record) → old.judged table records ≡ judged table records
+judged-is table [] = refl
+judged-is table (applied ∷ before) = rw (judged-is table before, outcome-is table (judged table before) applied.moment applied.item.body) refl
