@@ -1,7 +1,6 @@
 pub mod Lists
 pub mod EscapeSteps
 mod Rows
-mod OldMeaning
 mod MeaningExamples
 mod ServiceExamples
 pub mod ObjectSteps

@@ -8,5 +8,4 @@ pub mod Comments
 pub mod Downtime
 pub mod Act
 pub mod Meaning
-pub mod OldMeaning
 pub mod Search
