@@ -24,7 +24,8 @@ impl<'a> Model for Name<'a> {
 }
 
 impl<'a> Name<'a> {
-    fn of(text: &'a Text) -> Name<'a>
+    /// The name that a text is.
+    pub fn of(text: &'a Text) -> Name<'a>
         ensures { result ≡ text.now }
     {
         Name { text }

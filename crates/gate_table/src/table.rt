@@ -15,7 +15,7 @@ ghost use Rattle.gate_model.specs.declared.object.ObjectLine.{ObjectLine};
 use crate::named_objects::NamedObjects;
 use crate::services::Services;
 use crate::table_builder::TableBuilder;
-use gate_model::{Kind, LINES, ObjectId, ObjectLine, Outcome, Text};
+use gate_model::{Kind, LINES, Name, ObjectId, ObjectLine, Outcome};
 use std::alloc::Global;
 use std::error::Error;
 use std::fmt;
@@ -245,24 +245,24 @@ impl ObjectTable {
     }
 }
 
-/// Finds the object of these names, for a body that names it.
+/// Finds the object of these names, for an act on it.
 ///
 /// It is refused as `NoSuchHost` if no host of that name is in the table, and else as
 /// `NoSuchService` if the host has no service of that name.
 pub fn find_object(
     table: &ObjectTable,
-    host: &Text,
-    service: &Option<Text>,
+    host: Name<'_>,
+    service: Option<Name<'_>>,
 ) -> Result<ObjectId, Outcome>
     ensures place { IfOk result (λ object.
-        place_of table.now host.now service.now ≡ Some object.place) }
-    ensures kind { IfOk result (λ object. object.kind ≡ object_kind service.now) }
+        place_of table.now host.entry service.entry ≡ Some object.place) }
+    ensures kind { IfOk result (λ object. object.kind ≡ object_kind service.entry) }
     ensures within { IfOk result (λ object. object.place < length table.now) }
 
-    // Whatever is then judged of the object, this is the outcome of a body that names it.
+    // Whatever is then judged of the object, this is the outcome of an act on it.
     ensures outcome { (judge : ℕ → Outcome) → MatchResult result
-        (λ object. outcome_for table.now host.now service.now judge ≡ judge object.place)
-        (λ refusal. outcome_for table.now host.now service.now judge ≡ refusal) }
+        (λ object. outcome_for table.now host.entry service.entry judge ≡ judge object.place)
+        (λ refusal. outcome_for table.now host.entry service.entry judge ≡ refusal) }
     ensures refused { IfErr result (λ refusal. is_accepted refusal ≡ false) }
 {
     match service {
