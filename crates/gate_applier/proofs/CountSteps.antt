@@ -1,6 +1,6 @@
 -- Each record makes 1,024 comments and downtime entries at most, and a new row has the threshold of its line.
 use Rattle.std.proofs.Common.{◌≡◌, ℕ, zero, suc, ◌+◌, ◌*◌, ◌/◌, ◌≤◌, ◌<◌, ◌∙◌, inl, inr, Bool, true, false, cond, List, [], ◌∷◌, ◌++◌, length, map, Option, Some, None, refl, sym, subst, ap, arith}
-use Rattle.std.specs.Prelude.{All, slice_get, option_map}
+use Rattle.std.specs.Prelude.{All, slice_get, option_map, unwrap_or}
 use Rattle.std.specs.List.{enumerate_from}
 use Rattle.std.specs.Option.{option_to_list}
 use Rattle.std.proofs.lemmas.Bool.{cases_lt}
@@ -15,16 +15,17 @@ use Rattle.gate_model.specs.declared.downtime.DowntimeEvent.{DowntimeEvent}
 use Rattle.gate_model.specs.declared.downtime.DowntimeEvent.TheVariants as downtime
 use Rattle.gate_model.specs.Comments.{number_made, is_addition}
 use Rattle.gate_model.specs.Downtime.{scheduled_in}
-use Rattle.gate_model.specs.Meaning.{Judged, object_event_of, object_events, addition_for, addition_of_entry, is_persistent, clearing_by, transition_by, plan_of, next_entry, comment_events_of_body, comment_events_of_record, comment_events, downtime_events_of_body, downtime_events_of_record, downtime_events}
-use Rattle.gate_model.specs.Table.{place_of, object_at, object_of, services_of, most_services}
+use Rattle.gate_model.specs.Meaning.{Judged, object_event_of_deed, object_events, addition_of_entry, clearing_by, transition_by, plan_of, next_entry, comment_events_of_deed, comment_events_of, comment_events_of_record, comment_events, downtime_events_of_deed, downtime_events_of, downtime_events_of_record, downtime_events}
+use Rattle.gate_model.specs.Table.{object_at, object_of, services_of, most_services}
 use Rattle.gate_model.specs.declared.object.Kind.TheVariants.{Host}
 use Rattle.gate_model.specs.Record.{is_accepted}
 use Rattle.gate_model.specs.declared.object.ObjectId.{ObjectId}
-use Rattle.gate_model.specs.declared.submission.Body.{Body}
-use Rattle.gate_model.specs.declared.submission.Body.TheVariants as bodies
+use Rattle.gate_model.specs.declared.act.Deed.{Deed}
+use Rattle.gate_model.specs.declared.act.Deed.TheVariants as deeds
+use Rattle.gate_model.specs.declared.act.Act.{Act}
+use Rattle.gate_model.specs.declared.act.Act.TheVariants as acts
+use Rattle.gate_model.specs.Act.{act_of}
 use Rattle.gate_model.specs.declared.status.ObjectEvent.{ObjectEvent}
-use Rattle.gate_model.specs.declared.comments.CommentEvent.TheVariants as comment
-use Rattle.gate_model.specs.declared.comments.Source.TheVariants.{User, Ack, Downtime}
 use Rattle.gate_table.proofs.ServiceSteps.{services-few, services-within}
 use Rattle.gate_objects.specs.Book.{new_statuses, threshold_of_status}
 use Rattle.gate_model.specs.declared.record.Moment.{Moment}
@@ -54,25 +55,27 @@ length-accepted : {X : Type 0} (accepted : Bool) (events : List X) (most : ℕ) 
 length-accepted true events most le = le
 length-accepted false events most le = omega arith
 
--- a body makes one comment at most, or one for each service of a host
-comments-of-body : (table : List ObjectLine) (before : List ObjectEvent) (entry : ℕ) (moment : Moment) (log_index : ℕ) (body : Body) → most_services table ≤ 1024
-    → length (comment_events_of_body table before entry moment log_index body) ≤ 1024
-comments-of-body table before entry moment log_index (bodies.Result host service code output) few =
-    omega (arith, length-option (clearing_by before (object_event_of table moment log_index (bodies.Result host service code output))))
-comments-of-body table before entry moment log_index (bodies.AddComment host service persistent author text) few =
-    omega (arith, length-option (addition_for table host service User (is_persistent persistent) log_index))
-comments-of-body table before entry moment log_index (bodies.DelComment kind id) few = omega arith
-comments-of-body table before entry moment log_index (bodies.DelAllComments host service) few =
-    omega (arith, length-option (option_map (λ place. comment.DeleteAll place) (place_of table host service)))
-comments-of-body table before entry moment log_index (bodies.Acknowledge host service sticky notify persistent author text) few =
-    omega (arith, length-option (addition_for table host service Ack (is_persistent persistent) log_index))
-comments-of-body table before entry moment log_index (bodies.RemoveAck host service) few =
-    omega (arith, length-option (clearing_by before (object_event_of table moment log_index (bodies.RemoveAck host service))))
-comments-of-body table before entry moment log_index (bodies.Schedule host service starts ends fixed trigger lasts author text) few =
-    omega (arith, length-option (addition_for table host service (Downtime entry) false log_index))
-comments-of-body table before entry moment log_index (bodies.DelDowntime kind id) few = omega arith
-comments-of-body table before entry moment log_index (bodies.Passive host service on) few = omega arith
-comments-of-body table before entry moment log_index (bodies.ScheduleServices host starts ends fixed trigger lasts author text) few =
+-- at most one, where an object may be found
+one-found : {X : Type 0} (of : ObjectId → List X) → ((found : ObjectId) → length (of found) ≤ 1) → (found : Option ObjectId) → length (unwrap_or (option_map of found) []) ≤ 1
+one-found of one None = omega arith
+one-found of one (Some found) = one found
+
+comments-of-deed : (before : List ObjectEvent) (entry : ℕ) (moment : Moment) (log_index : ℕ) (deed : Deed) (found : ObjectId) → length (comment_events_of_deed before entry moment log_index deed found) ≤ 1
+comments-of-deed before entry moment log_index (deeds.AddComment persistent) found = omega arith
+comments-of-deed before entry moment log_index (deeds.Acknowledge sticky persistent) found = omega arith
+comments-of-deed before entry moment log_index (deeds.Schedule span) found = omega arith
+comments-of-deed before entry moment log_index deeds.DelAllComments found = omega arith
+comments-of-deed before entry moment log_index deed found = length-option (clearing_by before (object_event_of_deed moment log_index deed found))
+
+-- an act makes one comment at most, or one for each service of a host
+comments-of-act : (table : List ObjectLine) (before : List ObjectEvent) (entry : ℕ) (moment : Moment) (log_index : ℕ) (act : Act) → most_services table ≤ 1024
+    → length (comment_events_of table before entry moment log_index act) ≤ 1024
+comments-of-act table before entry moment log_index (acts.On host service deed) few =
+    omega (
+      arith,
+      one-found (comment_events_of_deed before entry moment log_index deed) (comments-of-deed before entry moment log_index deed) (object_of table host service),
+    )
+comments-of-act table before entry moment log_index (acts.ScheduleServices host span) few =
     let services = services_of table host in
     omega (
       arith,
@@ -82,7 +85,7 @@ comments-of-body table before entry moment log_index (bodies.ScheduleServices ho
       services-few table host,
       few,
     )
-comments-of-body table before entry moment log_index bodies.Shutdown few = omega arith
+comments-of-act table before entry moment log_index act few = omega arith
 
 -- so many comments were made at most
 pub made-few : (table : List ObjectLine) (judgements : List Judged) → most_services table ≤ 1024 → number_made (comment_events table judgements) ≤ 1024 * length judgements
@@ -92,8 +95,8 @@ made-few table (judgement ∷ before) few =
       arith,
       made-append (comment_events_of_record table before judgement) (comment_events table before),
       length-accepted (is_accepted judgement.outcome)
-          (comment_events_of_body table (object_events table before) (next_entry table before) judgement.applied.moment judgement.log_index judgement.applied.item.body) 1024
-          (comments-of-body table (object_events table before) (next_entry table before) judgement.applied.moment judgement.log_index judgement.applied.item.body few),
+          (comment_events_of table (object_events table before) (next_entry table before) judgement.applied.moment judgement.log_index (act_of judgement.applied.item.body)) 1024
+          (comments-of-act table (object_events table before) (next_entry table before) judgement.applied.moment judgement.log_index (act_of judgement.applied.item.body) few),
       made-few table before few,
     )
 
@@ -103,25 +106,20 @@ scheduled-append (downtime.Schedule moment object plan ∷ more) history = omega
 scheduled-append (downtime.Delete moment id ∷ more) history = omega (arith, scheduled-append more history)
 scheduled-append (downtime.Transition moment place ∷ more) history = omega (arith, scheduled-append more history)
 
--- nor does a body make more entries
-entries-of-body : (table : List ObjectLine) (before : List ObjectEvent) (moment : Moment) (log_index : ℕ) (body : Body) → most_services table ≤ 1024
-    → length (downtime_events_of_body table before moment log_index body) ≤ 1024
-entries-of-body table before moment log_index (bodies.Result host service code output) few =
-    omega (arith, length-option (transition_by before (object_event_of table moment log_index (bodies.Result host service code output))))
-entries-of-body table before moment log_index (bodies.AddComment host service persistent author text) few = omega arith
-entries-of-body table before moment log_index (bodies.DelComment kind id) few = omega arith
-entries-of-body table before moment log_index (bodies.DelAllComments host service) few = omega arith
-entries-of-body table before moment log_index (bodies.Acknowledge host service sticky notify persistent author text) few = omega arith
-entries-of-body table before moment log_index (bodies.RemoveAck host service) few = omega arith
-entries-of-body table before moment log_index (bodies.Schedule host service starts ends fixed trigger lasts author text) few =
-    omega (arith, length-option (option_map (λ found. downtime.Schedule moment found (plan_of starts ends fixed trigger lasts log_index)) (object_of table host service)))
-entries-of-body table before moment log_index (bodies.DelDowntime kind id) few = omega arith
-entries-of-body table before moment log_index (bodies.Passive host service on) few = omega arith
-entries-of-body table before moment log_index (bodies.ScheduleServices host starts ends fixed trigger lasts author text) few =
+entries-of-deed : (before : List ObjectEvent) (moment : Moment) (log_index : ℕ) (deed : Deed) (found : ObjectId) → length (downtime_events_of_deed before moment log_index deed found) ≤ 1
+entries-of-deed before moment log_index (deeds.Schedule span) found = omega arith
+entries-of-deed before moment log_index deed found = length-option (transition_by before (object_event_of_deed moment log_index deed found))
+
+-- nor does an act make more entries
+entries-of-act : (table : List ObjectLine) (before : List ObjectEvent) (moment : Moment) (log_index : ℕ) (act : Act) → most_services table ≤ 1024
+    → length (downtime_events_of table before moment log_index act) ≤ 1024
+entries-of-act table before moment log_index (acts.On host service deed) few =
+    omega (arith, one-found (downtime_events_of_deed before moment log_index deed) (entries-of-deed before moment log_index deed) (object_of table host service))
+entries-of-act table before moment log_index (acts.ScheduleServices host span) few =
     let services = services_of table host in
-    let make : ObjectId → DowntimeEvent = λ service. downtime.Schedule moment service (plan_of starts ends fixed trigger lasts log_index) in
+    let make : ObjectId → DowntimeEvent = λ service. downtime.Schedule moment service (plan_of span log_index) in
     omega (arith, length-reverse (map make services), length-map services make, services-few table host, few)
-entries-of-body table before moment log_index bodies.Shutdown few = omega arith
+entries-of-act table before moment log_index act few = omega arith
 
 -- and so many entries were scheduled
 pub scheduled-few : (table : List ObjectLine) (judgements : List Judged) → most_services table ≤ 1024 → length (scheduled_in 1 (downtime_events table judgements)) ≤ 1024 * length judgements
@@ -131,8 +129,8 @@ scheduled-few table (judgement ∷ before) few =
       arith,
       scheduled-append (downtime_events_of_record table before judgement) (downtime_events table before),
       length-accepted (is_accepted judgement.outcome)
-          (downtime_events_of_body table (object_events table before) judgement.applied.moment judgement.log_index judgement.applied.item.body) 1024
-          (entries-of-body table (object_events table before) judgement.applied.moment judgement.log_index judgement.applied.item.body few),
+          (downtime_events_of table (object_events table before) judgement.applied.moment judgement.log_index (act_of judgement.applied.item.body)) 1024
+          (entries-of-act table (object_events table before) judgement.applied.moment judgement.log_index (act_of judgement.applied.item.body) few),
       scheduled-few table before few,
     )
 

@@ -5,7 +5,8 @@ use Rattle.std.specs.Option.{option_to_list}
 use Rattle.gate_model.specs.declared.record.Moment.{Moment}
 use Rattle.gate_model.specs.declared.object.ObjectId.{ObjectId}
 use Rattle.gate_model.specs.declared.object.ObjectLine.{ObjectLine}
-use Rattle.gate_model.specs.declared.submission.Body.{Body}
+use Rattle.gate_model.specs.declared.act.Deed.{Deed}
+use Rattle.gate_model.specs.declared.act.Act.{Act}
 use Rattle.gate_model.specs.declared.record.Outcome.{Outcome}
 use Rattle.gate_model.specs.declared.record.Outcome.TheVariants.{Accepted}
 use Rattle.gate_model.specs.declared.status.ObjectEvent.{ObjectEvent}
@@ -21,7 +22,7 @@ use Rattle.gate_model.specs.Record.{is_accepted}
 use Rattle.gate_model.specs.Table.{most_services}
 use Rattle.gate_model.specs.Comments.{comments_of, number_made}
 use Rattle.gate_model.specs.Downtime.{scheduled_in, is_live_in}
-use Rattle.gate_model.specs.Meaning.{Judged, object_event_of, object_events, downtime_events_of_body, downtime_events, transition_by, clearing_by, addition_of_entry, comment_events_of_body, comment_events, outlives, outcome_of_window, outcome_at}
+use Rattle.gate_model.specs.Meaning.{Judged, object_event_of_deed, object_event_of, object_events, downtime_events_of_deed, downtime_events_of, downtime_events, transition_by, clearing_by, addition_of_entry, comment_events_of_deed, comment_events_of, comment_events, outlives, outcome_of_window, outcome_of_deed, outcome_at}
 use Rattle.gate_objects.specs.Book.{shown_threshold}
 use Rattle.gate_objects.specs.Standing.{IsStanding as ObjectsStand, result_event}
 use Rattle.gate_downtime.specs.Standing.{IsStanding as DowntimeStands}
@@ -51,20 +52,32 @@ abbrev pub threshold_of_line : Option ObjectLine → ℕ
 threshold_of_line None = 0
 threshold_of_line (Some line) = line.threshold
 
--- these events, and what an accepted body adds to them
-abbrev pub events_after : List ObjectLine → Moment → ℕ → Body → Events → Events
-events_after table moment log_index body events = record {
-  objects = cons_option (object_event_of table moment log_index body) events.objects;
-  downtimes = downtime_events_of_body table events.objects moment log_index body ++ events.downtimes;
+-- the id of the next entry, after these events
+abbrev pub next_entry : Events → ℕ
+next_entry events = 1 + length (scheduled_in 1 events.downtimes)
+
+-- these events, and what an accepted deed on this object adds to them
+abbrev pub events_after_deed : Moment → ℕ → Deed → ObjectId → Events → Events
+events_after_deed moment log_index deed found events = record {
+  objects = cons_option (object_event_of_deed moment log_index deed found) events.objects;
+  downtimes = downtime_events_of_deed events.objects moment log_index deed found ++ events.downtimes;
   comments =
-      comment_events_of_body table events.objects (1 + length (scheduled_in 1 events.downtimes)) moment log_index body
-      ++ events.comments;
+      comment_events_of_deed events.objects (next_entry events) moment log_index deed found ++ events.comments;
 }
 
--- these events, and what a body of this outcome adds to them: nothing, if it was refused
-abbrev pub events_with : List ObjectLine → Moment → ℕ → Body → Outcome → Events → Events
-events_with table moment log_index body outcome events =
-    if is_accepted outcome then events_after table moment log_index body events else events
+-- these events, and what an accepted act adds to them
+abbrev pub events_after : List ObjectLine → Moment → ℕ → Act → Events → Events
+events_after table moment log_index act events = record {
+  objects = cons_option (object_event_of table moment log_index act) events.objects;
+  downtimes = downtime_events_of table events.objects moment log_index act ++ events.downtimes;
+  comments =
+      comment_events_of table events.objects (next_entry events) moment log_index act ++ events.comments;
+}
+
+-- these events, and what an act of this outcome adds to them: nothing, if it was refused
+abbrev pub events_with : List ObjectLine → Moment → ℕ → Act → Outcome → Events → Events
+events_with table moment log_index act outcome events =
+    if is_accepted outcome then events_after table moment log_index act events else events
 
 -- the entry of this id was scheduled
 abbrev pub is_scheduled : List Entry → ℕ → Bool
@@ -111,21 +124,40 @@ abbrev pub Follows : Moment → (Events → Events) → Books → Books → Type
 Follows moment change old new =
     (events : Events) → BooksFollow events moment old → BooksFollow (change events) moment new
 
--- the outcome of a body that was accepted, or refused so
+-- the outcome of what was accepted, or refused so
 abbrev pub outcome_of : Result (Unit {0}) Outcome → Outcome
 outcome_of (Ok done) = Accepted
 outcome_of (Err refusal) = refusal
 
--- the body of this outcome was judged after whichever records the old books stand after, and the new ones follow it
-pub record IsJudged (table : List ObjectLine) (before : List Judged) (moment : Moment) (log_index : ℕ) (body : Body)
+-- the act of this outcome was judged after these records, and the new books follow it
+pub record IsJudged (table : List ObjectLine) (before : List Judged) (moment : Moment) (log_index : ℕ) (act : Act)
     (outcome : Outcome) (new : Books) : Type 0 where
-  pub outcome_is : outcome ≡ outcome_at table before moment body
-  pub follow : BooksFollow (events_with table moment log_index body outcome (events_of table before)) moment new
+  pub outcome_is : outcome ≡ outcome_at table before moment act
+  pub follow : BooksFollow (events_with table moment log_index act outcome (events_of table before)) moment new
 
-abbrev pub Judges : List ObjectLine → Moment → ℕ → Body → Outcome → Books → Books → Type 0
-Judges table moment log_index body outcome old new =
+-- the act of this outcome was judged after whichever records the old books stand after, and the new ones follow it
+abbrev pub Judges : List ObjectLine → Moment → ℕ → Act → Outcome → Books → Books → Type 0
+Judges table moment log_index act outcome old new =
     (before : List Judged) → BooksStand (events_of table before) moment old
-    → IsJudged table before moment log_index body outcome new
+    → IsJudged table before moment log_index act outcome new
+
+-- the deed on this object, of this outcome, was judged after these records, and the new books follow it
+pub record IsDone (table : List ObjectLine) (before : List Judged) (moment : Moment) (log_index : ℕ) (deed : Deed)
+    (found : ObjectId) (outcome : Outcome) (new : Books) : Type 0 where
+  pub outcome_is : outcome ≡ outcome_of_deed table before moment deed found.place
+  pub follow :
+      BooksFollow
+      (if is_accepted outcome
+      then events_after_deed moment log_index deed found (events_of table before)
+      else events_of table before)
+      moment new
+
+-- the deed on this object, of this outcome, was judged after whichever records the old books stand after, and the new
+-- ones follow it
+abbrev pub Does : Moment → ℕ → Deed → ObjectId → Outcome → Books → Books → Type 0
+Does moment log_index deed found outcome old new =
+    (table : List ObjectLine) (before : List Judged) → BooksStand (events_of table before) moment old
+    → IsDone table before moment log_index deed found outcome new
 
 -- a source that stands: no downtime entry, or one that was scheduled and not returned as gone
 pub record IsStandingSource (book : DowntimeView) (source : Source) : Type 0 where

@@ -6,6 +6,7 @@ use Rattle.gate_applier.specs.Applier.{is_limit}
 use Rattle.gate_model.specs.declared.record.Moment.{Moment}
 use Rattle.gate_model.specs.declared.record.Record.{Record}
 use Rattle.gate_model.specs.Record.{later}
+use Rattle.gate_model.specs.Act.{act_of}
 use Rattle.gate_model.specs.Meaning.{history_of, outcome_at}
 use Rattle.gate_model.proofs.MeaningSteps.{history_of-append, outcomes_of-append, length-history_of}
 use Rattle.gate_model.proofs.OrderSteps.{in_order-apply}
@@ -61,7 +62,7 @@ judge-judged-requires c =
 
 -- the record, judged after those before it
 next : (c : After-push_reserved-2)
-    → IsJudged c.applier.inside.table (history_of c.applier.inside.table c.applier.inside.records.items) c.later-moment.result (length (history_of c.applier.inside.table c.applier.inside.records.items)) c.args.item.body c.outcome_of-outcome.result c.judge-judged.new.self
+    → IsJudged c.applier.inside.table (history_of c.applier.inside.table c.applier.inside.records.items) c.later-moment.result (length (history_of c.applier.inside.table c.applier.inside.records.items)) (act_of c.args.item.body) c.outcome_of-outcome.result c.judge-judged.new.self
 next c =
     let was = c.applier.inside in
     let before = history_of was.table was.records.items in
@@ -107,7 +108,7 @@ returns c =
     record {
       outcome_is =
           rw (← c.self.view_is, ← c.applier.view_is)
-          ((next c).outcome_is ∙ ap (λ (at : Moment). outcome_at c.applier.inside.table (history_of c.applier.inside.table c.applier.inside.records.items) at c.args.item.body) c.later-moment.ensures);
+          ((next c).outcome_is ∙ ap (λ (at : Moment). outcome_at c.applier.inside.table (history_of c.applier.inside.table c.applier.inside.records.items) at (act_of c.args.item.body)) c.later-moment.ensures);
       records = search rules;
       outcomes = search rules;
       moment = search rules;

@@ -17,13 +17,13 @@ schedule_each-requires-clause-make c =
     (omega (arith, services-count c.args.table.now c.bytes.result.now c.services.result are, c.requires.can_take.services)) c.requires.can_take.make
 
 pub returns-in-Some-clause-judged : goal.returns-in-Some-clause-judged
-returns-in-Some-clause-judged c = λ moment fixed author text kind before stand.
+returns-in-Some-clause-judged c = λ moment before stand.
     let at = some-place (place_of c.args.table.now c.bytes.result.now None) c.in-Some.object (sym c.find_host.ensures.value ∙ c.in-Some.is) in
     let are = c.services.ensures.named c.bytes.result.now at in
-    judged-services c.args.table.now before moment c.args.host.now c.args.plan fixed author text c.services.result c.schedule_each.result c.args.self.now c.schedule_each.new.self c.in-Some.object.place
+    judged-services c.args.table.now before moment c.args.log_index c.args.host c.args.span c.services.result c.schedule_each.result c.args.self.now c.schedule_each.new.self c.in-Some.object.place
     (sym (ap (λ name. place_of c.args.table.now name None) c.bytes.ensures) ∙ at)
     (are ∙ ap (services_of c.args.table.now) c.bytes.ensures)
-    kind c.schedule_each.ensures.answer c.schedule_each.ensures.schedules c.schedule_each.ensures.refused c.schedule_each.ensures.kept stand.follow
+    (rw c.plan_of.ensures at c.schedule_each.ensures.answer) (rw c.plan_of.ensures at c.schedule_each.ensures.schedules) c.schedule_each.ensures.refused c.schedule_each.ensures.kept stand.follow
 
 pub returns-in-Some-clause-takes : goal.returns-in-Some-clause-takes
 returns-in-Some-clause-takes c =
