@@ -1,7 +1,7 @@
--- What a body asks for, and of what: `act_of`. The commands of the External Command List come to five forms: a deed
+-- What a body asks for, and of what: `act_of`; and what else it has: `words_of`, `output_of`. The commands of the External Command List come to five forms: a deed
 -- on one object, downtime for each service of a host, a comment or a downtime entry that is deleted, and the shutdown.
 -- Own rules: any number but 0 means persistent, any but 2 not sticky, and any but 1 flexible.
-use Rattle.std.specs.Prelude.{ℕ, ◌==◌, Bool, not}
+use Rattle.std.specs.Prelude.{ℕ, ◌==◌, Bool, not, List, Option, Some, None}
 use Rattle.gate_model.specs.declared.record.Moment.{Moment}
 use Rattle.gate_model.specs.declared.submission.Body.{Body}
 use Rattle.gate_model.specs.declared.submission.Body.TheVariants as bodies
@@ -44,3 +44,18 @@ act_of (bodies.Passive host service on) = acts.On host service (deeds.Passive on
 act_of (bodies.ScheduleServices host starts ends fixed trigger lasts author text) =
     acts.ScheduleServices host (span_of starts ends fixed trigger lasts)
 act_of bodies.Shutdown = acts.Shutdown
+
+-- ---- what else a body has
+
+-- the author and the text of a comment, an acknowledgement or a downtime
+abbrev pub words_of : Body → Option (List ℕ × List ℕ)
+words_of (bodies.AddComment host service persistent author text) = Some (author, text)
+words_of (bodies.Acknowledge host service sticky notify persistent author text) = Some (author, text)
+words_of (bodies.Schedule host service starts ends fixed trigger lasts author text) = Some (author, text)
+words_of (bodies.ScheduleServices host starts ends fixed trigger lasts author text) = Some (author, text)
+words_of _ = None
+
+-- the output of a check result
+abbrev pub output_of : Body → Option (List ℕ)
+output_of (bodies.Result host service code output) = Some output
+output_of _ = None

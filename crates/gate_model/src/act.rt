@@ -1,7 +1,7 @@
 //! What a body asks for, and of what: the commands of the External Command List come to five forms.
 
-ghost use Rattle.std.specs.Prelude.{◌≡◌};
-ghost use Rattle.gate_model.specs.Act.{act_of, span_of};
+ghost use Rattle.std.specs.Prelude.{◌≡◌, option_copied};
+ghost use Rattle.gate_model.specs.Act.{act_of, span_of, words_of, output_of};
 
 use crate::object::Kind;
 use crate::record::Moment;
@@ -43,6 +43,38 @@ impl<'a> Name<'a> {
     /// Its bytes.
     pub fn bytes(&self) -> &'a [u8]
         ensures { result.now ≡ self.now }
+    {
+        self.text.bytes()
+    }
+}
+
+/// The author and the text of a comment, an acknowledgement or a downtime, where a body has them.
+/// Contracts see both.
+#[derive(Drop)]
+pub struct Words<'a> {
+    author: &'a Text,
+    text: &'a Text,
+}
+
+impl<'a> Model for Words<'a> {
+    ghost use Rattle.std.specs.Prelude.{ℕ, List};
+
+    ghost Value = { List ℕ × List ℕ };
+
+    ghost view = { λ words. (words.author.now, words.text.now) };
+}
+
+impl<'a> Words<'a> {
+    /// The author's bytes.
+    pub fn author(&self) -> &'a [u8]
+        ensures { result.now ≡ self.now.0 }
+    {
+        self.author.bytes()
+    }
+
+    /// The text's bytes.
+    pub fn text(&self) -> &'a [u8]
+        ensures { result.now ≡ self.now.1 }
     {
         self.text.bytes()
     }
@@ -197,6 +229,29 @@ impl Body {
                 }
             }
             Body::Shutdown => Act::Shutdown,
+        }
+    }
+
+    /// Who made its comment, acknowledgement or downtime, and what they wrote.
+    pub fn words(&self) -> Option<Words<'_>>
+        ensures { result ≡ words_of self.now }
+    {
+        match self {
+            Body::AddComment { author, text, .. }
+            | Body::Acknowledge { author, text, .. }
+            | Body::Schedule { author, text, .. }
+            | Body::ScheduleServices { author, text, .. } => Some(Words { author, text }),
+            _ => None,
+        }
+    }
+
+    /// The output of a check result.
+    pub fn output(&self) -> Option<&[u8]>
+        ensures { option_copied result ≡ output_of self.now }
+    {
+        match self {
+            Body::Result { output, .. } => Some(output.bytes()),
+            _ => None,
         }
     }
 }

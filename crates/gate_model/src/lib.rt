@@ -16,7 +16,7 @@ mod submission;
 mod text;
 mod writing;
 
-pub use act::{Act, Deed, Name, Span};
+pub use act::{Act, Deed, Name, Span, Words};
 pub use comments::{Comment, CommentEvent, Source};
 pub use downtime::{DowntimeEvent, Entry, Plan, Scheduled};
 pub use limits::{

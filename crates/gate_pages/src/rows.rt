@@ -16,33 +16,27 @@ use std::alloc::{AllocError, Global};
 fn output_in(body: &Body) -> &[u8]
     ensures { result.now ≡ output_in body.now }
 {
-    match body {
-        Body::Result { output, .. } => output.bytes(),
-        _ => b"",
+    match body.output() {
+        Some(output) => output,
+        None => b"",
     }
 }
 
 fn author_in(body: &Body) -> &[u8]
     ensures { result.now ≡ author_in body.now }
 {
-    match body {
-        Body::AddComment { author, .. }
-        | Body::Acknowledge { author, .. }
-        | Body::Schedule { author, .. }
-        | Body::ScheduleServices { author, .. } => author.bytes(),
-        _ => b"",
+    match body.words() {
+        Some(words) => words.author(),
+        None => b"",
     }
 }
 
 fn comment_in(body: &Body) -> &[u8]
     ensures { result.now ≡ comment_in body.now }
 {
-    match body {
-        Body::AddComment { text, .. }
-        | Body::Acknowledge { text, .. }
-        | Body::Schedule { text, .. }
-        | Body::ScheduleServices { text, .. } => text.bytes(),
-        _ => b"",
+    match body.words() {
+        Some(words) => words.text(),
+        None => b"",
     }
 }
 
