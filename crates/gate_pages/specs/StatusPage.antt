@@ -1,7 +1,7 @@
 -- The status page: the monitored objects, their comments and their downtime at one moment, a line each. The main
 -- definitions are `board_at`, which facts a page shows, and `status_text`, how it shows them; `status_text_at` is both.
 -- Own rules: the order of the lines.
-use Rattle.std.specs.Prelude.{ℕ, List, ◌++◌, Option, None, codes}
+use Rattle.std.specs.Prelude.{ℕ, List, ◌++◌, Option, None, Bool, codes}
 use Rattle.std.specs.List.{flat_map}
 use Rattle.std.specs.Fmt.{decimal}
 use Rattle.gate_model.specs.declared.record.Moment.{Moment}
@@ -20,6 +20,11 @@ pub record BoardView : Type 0 where
   pub comments : List CommentRow
   pub downtimes : List DowntimeRow
   pub closing : Option Moment
+
+-- a board: what its page shows, and whether the page is kept
+pub record BoardState : Type 0 where
+  pub shown : BoardView
+  pub has_page : Bool
 
 -- what the page shows at this moment, of objects that were opened at a moment and have these records
 abbrev pub board_at : List ObjectLine → Moment → List Record → Moment → BoardView

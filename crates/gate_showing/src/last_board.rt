@@ -18,7 +18,7 @@ pub struct LastShown {
 
 // Publishes a board that is marked closing, at this moment.
 fn publish_last(board: &mut Board, next: Board, moment: Moment) -> LastShown
-    requires { next.closing ≡ Some moment }
+    requires { next.shown.closing ≡ Some moment }
     ensures published { board.new ≡ next }
     ensures shown { result.closing ≡ Some moment }
 {

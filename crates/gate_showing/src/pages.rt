@@ -1,13 +1,28 @@
+ghost use Rattle.std.specs.Prelude.{◌≡◌, IfOk};
+ghost use Rattle.std.specs.Arc.{arc_value};
+ghost use Rattle.gate_pages.specs.StatusPage.{status_text};
 ghost use Rattle.gate_showing.specs.Showing.{ShowsBoard, IsShowing};
 ghost use Rattle.gate_showing.specs.inner.Making.{IsMadeOf};
 
 use gate_environment::times::MEMORY_TRIES;
 use gate_environment::{Connections, PieceEnd, pause};
-use gate_pages::{Board, status_page};
+use gate_pages::Board;
 use gate_streams::{Sink, put_last};
 use std::alloc::{AllocError, Global};
-use std::sync::{Mutex, Wait};
+use std::sync::{Arc, Mutex, Wait};
 use std::time::Clock;
+
+// The status page of a board, if there is memory for it. The first reader's is kept for the others.
+fn shared_page(alloc: Global, board: &mut Board) -> Result<Arc<Vec<u8>, Global>, AllocError>
+    ensures text { IfOk result (λ page. (arc_value page).items ≡ status_text board.old.shown) }
+    ensures shown { board.new.shown ≡ board.old.shown }
+{
+    board.keep_page(alloc)?;
+    match board.kept_page() {
+        Some(page) => Arc::try_clone(page),
+        None => unreachable!(),
+    }
+}
 
 // The status page of the board, if there is memory for it, and whether it is the last one: that of a
 // closing board.
@@ -15,11 +30,12 @@ fn page_of<R: Wait>(
     rt: &R,
     alloc: Global,
     board: &Mutex<Board>,
-) -> (Result<Vec<u8>, AllocError>, bool)
+) -> (Result<Arc<Vec<u8>, Global>, AllocError>, bool)
     ensures { IsMadeOf result.0 result.1 }
 {
-    let shown = board.lock(rt);
-    (status_page(alloc, &shown), shown.closes_at().is_some())
+    let mut board = board.lock(rt);
+    let is_last = board.closes_at().is_some();
+    (shared_page(alloc, &mut board), is_last)
 }
 
 // The same, where memory for the page is missing after a second.
@@ -27,7 +43,7 @@ fn next_page<R: Wait + Clock>(
     rt: &R,
     alloc: Global,
     board: &Mutex<Board>,
-) -> (Result<Vec<u8>, AllocError>, bool)
+) -> (Result<Arc<Vec<u8>, Global>, AllocError>, bool)
     ensures { IsMadeOf result.0 result.1 }
 {
     for _ in 1..MEMORY_TRIES {
@@ -52,7 +68,7 @@ fn show_page<R: Wait + Clock, O: Sink>(
 {
     let (page, is_last) = next_page(rt, alloc, board);
     if let Ok(page) = page {
-        let _ = put_last(output, &page);
+        let _ = put_last(output, page.as_slice());
     }
     is_last
 }

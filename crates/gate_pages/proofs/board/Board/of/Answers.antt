@@ -1,7 +1,7 @@
 use Rattle.gate_pages.proofs.board.Board.of.Goals as goal
 
-pub returns : goal.returns
-returns c =
+pub returns-clause-shown : goal.returns-clause-shown
+returns-clause-shown c =
     rw (
       c.moment.ensures.moment,
       c.in_ok-object_rows.ensures,
