@@ -1,3 +1,4 @@
 pub mod Clock
 pub mod Streams
 pub mod Points
+pub mod Parting

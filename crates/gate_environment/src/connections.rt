@@ -1,7 +1,9 @@
 ghost use Rattle.std.specs.Prelude.{◌≡◌, ℕ, List, Option, None, IfSome, IsSome, true, option_map};
 ghost use Rattle.gate_model.specs.declared.record.Moment.{Moment};
 ghost use Rattle.gate_environment.specs.Streams.{AreSent, ComesNext};
+ghost use Rattle.gate_environment.specs.Parting.{parting};
 ghost use Rattle.gate_environment.specs.Points.{passing};
+ghost use Rattle.gate_environment.specs.declared.connections.PieceEnd.{PieceEnd};
 ghost use Rattle.gate_environment.specs.declared.connections.Point.{Point};
 
 use crate::clock::Clock;
@@ -35,7 +37,7 @@ pub enum PieceEnd {
 /// Where a worker's connections come from, in pieces: those of one connection in order, beside those of
 /// others.
 ///
-/// A type that leaves the member out claims nothing by it.
+/// A type that leaves a member out claims nothing by it.
 pub trait Connections {
     type In: Source + Drop + Send;
 
@@ -45,22 +47,27 @@ pub trait Connections {
     // one piece.
     ghost streams: { Self → Option (List (List ℕ)) } = { λ _. None };
 
+    // What became of the pieces that were taken back, the first one first, where that is known.
+    ghost parted: { Self → Option (List PieceEnd) } = { λ _. None };
+
     /// The next piece of a connection. None: there are no more.
     fn next(&mut self) -> Option<Piece<Self::In, Self::Out>>
         ensures comes { ComesNext (streams self.old)
             (option_map (λ piece. (Self.In.state piece.input).left) result)
             (streams self.new) }
-        ensures whole { IsSome (streams self.old) → IfSome result (λ piece. piece.is_first ≡ true) };
+        ensures whole { IsSome (streams self.old) → IfSome result (λ piece. piece.is_first ≡ true) }
+        ensures none_parts { parted self.new ≡ parted self.old };
 
     /// Takes back a piece that was served, and ends its connection where that is over. Its peer receives
     /// all that was written.
-    fn part(&mut self, _piece: Piece<Self::In, Self::Out>, _end: PieceEnd)
-        ensures { streams self.new ≡ streams self.old }
-    {}
+    fn part(&mut self, piece: Piece<Self::In, Self::Out>, end: PieceEnd)
+        ensures none_comes { streams self.new ≡ streams self.old }
+        ensures parts { parted self.new ≡ parting end (parted self.old) };
 
     /// Ends all connections, once no more are asked for. None comes after it.
     fn end(&mut self)
-        ensures { AreSent (streams self.new) };
+        ensures sent { AreSent (streams self.new) }
+        ensures none_parts { parted self.new ≡ parted self.old };
 }
 
 /// A point of a thread's way at which a `Hold` is called.
