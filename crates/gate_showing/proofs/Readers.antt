@@ -3,23 +3,33 @@ use Rattle.std.proofs.Common.{◌≡◌, ℕ, Bool, true, false, List, [], ◌�
 use Rattle.std.specs.List.{AllByRecursion}
 use Rattle.std.proofs.lemmas.List.{map-append}
 use Rattle.gate_environment.specs.Streams.{ComesNext, AreSent, SendFirst}
+use Rattle.gate_environment.specs.Parting.{parting, parting_all}
+use Rattle.gate_environment.specs.declared.connections.PieceEnd.{PieceEnd}
+use Rattle.gate_environment.specs.declared.connections.PieceEnd.TheVariants.{Over}
+use Rattle.gate_environment.proofs.PartingLaws.{parting_none, parting_next}
 use Rattle.gate_streams.specs.Sink.{SinkState}
 use Rattle.gate_showing.specs.Showing.{ShowsBoard, ServedReader, EachShown, NoneIsLast, IsShowing}
+use Rattle.gate_showing.specs.inner.Serving.{ServesOnce}
 use Rattle.gate_showing.specs.declared.pages.PagesEnd.TheVariants.{Closed, NoMoreReaders}
 
--- readers were served, of whom none was shown a closing board
-pub record HasShown (streams left : Option (List (List ℕ))) : Type 0 where
+-- the connection of a reader is over after its piece
+abbrev end_of : ServedReader → PieceEnd
+end_of reader = Over
+
+-- readers were served, of whom none was shown a closing board, and the connection of each was over after its piece
+pub record HasShown (streams left : Option (List (List ℕ))) (given now : Option (List PieceEnd)) : Type 0 where
   pub readers : List ServedReader
   pub sent : SendFirst streams (map (λ (r : ServedReader). r.sent) readers) left
   pub each : EachShown readers
   pub none_is_last : NoneIsLast readers
+  pub parted : now ≡ parting_all (map end_of readers) given
 
 sent_none : (streams : Option (List (List ℕ))) → SendFirst streams [] streams
 sent_none None = tt
 sent_none (Some streams) = (streams, refl, refl)
 
-pub shown_none : (streams : Option (List (List ℕ))) → HasShown streams streams
-shown_none streams = record { readers = []; sent = sent_none streams; each = tt; none_is_last = tt }
+pub shown_none : (streams : Option (List (List ℕ))) (given : Option (List PieceEnd)) → HasShown streams streams given given
+shown_none streams given = record { readers = []; sent = sent_none streams; each = tt; none_is_last = tt; parted = parting_none given }
 
 all_next : {X : Type 0} (P : X → Type 0) (xs : List X) (x : X) → AllByRecursion P xs → P x → AllByRecursion P (xs ++ x ∷ [])
 all_next P [] x all here = (here, tt)
@@ -44,27 +54,33 @@ abbrev reader_of : Option (List ℕ) → SinkState → SinkState → Bool → Se
 reader_of sent before after is_last = record { sent = sent; before = before; after = after; is_last = is_last }
 
 -- one more reader, who was shown no closing board
-pub shown_next : (streams left middle later : Option (List (List ℕ))) (sent : Option (List ℕ)) (before after : SinkState) (is_last : Bool)
-    → HasShown streams left → ComesNext left (Some sent) middle → later ≡ middle → ShowsBoard before after is_last → is_last ≡ false
-    → HasShown streams later
-shown_next streams left middle later sent before after is_last h next parted shows not_last = record {
-  readers = h.readers ++ reader_of sent before after is_last ∷ [];
-  sent = sent_next streams left later h.readers (reader_of sent before after is_last) h.sent
-      (subst (λ (o : Option (List (List ℕ))). ComesNext left (Some sent) o) (sym parted) next);
-  each = all_next (λ (r : ServedReader). ShowsBoard r.before r.after r.is_last) h.readers (reader_of sent before after is_last) h.each shows;
-  none_is_last = all_next (λ (r : ServedReader). r.is_last ≡ false) h.readers (reader_of sent before after is_last) h.none_is_last not_last;
+pub shown_next : (streams left middle later : Option (List (List ℕ))) (given now taken after : Option (List PieceEnd)) (sent : Option (List ℕ)) (before shown : SinkState) (is_last : Bool)
+    → HasShown streams left given now → ComesNext left (Some sent) middle → taken ≡ now → later ≡ middle → after ≡ parting Over taken
+    → ShowsBoard before shown is_last → is_last ≡ false
+    → HasShown streams later given after
+shown_next streams left middle later given now taken after sent before shown is_last h next comes stays parts shows not_last = record {
+  readers = h.readers ++ reader_of sent before shown is_last ∷ [];
+  sent = sent_next streams left later h.readers (reader_of sent before shown is_last) h.sent
+      (subst (λ (o : Option (List (List ℕ))). ComesNext left (Some sent) o) (sym stays) next);
+  each = all_next (λ (r : ServedReader). ShowsBoard r.before r.after r.is_last) h.readers (reader_of sent before shown is_last) h.each shows;
+  none_is_last = all_next (λ (r : ServedReader). r.is_last ≡ false) h.readers (reader_of sent before shown is_last) h.none_is_last not_last;
+  parted = parting_next end_of h.readers (reader_of sent before shown is_last) given now after h.parted (parts ∙ ap (parting Over) comes);
 }
 
 -- or who was shown one
-pub shown_last : (streams left later : Option (List (List ℕ))) (sent : Option (List ℕ)) (before after : SinkState) (is_last : Bool)
-    → HasShown streams left → ComesNext left (Some sent) later → ShowsBoard before after is_last → is_last ≡ true
-    → IsShowing streams Closed
-shown_last streams left later sent before after is_last h next shows last = record {
-  readers = h.readers ++ reader_of sent before after is_last ∷ [];
-  left = later;
-  sent = sent_next streams left later h.readers (reader_of sent before after is_last) h.sent next;
-  each = all_next (λ (r : ServedReader). ShowsBoard r.before r.after r.is_last) h.readers (reader_of sent before after is_last) h.each shows;
-  ends = (h.readers, reader_of sent before after is_last, refl, h.none_is_last, last);
+pub shown_last : (streams left later : Option (List (List ℕ))) (given now taken after : Option (List PieceEnd)) (sent : Option (List ℕ)) (before shown : SinkState) (is_last : Bool)
+    → HasShown streams left given now → ComesNext left (Some sent) later → taken ≡ now → after ≡ parting Over taken
+    → ShowsBoard before shown is_last → is_last ≡ true
+    → ServesOnce streams Closed given after
+shown_last streams left later given now taken after sent before shown is_last h next comes parts shows last = record {
+  shows = record {
+    readers = h.readers ++ reader_of sent before shown is_last ∷ [];
+    left = later;
+    sent = sent_next streams left later h.readers (reader_of sent before shown is_last) h.sent next;
+    each = all_next (λ (r : ServedReader). ShowsBoard r.before r.after r.is_last) h.readers (reader_of sent before shown is_last) h.each shows;
+    ends = (h.readers, reader_of sent before shown is_last, refl, h.none_is_last, last);
+  };
+  parted = parting_next end_of h.readers (reader_of sent before shown is_last) given now after h.parted (parts ∙ ap (parting Over) comes);
 }
 
 none_left : (streams left : Option (List (List ℕ))) → ComesNext streams None left → AreSent streams
@@ -72,11 +88,16 @@ none_left None left h = tt
 none_left (Some streams) left h = h
 
 -- or no more came
-pub shown_all : (streams left later : Option (List (List ℕ))) → HasShown streams left → ComesNext left None later → IsShowing streams NoMoreReaders
-shown_all streams left later h next = record {
-  readers = h.readers;
-  left = left;
-  sent = h.sent;
-  each = h.each;
-  ends = (h.none_is_last, none_left left later next);
+pub shown_all : (streams left later : Option (List (List ℕ))) (given now after : Option (List PieceEnd)) → HasShown streams left given now
+    → ComesNext left None later → after ≡ now
+    → ServesOnce streams NoMoreReaders given after
+shown_all streams left later given now after h next comes = record {
+  shows = record {
+    readers = h.readers;
+    left = left;
+    sent = h.sent;
+    each = h.each;
+    ends = (h.none_is_last, none_left left later next);
+  };
+  parted = comes ∙ h.parted;
 }

@@ -3,6 +3,7 @@ ghost use Rattle.std.specs.Arc.{arc_value};
 ghost use Rattle.gate_pages.specs.StatusPage.{status_text};
 ghost use Rattle.gate_showing.specs.Showing.{ShowsBoard, IsShowing};
 ghost use Rattle.gate_showing.specs.inner.Making.{IsMadeOf};
+ghost use Rattle.gate_showing.specs.inner.Serving.{ServesOnce};
 
 use gate_environment::times::MEMORY_TRIES;
 use gate_environment::{Connections, PieceEnd, pause};
@@ -89,7 +90,8 @@ fn show_readers<R: Wait + Clock, C: Connections>(
     connections: &mut C,
     board: &Mutex<Board>,
 ) -> PagesEnd
-    ensures { IsShowing (C.streams connections.old) result }
+    ensures { ServesOnce (C.streams connections.old) result
+        (C.parted connections.old) (C.parted connections.new) }
 {
     for _ in rt.forever() {
         let Some(mut piece) = connections.next() else {

@@ -5,3 +5,4 @@ abbrev pub invariant-loop : goal.invariant-loop
 invariant-loop g l =
     (goal.iterator-loop g).can_next l.iterator' × (goal.iterator-loop g).is_finite l.iterator'
     × HasShown (g.C.Connections.streams l.fn.connections) (g.C.Connections.streams l.connections)
+    (g.C.Connections.parted l.fn.connections) (g.C.Connections.parted l.connections)
