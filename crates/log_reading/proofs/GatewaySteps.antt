@@ -18,6 +18,7 @@ use Rattle.gate_model.specs.declared.submission.Body.TheVariants as body
 use Rattle.gate_model.specs.Status.{is_passive}
 use Rattle.gate_model.specs.Submission.{is_result}
 use Rattle.gate_model.specs.Table.{is_same_service, is_line_of, place_of, has_object}
+use Rattle.gate_model.specs.Act.{act_of}
 use Rattle.gate_model.specs.Meaning.{Judged, object_events, outcome_at_place, outcome_at, judged, history_of, outcomes_of}
 use Rattle.gate_grammar.specs.Canonical.{body_text}
 use Rattle.gate_grammar.specs.Commands.{values_of}
@@ -117,7 +118,7 @@ plain_command one other range is = inr (record { other = other; written = spelle
 
 -- a body that is accepted is known from its text
 readable_body : (table : List ObjectLine) (before : List Judged) (moment : Moment) (one : Body) → AllByRecursion IsPlainLine table
-    → IsSubmission one → AreInRange one → outcome_at table before moment one ≡ Accepted → IsReadableBody one
+    → IsSubmission one → AreInRange one → outcome_at table before moment (act_of one) ≡ Accepted → IsReadableBody one
 readable_body table before moment (body.Result host service code output) all is range accepted =
     let plain =
     found_plain host service 0 table all
@@ -154,7 +155,7 @@ judged_readable : (table : List ObjectLine) (records : List Record) → AllByRec
     → AllByRecursion (λ (judgement : Judged). IsReadable (logged_of (pair_of judgement))) (judged table records)
 judged_readable table [] all each = tt
 judged_readable table (applied ∷ records) all each = (
-  logged_readable applied (outcome_at table (judged table records) applied.moment applied.item.body) each.0
+  logged_readable applied (outcome_at table (judged table records) applied.moment (act_of applied.item.body)) each.0
       (readable_body table (judged table records) applied.moment applied.item.body all each.0.submission each.0.range),
   judged_readable table records all each.1,
 )

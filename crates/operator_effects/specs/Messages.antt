@@ -5,7 +5,7 @@ use Rattle.gate_model.specs.declared.state.State.{State}
 use Rattle.gate_model.specs.declared.submission.Body.{Body}
 use Rattle.gate_model.specs.declared.submission.Body.TheVariants as bodies
 use Rattle.gate_model.specs.Escaping.{escaped}
-use Rattle.gate_model.specs.Meaning.{is_sticky}
+use Rattle.gate_model.specs.Act.{is_sticky}
 use Rattle.gate_lines.specs.Lines.{state_name}
 use Rattle.page_changes.specs.Foreseen.{refusal_text}
 use Rattle.operator_lines.specs.declared.replies.Reply.{Reply}

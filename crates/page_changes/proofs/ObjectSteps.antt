@@ -5,12 +5,13 @@ use Rattle.std.specs.List.{AllByRecursion, enumerate_from, list_any}
 use Rattle.gate_model.specs.declared.record.Moment.{Moment}
 use Rattle.gate_model.specs.declared.object.ObjectId.{ObjectId}
 use Rattle.gate_model.specs.declared.object.ObjectLine.{ObjectLine}
-use Rattle.gate_model.specs.declared.submission.Body.{Body}
-use Rattle.gate_model.specs.declared.submission.Body.TheVariants as bodies
+use Rattle.gate_model.specs.declared.act.Deed.{Deed}
+use Rattle.gate_model.specs.declared.act.Deed.TheVariants as deeds
+use Rattle.gate_model.specs.declared.act.Act.{Act}
+use Rattle.gate_model.specs.declared.act.Act.TheVariants as acts
+use Rattle.gate_model.specs.Act.{act_of}
 use Rattle.gate_model.specs.declared.status.ObjectEvent.{ObjectEvent}
 use Rattle.gate_model.specs.declared.status.ObjectEvent.TheVariants as object
-use Rattle.gate_model.specs.declared.comments.Source.{Source}
-use Rattle.gate_model.specs.declared.comments.Source.TheVariants as source
 use Rattle.gate_model.specs.declared.comments.Comment.{Comment}
 use Rattle.gate_model.specs.declared.comments.CommentEvent.{CommentEvent}
 use Rattle.gate_model.specs.declared.comments.CommentEvent.TheVariants.{Add, Delete, DeleteAll, Clear, Gone}
@@ -21,14 +22,9 @@ use Rattle.gate_model.specs.Record.{is_accepted}
 use Rattle.gate_model.specs.Status.{is_transition, is_clearing}
 use Rattle.gate_model.specs.Comments.{removes, unless_removed, comment_made, comments_left}
 use Rattle.gate_model.specs.Downtime.{scheduled_in}
-use Rattle.gate_model.specs.Table.{object_of, place_of, services_of}
-use Rattle.gate_model.specs.Meaning.{Judged, is_persistent, object_event_of, object_events, transition_by, plan_of, clearing_by, addition_for, addition_of_entry, next_entry, downtime_events_of_body, downtime_events_of_record, downtime_events, comment_events_of_body, comment_events_of_record, comment_events}
-use Rattle.status_reading.proofs.EachSteps.{each_append, each_reverse, each_map, each_option, some_if, some_map}
-
-made_of : {A B : Type 0} (P : A → Type 0) (Q : B → Type 0) (made : A → B) → ((one : A) → P one → Q (made one)) → (found : Option A)
-    → IfSome found P → IfSome (option_map made found) Q
-made_of P Q made step None here = tt
-made_of P Q made step (Some one) here = step one here
+use Rattle.gate_model.specs.Table.{object_of, services_of}
+use Rattle.gate_model.specs.Meaning.{Judged, object_event_of_deed, object_events, transition_by, plan_of, clearing_by, addition_of_entry, next_entry, downtime_events_of_deed, downtime_events_of, downtime_events_of_record, downtime_events, comment_events_of_deed, comment_events_of, comment_events_of_record, comment_events}
+use Rattle.status_reading.proofs.EachSteps.{each_append, each_reverse, each_map, each_option, each_found, some_if}
 
 all_if : {A : Type 0} (P : A → Type 0) (test : Bool) (list : List A) → AllByRecursion P list → AllByRecursion P (if test then list else [])
 all_if P true list all = all
@@ -53,46 +49,38 @@ module _ (table : List ObjectLine) (P : ObjectId → Type 0)
   cleared before (Some (object.RemoveAck place)) = some_if Adds (is_clearing place (object.RemoveAck place) before) (Clear place) tt
   cleared before (Some (object.Passive place on)) = tt
 
-  added : (host : List ℕ) (service : Option (List ℕ)) (from : Source) (persistent : Bool) (log_index : ℕ)
-      → IfSome (addition_for table host service from persistent log_index) Adds
-  added host service from persistent log_index =
-      made_of P Adds (λ found. Add found from persistent log_index) (λ found here. here) (object_of table host service) (object_is host service)
-
   added_each : (log_index entry : ℕ) (services : List ObjectId) → AllByRecursion P services
       → AllByRecursion Adds (map (addition_of_entry log_index) (enumerate_from entry services))
   added_each log_index entry [] all = tt
   added_each log_index entry (one ∷ services) all = (all.0, added_each log_index (entry + 1) services all.1)
 
-  body_adds : (before : List ObjectEvent) (entry : ℕ) (moment : Moment) (log_index : ℕ) (body : Body)
-      → AllByRecursion Adds (comment_events_of_body table before entry moment log_index body)
-  body_adds before entry moment log_index (bodies.Result host service code output) =
-      let event = object_event_of table moment log_index (bodies.Result host service code output) in
+  deed_adds : (before : List ObjectEvent) (entry : ℕ) (moment : Moment) (log_index : ℕ) (deed : Deed) (found : ObjectId) → P found
+      → AllByRecursion Adds (comment_events_of_deed before entry moment log_index deed found)
+  deed_adds before entry moment log_index (deeds.AddComment persistent) found here = (here, tt)
+  deed_adds before entry moment log_index (deeds.Acknowledge sticky persistent) found here = (here, tt)
+  deed_adds before entry moment log_index (deeds.Schedule span) found here = (here, tt)
+  deed_adds before entry moment log_index deeds.DelAllComments found here = (tt, tt)
+  deed_adds before entry moment log_index deed found here =
+      let event = object_event_of_deed moment log_index deed found in
       each_option Adds (clearing_by before event) (cleared before event)
-  body_adds before entry moment log_index (bodies.AddComment host service persistent author text) =
-      each_option Adds _ (added host service source.User (is_persistent persistent) log_index)
-  body_adds before entry moment log_index (bodies.DelComment kind id) = (tt, tt)
-  body_adds before entry moment log_index (bodies.DelAllComments host service) =
-      each_option Adds _ (some_map Adds (λ place. DeleteAll place) (λ place. tt) (place_of table host service))
-  body_adds before entry moment log_index (bodies.Acknowledge host service sticky notify persistent author text) =
-      each_option Adds _ (added host service source.Ack (is_persistent persistent) log_index)
-  body_adds before entry moment log_index (bodies.RemoveAck host service) =
-      let event = object_event_of table moment log_index (bodies.RemoveAck host service) in
-      each_option Adds (clearing_by before event) (cleared before event)
-  body_adds before entry moment log_index (bodies.Schedule host service starts ends fixed trigger lasts author text) =
-      each_option Adds _ (added host service (source.Downtime entry) false log_index)
-  body_adds before entry moment log_index (bodies.DelDowntime kind id) = tt
-  body_adds before entry moment log_index (bodies.Passive host service on) = tt
-  body_adds before entry moment log_index (bodies.ScheduleServices host starts ends fixed trigger lasts author text) =
+
+  act_adds : (before : List ObjectEvent) (entry : ℕ) (moment : Moment) (log_index : ℕ) (act : Act)
+      → AllByRecursion Adds (comment_events_of table before entry moment log_index act)
+  act_adds before entry moment log_index (acts.On host service deed) =
+      each_found P Adds (comment_events_of_deed before entry moment log_index deed) (deed_adds before entry moment log_index deed)
+      (object_of table host service) (object_is host service)
+  act_adds before entry moment log_index (acts.ScheduleServices host span) =
       each_reverse Adds _ (added_each log_index entry (services_of table host) (services_are host))
-  body_adds before entry moment log_index bodies.Shutdown = tt
+  act_adds before entry moment log_index (acts.DelComment kind id) = (tt, tt)
+  act_adds before entry moment log_index act = tt
 
   events_add : (judgements : List Judged) → AllByRecursion Adds (comment_events table judgements)
   events_add [] = tt
   events_add (judgement ∷ before) =
-      let body = judgement.applied.item.body in
+      let act = act_of judgement.applied.item.body in
       each_append Adds (comment_events_of_record table before judgement) (comment_events table before)
       (all_if Adds (is_accepted judgement.outcome) _
-      (body_adds (object_events table before) (next_entry table before) judgement.applied.moment judgement.log_index body))
+      (act_adds (object_events table before) (next_entry table before) judgement.applied.moment judgement.log_index act))
       (events_add before)
 
   kept_one : (removed : Bool) (comment : Comment) → P comment.object
@@ -133,35 +121,31 @@ module _ (table : List ObjectLine) (P : ObjectId → Type 0)
   transition_made before (Some (object.RemoveAck place)) = tt
   transition_made before (Some (object.Passive place on)) = tt
 
-  body_schedules : (before : List ObjectEvent) (moment : Moment) (log_index : ℕ) (body : Body)
-      → AllByRecursion Schedules (downtime_events_of_body table before moment log_index body)
-  body_schedules before moment log_index (bodies.Result host service code output) =
-      let event = object_event_of table moment log_index (bodies.Result host service code output) in
+  deed_schedules : (before : List ObjectEvent) (moment : Moment) (log_index : ℕ) (deed : Deed) (found : ObjectId) → P found
+      → AllByRecursion Schedules (downtime_events_of_deed before moment log_index deed found)
+  deed_schedules before moment log_index (deeds.Schedule span) found here = (here, tt)
+  deed_schedules before moment log_index deed found here =
+      let event = object_event_of_deed moment log_index deed found in
       each_option Schedules (transition_by before event) (transition_made before event)
-  body_schedules before moment log_index (bodies.AddComment host service persistent author text) = tt
-  body_schedules before moment log_index (bodies.DelComment kind id) = tt
-  body_schedules before moment log_index (bodies.DelAllComments host service) = tt
-  body_schedules before moment log_index (bodies.Acknowledge host service sticky notify persistent author text) = tt
-  body_schedules before moment log_index (bodies.RemoveAck host service) = tt
-  body_schedules before moment log_index (bodies.Schedule host service starts ends fixed trigger lasts author text) =
-      let plan = plan_of starts ends fixed trigger lasts log_index in
-      each_option Schedules _
-      (made_of P Schedules (λ found. downtime.Schedule moment found plan) (λ found here. here) (object_of table host service) (object_is host service))
-  body_schedules before moment log_index (bodies.DelDowntime kind id) = (tt, tt)
-  body_schedules before moment log_index (bodies.Passive host service on) = tt
-  body_schedules before moment log_index (bodies.ScheduleServices host starts ends fixed trigger lasts author text) =
-      let plan = plan_of starts ends fixed trigger lasts log_index in
+
+  act_schedules : (before : List ObjectEvent) (moment : Moment) (log_index : ℕ) (act : Act)
+      → AllByRecursion Schedules (downtime_events_of table before moment log_index act)
+  act_schedules before moment log_index (acts.On host service deed) =
+      each_found P Schedules (downtime_events_of_deed before moment log_index deed) (deed_schedules before moment log_index deed)
+      (object_of table host service) (object_is host service)
+  act_schedules before moment log_index (acts.ScheduleServices host span) =
       each_reverse Schedules _
-      (each_map P Schedules (λ service. downtime.Schedule moment service plan) (λ service here. here) (services_of table host) (services_are host))
-  body_schedules before moment log_index bodies.Shutdown = tt
+      (each_map P Schedules (λ service. downtime.Schedule moment service (plan_of span log_index)) (λ service here. here) (services_of table host) (services_are host))
+  act_schedules before moment log_index (acts.DelDowntime kind id) = (tt, tt)
+  act_schedules before moment log_index act = tt
 
   events_schedule : (judgements : List Judged) → AllByRecursion Schedules (downtime_events table judgements)
   events_schedule [] = tt
   events_schedule (judgement ∷ before) =
-      let body = judgement.applied.item.body in
+      let act = act_of judgement.applied.item.body in
       each_append Schedules (downtime_events_of_record table before judgement) (downtime_events table before)
       (all_if Schedules (is_accepted judgement.outcome) _
-      (body_schedules (object_events table before) judgement.applied.moment judgement.log_index body))
+      (act_schedules (object_events table before) judgement.applied.moment judgement.log_index act))
       (events_schedule before)
 
   in_each : (events : List DowntimeEvent) → AllByRecursion Schedules events

@@ -11,7 +11,8 @@ use Rattle.gate_model.specs.declared.submission.Body.TheVariants.{Result, AddCom
 use Rattle.gate_model.specs.Escaping.{escaped}
 use Rattle.gate_model.specs.State.{is_same_state, state_of_code}
 use Rattle.gate_model.specs.Table.{greatest, object_kind}
-use Rattle.gate_model.specs.Meaning.{is_persistent, is_sticky, plan_of}
+use Rattle.gate_model.specs.Act.{is_persistent, is_sticky, span_of}
+use Rattle.gate_model.specs.Meaning.{plan_of}
 use Rattle.status_reading.specs.declared.rows.ShownAcknowledgement.{ShownAcknowledgement}
 use Rattle.status_reading.specs.declared.rows.ShownAcknowledgement.TheVariants.{Missing, Normal, Sticky}
 use Rattle.status_reading.specs.declared.rows.ShownSource.{ShownSource}
@@ -145,11 +146,11 @@ shows (Acknowledge host service sticky notify persistent author text) before aft
 shows (RemoveAck host service) before after =
     is_row (λ row. is_missing row.acknowledgement) (row_with (shown_names host service) after.objects)
 shows (Schedule host service starts ends fixed trigger lasts author text) before after =
-    has_entry (last_entry before) (shown_names host service) (plan_of starts ends fixed trigger lasts 0)
+    has_entry (last_entry before) (shown_names host service) (plan_of (span_of starts ends fixed trigger lasts) 0)
     (shown_words author text) after.downtimes
 shows (DelDowntime kind id) before after = has_no_entry id after.downtimes
 shows (Passive host service on) before after = false
 shows (ScheduleServices host starts ends fixed trigger lasts author text) before after =
-    has_entries (last_entry before) (escaped host) (plan_of starts ends fixed trigger lasts 0)
+    has_entries (last_entry before) (escaped host) (plan_of (span_of starts ends fixed trigger lasts) 0)
     (shown_words author text) before.objects after.downtimes
 shows Shutdown before after = is_some after.closing

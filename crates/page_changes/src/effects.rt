@@ -5,7 +5,8 @@ ghost use Rattle.std.specs.Option.{option_map};
 ghost use Rattle.gate_model.specs.Table.{greatest, object_kind};
 ghost use Rattle.gate_model.specs.Escaping.{escaped};
 ghost use Rattle.gate_model.specs.State.{is_same_state, state_of_code};
-ghost use Rattle.gate_model.specs.Meaning.{is_persistent, is_sticky, plan_of};
+ghost use Rattle.gate_model.specs.Act.{is_persistent, is_sticky, span_of};
+ghost use Rattle.gate_model.specs.Meaning.{plan_of};
 ghost use Rattle.status_reading.specs.Rows.{CommentView, DowntimeView, object_view, comment_view, downtime_view, page_view};
 ghost use Rattle.page_changes.specs.Names.{row_with, shown_names};
 ghost use Rattle.page_changes.specs.Shows.{is_same, is_from, is_missing, is_made, last_comment, last_entry, shown_words, has_words, is_comment, has_comment, is_planned, has_entry, has_entries, has_no_comment, has_no_entry, has_none_of, is_since, has_result, is_row, shows};
@@ -267,7 +268,7 @@ fn kind_of(service: &Option<Text>) -> Kind
 
 /// What a downtime command asks for; no page shows its log index.
 fn plan_of(starts: Moment, ends: Moment, fixed: u32, trigger: u32, lasts: u32) -> Plan
-    ensures { result ≡ plan_of starts ends fixed trigger lasts 0 }
+    ensures { result ≡ plan_of (span_of starts ends fixed trigger lasts) 0 }
 {
     Plan {
         starts,

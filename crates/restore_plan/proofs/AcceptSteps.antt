@@ -1,7 +1,7 @@
 -- A gateway that applies such commands at one moment accepts each, but maybe an acknowledgement.
 use Rattle.std.proofs.Common.{◌≡◌, ℕ, ℤ, ◌+◌, ◌<◌, ◌≤◌, Bool, true, false, cond, List, [], ◌∷◌, ◌++◌, length, reverse, max, refl, sym, ap, ◌∙◌, subst, arith, append_assoc}
-use Rattle.std.specs.Prelude.{not, ◌&&◌, ◌||◌, ◌==◌, nat_lt, nat_le, Option, Some, None, is_some, option_map, if◌then◌else◌}
-use Rattle.std.specs.Option.{option_to_list}
+use Rattle.std.specs.Prelude.{not, ◌&&◌, ◌||◌, ◌==◌, nat_lt, nat_le, Option, Some, None, is_some, option_map, unwrap_or, if◌then◌else◌}
+use Rattle.std.specs.Option.{option_to_list, option_and_then}
 use Rattle.std.proofs.lemmas.Bool.{or_parts, leb-false}
 use Rattle.std.proofs.lemmas.List.{reverse-append, append-nil}
 use Rattle.gate_model.specs.declared.record.Moment.{Moment}
@@ -16,6 +16,13 @@ use Rattle.gate_model.specs.declared.status.ObjectEvent.{ObjectEvent}
 use Rattle.gate_model.specs.declared.status.ObjectEvent.TheVariants as object
 use Rattle.gate_model.specs.declared.state.State.{State}
 use Rattle.gate_model.specs.declared.state.State.TheVariants.{Pending}
+use Rattle.gate_model.specs.declared.act.Span.{Span}
+use Rattle.gate_model.specs.declared.act.Deed.{Deed}
+use Rattle.gate_model.specs.declared.act.Deed.TheVariants as deeds
+use Rattle.gate_model.specs.declared.act.Act.{Act}
+use Rattle.gate_model.specs.declared.act.Act.TheVariants as acts
+use Rattle.gate_model.specs.Act.{act_of, span_of, is_sticky, is_persistent}
+use Rattle.gate_model.specs.declared.object.Kind.{Kind}
 use Rattle.gate_model.specs.declared.submission.Body.{Body}
 use Rattle.gate_model.specs.declared.submission.Body.TheVariants as bodies
 use Rattle.gate_model.specs.Record.{is_accepted}
@@ -24,7 +31,7 @@ use Rattle.gate_model.specs.State.{state_of_code, is_problem}
 use Rattle.gate_model.specs.Table.{place_of, object_kind, object_at}
 use Rattle.gate_table.specs.Faults.{IsFaultless}
 use Rattle.gate_model.specs.Downtime.{scheduled_in}
-use Rattle.gate_model.specs.Meaning.{Judged, object_event, object_events, transition_by, plan_of, is_sticky, downtime_events_of_body, downtime_events, is_live_after, outcome_at_place, outcome_for, outcome_of_window, outcome_at, outcome_after, outcomes_of, judgement_of, judged}
+use Rattle.gate_model.specs.Meaning.{Judged, object_event_of_deed, object_event_of, object_event, object_events, transition_by, plan_of, downtime_events_of_deed, downtime_events_of, downtime_events, is_live_after, outcome_at_place, outcome_for, outcome_of_window, outcome_at, outcome_after, outcomes_of, judgement_of, judged}
 use Rattle.gate_table.proofs.Hosts.{has_object-host}
 use Rattle.gate_model.proofs.Lists.{position_from-push}
 use Rattle.gate_model.proofs.MeaningSteps.{outcomes_of-append}
@@ -157,7 +164,7 @@ schedules live now starts ends fixed trigger lasts window low =
 -- the outcome of the next command
 one : (fresh : List ObjectLine) (now : Moment) (sure : Bool) (shown : ℕ → State) (others : Bool) (count : ℕ) (before : List Judged) (body : Body) (rest : List Body)
     → IsFaultless fresh → IsAfter fresh now shown others count before → IsApt fresh now sure shown others count (body ∷ rest)
-    → (is_acknowledgement body ≡ true → sure ≡ true) → is_accepted (outcome_at fresh before now body) ≡ true
+    → (is_acknowledgement body ≡ true → sure ≡ true) → is_accepted (outcome_at fresh before now (act_of body)) ≡ true
 unfolding IsApt
 one fresh now sure shown others count before (bodies.Result host service code output) rest good after apt is =
     accepted_for fresh host service (λ place. if is_passive place (object_events fresh before) then Accepted else PassiveDisabled)
@@ -211,25 +218,36 @@ unchanged fresh now shown others count before judgement is same after = record {
   states = λ place. same place ∙ after.states place;
 }
 
--- the state of an object, where a command is no result
-uneventful : (place : ℕ) (history : List ObjectEvent) (accepted : Bool)
-    → state_of place (option_to_list (if accepted then None else None) ++ history) ≡ state_of place history
-uneventful place history true = refl
-uneventful place history false = refl
+-- it is a result
+abbrev is_report : Deed → Bool
+is_report (deeds.Result code) = true
+is_report _ = false
 
-acknowledged : (place : ℕ) (history : List ObjectEvent) (accepted sticky : Bool) (index : ℕ) (at : Option ℕ)
-    → state_of place (option_to_list (if accepted then option_map (λ found. object.Acknowledge found sticky index) at else None) ++ history)
+-- the state of an object, where a deed is no result
+undisturbed : (place : ℕ) (history : List ObjectEvent) (moment : Moment) (index : ℕ) (deed : Deed) (kind : Kind) (accepted : Bool) (at : Option ℕ) → is_report deed ≡ false
+    → state_of place (option_to_list (if accepted then option_and_then (object_event_of_deed moment index deed) (option_map (object_at kind) at) else None) ++ history)
     ≡ state_of place history
-acknowledged place history true sticky index None = refl
-acknowledged place history true sticky index (Some found) = refl
-acknowledged place history false sticky index at = refl
+undisturbed place history moment index deed kind false at other = refl
+undisturbed place history moment index deed kind true None other = refl
+undisturbed place history moment index (deeds.Result code) kind true (Some found) other = absurd cc
+undisturbed place history moment index deed kind true (Some found) other = refl
 
-switched : (place : ℕ) (history : List ObjectEvent) (accepted on : Bool) (at : Option ℕ)
-    → state_of place (option_to_list (if accepted then option_map (λ found. object.Passive found on) at else None) ++ history)
-    ≡ state_of place history
-switched place history true on None = refl
-switched place history true on (Some found) = refl
-switched place history false on at = refl
+-- it neither is a result nor schedules downtime
+abbrev is_quiet : Deed → Bool
+is_quiet (deeds.Result code) = false
+is_quiet (deeds.Schedule span) = false
+is_quiet _ = true
+
+no_report : (deed : Deed) → is_quiet deed ≡ true → is_report deed ≡ false
+no_report (deeds.Result code) still = cc
+no_report deed still = refl
+
+no_entries : (before : List ObjectEvent) (moment : Moment) (index : ℕ) (deed : Deed) (kind : Kind) (at : Option ℕ) → is_quiet deed ≡ true
+    → unwrap_or (option_map (downtime_events_of_deed before moment index deed) (option_map (object_at kind) at)) [] ≡ []
+no_entries before moment index deed kind None still = refl
+no_entries before moment index (deeds.Result code) kind (Some found) still = absurd cc
+no_entries before moment index (deeds.Schedule span) kind (Some found) still = absurd cc
+no_entries before moment index deed kind (Some found) still = refl
 
 transition_in : (now : Moment) (old : List DowntimeEvent) (test : Bool) (moment : Moment) (place : ℕ)
     → AreTimely now old → length (scheduled_in 1 old) ≡ 0
@@ -252,12 +270,12 @@ record AreStill (now : Moment) (old events : List DowntimeEvent) : Type 0 where
 still_none : (now : Moment) (old : List DowntimeEvent) → AreTimely now old → AreStill now old []
 still_none now old timely = record { timely = timely; counted = refl }
 
-result_events : (now : Moment) (old : List DowntimeEvent) (before : List ObjectEvent) (state : State) (moment : Moment) (index : ℕ) (place : Option ℕ)
+result_events : (now : Moment) (old : List DowntimeEvent) (before : List ObjectEvent) (kind : Kind) (code : ℤ) (moment : Moment) (index : ℕ) (place : Option ℕ)
     → AreTimely now old → length (scheduled_in 1 old) ≡ 0
-    → AreStill now old (option_to_list (transition_by before (option_map (λ at. object.Result at state moment index) place)))
-result_events now old before state moment index None timely none = still_none now old timely
-result_events now old before state moment index (Some at) timely none =
-    let test = is_transition at (object.Result at state moment index) before in
+    → AreStill now old (unwrap_or (option_map (downtime_events_of_deed before moment index (deeds.Result code)) (option_map (object_at kind) place)) [])
+result_events now old before kind code moment index None timely none = still_none now old timely
+result_events now old before kind code moment index (Some at) timely none =
+    let test = is_transition at (object.Result at (state_of_code kind code) moment index) before in
     record {
       timely = transition_in now old test moment at timely none;
       counted = transition_count old test moment at;
@@ -268,12 +286,12 @@ if_still : (now : Moment) (old events : List DowntimeEvent) (accepted : Bool) �
 if_still now old events true timely still = still
 if_still now old events false timely still = still_none now old timely
 
-still_passive : (place : ℕ) (history : List ObjectEvent) (accepted : Bool) (state : State) (moment : Moment) (index : ℕ) (at : Option ℕ)
+still_passive : (place : ℕ) (history : List ObjectEvent) (accepted : Bool) (kind : Kind) (code : ℤ) (moment : Moment) (index : ℕ) (at : Option ℕ)
     → is_passive place history ≡ true
-    → is_passive place (option_to_list (if accepted then option_map (λ found. object.Result found state moment index) at else None) ++ history) ≡ true
-still_passive place history true state moment index None on = on
-still_passive place history true state moment index (Some found) on = on
-still_passive place history false state moment index at on = on
+    → is_passive place (option_to_list (if accepted then option_and_then (object_event_of_deed moment index (deeds.Result code)) (option_map (object_at kind) at) else None) ++ history) ≡ true
+still_passive place history true kind code moment index None on = on
+still_passive place history true kind code moment index (Some found) on = on
+still_passive place history false kind code moment index at on = on
 
 pub more_events : (fresh : List ObjectLine) (judgement : Judged) (before : List Judged) (found : Option ObjectEvent)
     → object_event fresh judgement ≡ found → object_events fresh (judgement ∷ before) ≡ option_to_list found ++ object_events fresh before
@@ -283,19 +301,19 @@ more_events fresh judgement before (Some event) is = rw is
 -- the state of an object after a result
 resulted : (fresh : List ObjectLine) (place : ℕ) (host : List ℕ) (service : Option (List ℕ)) (code : ℤ) (output : List ℕ) (moment : Moment) (index : ℕ) (history : List ObjectEvent) (accepted : Bool)
     → accepted ≡ true
-    → state_of place (option_to_list (if accepted then option_map (λ found. object.Result found (state_of_code (object_kind service) code) moment index) (place_of fresh host service) else None) ++ history)
+    → state_of place (option_to_list (if accepted then object_event_of fresh moment index (acts.On host service (deeds.Result code)) else None) ++ history)
     ≡ state_by fresh place (bodies.Result host service code output) (state_of place history)
 resulted fresh place host service code output moment index history false is = absurd cc
 resulted fresh place host service code output moment index history true is = at (place_of fresh host service)
   where
     at : (found : Option ℕ)
-        → state_of place (option_to_list (option_map (λ one. object.Result one (state_of_code (object_kind service) code) moment index) found) ++ history)
+        → state_of place (option_to_list (option_and_then (object_event_of_deed moment index (deeds.Result code)) (option_map (object_at (object_kind service)) found)) ++ history)
         ≡ (if is_at place found then state_of_code (object_kind service) code else state_of place history)
     at None = refl
     at (Some one) = state_of-result place one (state_of_code (object_kind service) code) moment index history
 
 after_result : (fresh : List ObjectLine) (now : Moment) (shown : ℕ → State) (count number : ℕ) (before : List Judged) (host : List ℕ) (service : Option (List ℕ)) (code : ℤ) (output : List ℕ)
-    → is_accepted (outcome_at fresh before now (bodies.Result host service code output)) ≡ true → IsAfter fresh now shown false count before
+    → is_accepted (outcome_at fresh before now (acts.On host service (deeds.Result code))) ≡ true → IsAfter fresh now shown false count before
     → IsAfter fresh now (λ place. state_by fresh place (bodies.Result host service code output) (shown place)) false count
     (judgement_of fresh before (applied now number (bodies.Result host service code output)) ∷ before)
 after_result fresh now shown count number before host service code output good after =
@@ -304,8 +322,8 @@ after_result fresh now shown count number before host service code output good a
     let judgement = judgement_of fresh before (applied now number body) in
     let accepted = is_accepted judgement.outcome in
     let zero : length (scheduled_in 1 old) ≡ 0 = after.counted ∙ after.none refl in
-    let still = if_still now old (downtime_events_of_body fresh (object_events fresh before) now (length before) body) accepted after.timely (
-    result_events now old (object_events fresh before) (state_of_code (object_kind service) code) now (length before) (place_of fresh host service) after.timely zero
+    let still = if_still now old (downtime_events_of fresh (object_events fresh before) now (length before) (act_of body)) accepted after.timely (
+    result_events now old (object_events fresh before) (object_kind service) code now (length before) (place_of fresh host service) after.timely zero
     ) in
     record {
       timely = still.timely;
@@ -313,13 +331,33 @@ after_result fresh now shown count number before host service code output good a
       none = after.none;
       enabled = λ not_yet place.
           ap (is_passive place) (more_events fresh judgement before (object_event fresh judgement) refl)
-          ∙ still_passive place (object_events fresh before) accepted (state_of_code (object_kind service) code) now (length before)
+          ∙ still_passive place (object_events fresh before) accepted (object_kind service) code now (length before)
           (place_of fresh host service) (after.enabled refl place);
       states = λ place.
           ap (state_of place) (more_events fresh judgement before (object_event fresh judgement) refl)
           ∙ resulted fresh place host service code output now (length before) (object_events fresh before) accepted good
           ∙ ap (state_by fresh place body) (after.states place);
     }
+
+-- a command that neither is a result nor schedules downtime
+quietly : (fresh : List ObjectLine) (now : Moment) (shown : ℕ → State) (others : Bool) (count number : ℕ) (before : List Judged) (body : Body) (host : List ℕ) (service : Option (List ℕ)) (deed : Deed)
+    → act_of body ≡ acts.On host service deed → is_quiet deed ≡ true → IsAfter fresh now shown others count before
+    → IsAfter fresh now shown true count (judgement_of fresh before (applied now number body) ∷ before)
+quietly fresh now shown others count number before body host service deed asks still after =
+    let judgement = judgement_of fresh before (applied now number body) in
+    let accepted = is_accepted judgement.outcome in
+    let objects = object_events fresh before in
+    let old = downtime_events fresh before in
+    unchanged fresh now shown others count before judgement
+    (ap (λ (act : Act). (if accepted then downtime_events_of fresh objects now (length before) act else []) ++ old) asks
+    ∙ ap (λ none. none ++ old)
+    (quiet accepted (downtime_events_of fresh objects now (length before) (acts.On host service deed))
+    (no_entries objects now (length before) deed (object_kind service) (place_of fresh host service) still)))
+    (λ place.
+    ap (state_of place) (more_events fresh judgement before (object_event fresh judgement) refl)
+    ∙ ap (λ (act : Act). state_of place (option_to_list (if accepted then object_event_of fresh now (length before) act else None) ++ objects)) asks
+    ∙ undisturbed place objects now (length before) deed (object_kind service) accepted (place_of fresh host service) (no_report deed still))
+    after
 
 -- an accepted command schedules its entry
 one_more : (fresh : List ObjectLine) (now : Moment) (sure : Bool) (shown : ℕ → State) (others : Bool) (count number : ℕ) (before : List Judged) (host : List ℕ) (service : Option (List ℕ)) (starts ends : Moment) (fixed trigger lasts : ℕ) (author text : List ℕ) (rest : List Body)
@@ -335,6 +373,9 @@ one_more fresh now sure shown others count number before host service starts end
     body : Body
     body = bodies.Schedule host service starts ends fixed trigger lasts author text
 
+    span : Span
+    span = span_of starts ends fixed trigger lasts
+
     judgement : Judged
     judgement = judgement_of fresh before (applied now number body)
 
@@ -345,10 +386,10 @@ one_more fresh now sure shown others count number before host service starts end
     window = opens now starts ends fixed trigger lasts apt.1
 
     added : (found : ObjectId) → downtime_events fresh (judgement ∷ before)
-        ≡ downtime.Schedule now found (plan_of starts ends fixed trigger lasts (length before)) ∷ old
+        ≡ downtime.Schedule now found (plan_of span (length before)) ∷ old
         → IsAfter fresh now shown true (count + 1) (judgement ∷ before)
     added found is =
-        let timely : AreTimely now (downtime.Schedule now found (plan_of starts ends fixed trigger lasts (length before)) ∷ old) =
+        let timely : AreTimely now (downtime.Schedule now found (plan_of span (length before)) ∷ old) =
         (refl, window.later, omega (arith, apt.2, after.counted), window.duration, after.timely) in
         record {
           timely = subst (AreTimely now) (sym is) timely;
@@ -357,7 +398,7 @@ one_more fresh now sure shown others count number before host service starts end
           enabled = λ not_yet. absurd cc;
           states = λ place.
               ap (state_of place) (more_events fresh judgement before (object_event fresh judgement) refl)
-              ∙ uneventful place (object_events fresh before) (is_accepted judgement.outcome)
+              ∙ undisturbed place (object_events fresh before) now (length before) (deeds.Schedule span) (object_kind service) (is_accepted judgement.outcome) (place_of fresh host service) refl
               ∙ after.states place;
         }
 
@@ -366,11 +407,12 @@ one_more fresh now sure shown others count number before host service starts end
     scheduled None is some = absurd cc
     scheduled (Some place) is some =
         let found = object_at (object_kind service) place in
-        let plan = plan_of starts ends fixed trigger lasts (length before) in
+        let objects = object_events fresh before in
+        let made = downtime_events_of_deed objects now (length before) (deeds.Schedule span) in
         added found (
-        ap (λ (accepted : Bool). (if accepted then downtime_events_of_body fresh (object_events fresh before) now (length before) body else []) ++ old)
+        ap (λ (accepted : Bool). (if accepted then downtime_events_of fresh objects now (length before) (act_of body) else []) ++ old)
         (one fresh now sure shown others count before body rest good after apt (λ same. absurd cc))
-        ∙ ap (λ at. option_to_list (option_map (λ one. downtime.Schedule now one plan) (option_map (object_at (object_kind service)) at)) ++ old) is
+        ∙ ap (λ at. unwrap_or (option_map made (option_map (object_at (object_kind service)) at)) [] ++ old) is
         )
 
 -- ---- all commands
@@ -394,7 +436,7 @@ reversed now number newer (body ∷ rest) =
 all : (fresh : List ObjectLine) (now : Moment) (sure : Bool) (shown : ℕ → State) (others : Bool) (count number : ℕ) (newer : List Record) (before : List Body) (body : Body) (rest : List Body)
     → IsFaultless fresh → IsAfter fresh now shown others count (judged fresh newer) → IsApt fresh now sure shown others count (before ++ body ∷ rest)
     → (is_acknowledgement body ≡ true → sure ≡ true)
-    → is_accepted (outcome_at fresh (judged fresh (history now number newer before)) now body) ≡ true
+    → is_accepted (outcome_at fresh (judged fresh (history now number newer before)) now (act_of body)) ≡ true
 unfolding IsApt history
 all fresh now sure shown others count number newer [] body rest good after apt is =
     one fresh now sure shown others count (judged fresh newer) body rest good after apt is
@@ -407,30 +449,14 @@ all fresh now sure shown others count number newer (bodies.Result host service c
     (after_result fresh now shown count number (judged fresh newer) host service code output accepted results) apt.2 is
 all fresh now sure shown others count number newer (bodies.AddComment host service persistent author text ∷ before) body rest good after apt is =
     let first : Body = bodies.AddComment host service persistent author text in
-    let before_it = judged fresh newer in
-    let judgement = judgement_of fresh before_it (applied now number first) in
-    let accepted = is_accepted judgement.outcome in
     all fresh now sure shown true count (number + 1) (applied now number first ∷ newer) before body rest good
-    (unchanged fresh now shown others count before_it judgement
-    (ap (λ none. none ++ downtime_events fresh before_it) (quiet accepted [] refl))
-    (λ place.
-    ap (state_of place) (more_events fresh judgement before_it (object_event fresh judgement) refl)
-    ∙ uneventful place (object_events fresh before_it) accepted)
-    after) apt.1 is
+    (quietly fresh now shown others count number (judged fresh newer) first host service (deeds.AddComment (is_persistent persistent)) refl refl after) apt.1 is
 all fresh now sure shown others count number newer (bodies.DelComment kind id ∷ before) body rest good after apt is = absurd apt
 all fresh now sure shown others count number newer (bodies.DelAllComments host service ∷ before) body rest good after apt is = absurd apt
 all fresh now sure shown others count number newer (bodies.Acknowledge host service sticky notify persistent author text ∷ before) body rest good after apt is =
     let first : Body = bodies.Acknowledge host service sticky notify persistent author text in
-    let before_it = judged fresh newer in
-    let judgement = judgement_of fresh before_it (applied now number first) in
-    let accepted = is_accepted judgement.outcome in
     all fresh now sure shown true count (number + 1) (applied now number first ∷ newer) before body rest good
-    (unchanged fresh now shown others count before_it judgement
-    (ap (λ none. none ++ downtime_events fresh before_it) (quiet accepted [] refl))
-    (λ place.
-    ap (state_of place) (more_events fresh judgement before_it (object_event fresh judgement) refl)
-    ∙ acknowledged place (object_events fresh before_it) accepted (is_sticky sticky) (length before_it) (place_of fresh host service))
-    after) apt.1 is
+    (quietly fresh now shown others count number (judged fresh newer) first host service (deeds.Acknowledge (is_sticky sticky) (is_persistent persistent)) refl refl after) apt.1 is
 all fresh now sure shown others count number newer (bodies.RemoveAck host service ∷ before) body rest good after apt is = absurd apt
 all fresh now sure shown others count number newer (bodies.Schedule host service starts ends fixed trigger lasts author text ∷ before) body rest good after apt is =
     let first : Body = bodies.Schedule host service starts ends fixed trigger lasts author text in
@@ -440,16 +466,8 @@ all fresh now sure shown others count number newer (bodies.Schedule host service
 all fresh now sure shown others count number newer (bodies.DelDowntime kind id ∷ before) body rest good after apt is = absurd apt
 all fresh now sure shown others count number newer (bodies.Passive host service on ∷ before) body rest good after apt is =
     let first : Body = bodies.Passive host service on in
-    let before_it = judged fresh newer in
-    let judgement = judgement_of fresh before_it (applied now number first) in
-    let accepted = is_accepted judgement.outcome in
     all fresh now sure shown true count (number + 1) (applied now number first ∷ newer) before body rest good
-    (unchanged fresh now shown others count before_it judgement
-    (ap (λ none. none ++ downtime_events fresh before_it) (quiet accepted [] refl))
-    (λ place.
-    ap (state_of place) (more_events fresh judgement before_it (object_event fresh judgement) refl)
-    ∙ switched place (object_events fresh before_it) accepted on (place_of fresh host service))
-    after) apt.1 is
+    (quietly fresh now shown others count number (judged fresh newer) first host service (deeds.Passive on) refl refl after) apt.1 is
 all fresh now sure shown others count number newer (bodies.ScheduleServices host starts ends fixed trigger lasts author text ∷ before) body rest good after apt is =
     absurd apt
 all fresh now sure shown others count number newer (bodies.Shutdown ∷ before) body rest good after apt is = absurd apt
@@ -473,7 +491,7 @@ accepts fresh now sure commands before body after good apt whole is =
     } in
     let records : reverse (records_from now 1 before) ≡ history now 1 [] before =
     sym (append-nil (reverse (records_from now 1 before))) ∙ reversed now 1 [] before in
-    ap (λ (newest : List Record). is_accepted (outcome_at fresh (judged fresh newest) now body)) records
+    ap (λ (newest : List Record). is_accepted (outcome_at fresh (judged fresh newest) now (act_of body))) records
     ∙ all fresh now sure all_pending false 0 1 [] before body after good begun (subst (IsApt fresh now sure all_pending false 0) whole apt) is
 
 pub accepts_others : (fresh : List ObjectLine) (now : Moment) (commands : List Body) → IsFaultless fresh

@@ -2,12 +2,14 @@
 -- record.
 use Rattle.std.proofs.Common.{◌≡◌, ℕ, zero, suc, ℤ, ◌+◌, ◌==◌, Bool, true, false, cond, not, ◌&&◌, ◌||◌, List, [], ◌∷◌, ◌++◌, length, reverse, Option, Some, None, refl, sym, ap, ◌∙◌, subst, arith}
 use Rattle.std.specs.Prelude.{slice_get, option_map, is_some, if◌then◌else◌}
-use Rattle.std.specs.Option.{option_to_list}
+use Rattle.std.specs.Option.{option_to_list, option_and_then}
 use Rattle.std.proofs.lemmas.List.{reverse-append, reverse-reverse, length-reverse}
 use Rattle.gate_model.specs.declared.record.Moment.{Moment}
 use Rattle.gate_model.specs.declared.record.Record.{Record}
 use Rattle.gate_model.specs.declared.record.Outcome.{Outcome}
 use Rattle.gate_model.specs.declared.record.Outcome.TheVariants.{Accepted, NoSuchHost, NoProblem}
+use Rattle.gate_model.specs.declared.object.Kind.{Kind}
+use Rattle.gate_model.specs.declared.object.ObjectId.{ObjectId}
 use Rattle.gate_model.specs.declared.object.ObjectLine.{ObjectLine}
 use Rattle.gate_model.specs.declared.state.State.{State}
 use Rattle.gate_model.specs.declared.status.ObjectEvent.{ObjectEvent}
@@ -16,11 +18,16 @@ use Rattle.gate_model.specs.declared.status.CheckResult.{CheckResult}
 use Rattle.gate_model.specs.declared.status.Acknowledgement.{Acknowledgement}
 use Rattle.gate_model.specs.declared.submission.Body.{Body}
 use Rattle.gate_model.specs.declared.submission.Body.TheVariants as bodies
+use Rattle.gate_model.specs.declared.act.Deed.{Deed}
+use Rattle.gate_model.specs.declared.act.Deed.TheVariants as deeds
+use Rattle.gate_model.specs.declared.act.Act.{Act}
+use Rattle.gate_model.specs.declared.act.Act.TheVariants as acts
+use Rattle.gate_model.specs.Act.{act_of}
 use Rattle.gate_model.specs.Record.{is_accepted}
 use Rattle.gate_model.specs.State.{state_of_code, is_problem}
 use Rattle.gate_model.specs.Status.{last_result, state_of, acknowledgement_of, is_change}
-use Rattle.gate_model.specs.Table.{place_of, object_kind, has_object}
-use Rattle.gate_model.specs.Meaning.{Judged, object_event_of, object_event, object_events, outcome_at_place, outcome_at, judgement_of, judged, last_result_at, state_at, acknowledgement_at}
+use Rattle.gate_model.specs.Table.{place_of, object_of, object_kind, object_at, has_object}
+use Rattle.gate_model.specs.Meaning.{Judged, object_event_of_deed, object_event_of, object_event, object_events, outcome_at_place, outcome_at, judgement_of, judged, last_result_at, state_at, acknowledgement_at}
 use Rattle.gate_model.proofs.Lists.{none_is_not_some}
 use Rattle.gate_model.proofs.ObjectSteps.{kept_by, last_result-result, state_of-result, acknowledgement_of-result, acknowledgement_of-remove, acknowledgement_of-acknowledge, acknowledgement_of-passive}
 use Rattle.restore_plan.proofs.AcceptSteps.{more_events}
@@ -79,13 +86,13 @@ after_acknowledge place at sticky index before own known made is =
     (sym (acknowledgement_of-acknowledge place at sticky index before) ∙ is)
 
 -- an accepted acknowledgement is one of a problem
-judged_case : (has : Bool) (at : Option ℕ) (problem : ℕ → Bool) (given sticky : Bool) (number index place : ℕ)
+judged_case : (has : Bool) (at : Option ℕ) (problem : ℕ → Bool) (kind : Kind) (given sticky : Bool) (number index place : ℕ)
     → (if is_accepted (if has then outcome_at_place (λ found. if problem found then Accepted else NoProblem) at else NoSuchHost)
-    then option_map (λ found. object.Acknowledge found given number) at else None) ≡ Some (object.Acknowledge place sticky index)
+    then option_and_then (λ (found : ObjectId). Some (object.Acknowledge found.place given number)) (option_map (object_at kind) at) else None) ≡ Some (object.Acknowledge place sticky index)
     → problem place ≡ true
-judged_case false at problem given sticky number index place is = absurd cc
-judged_case true None problem given sticky number index place is = absurd cc
-judged_case true (Some found) problem given sticky number index place is = pick (problem found) refl is
+judged_case false at problem kind given sticky number index place is = absurd cc
+judged_case true None problem kind given sticky number index place is = absurd cc
+judged_case true (Some found) problem kind given sticky number index place is = pick (problem found) refl is
   where
     pick : (holds : Bool) → problem found ≡ holds
         → (if is_accepted (if holds then Accepted else NoProblem) then Some (object.Acknowledge found given number) else None)
@@ -98,54 +105,42 @@ no_event : (accepted : Bool) (event : ObjectEvent) → (if accepted then None el
 no_event true event is = none_is_not_some event is
 no_event false event is = none_is_not_some event is
 
--- an event that a command makes at its object is what it makes
-made_by : (accepted : Bool) (make : ℕ → ObjectEvent) (at : Option ℕ) (event : ObjectEvent)
-    → (if accepted then option_map make at else None) ≡ Some event → (place : ℕ) × (at ≡ Some place) × (make place ≡ event)
-made_by true make None event is = absurd (none_is_not_some event is)
-made_by true make (Some place) event is = (place, refl, cc)
-made_by false make at event is = absurd (none_is_not_some event is)
+-- an event that a deed makes at its object is what it makes
+made_by : (accepted : Bool) (make : ObjectId → Option ObjectEvent) (kind : Kind) (at : Option ℕ) (event : ObjectEvent)
+    → (if accepted then option_and_then make (option_map (object_at kind) at) else None) ≡ Some event
+    → (place : ℕ) × (at ≡ Some place) × (make (object_at kind place) ≡ Some event)
+made_by true make kind None event is = absurd (none_is_not_some event is)
+made_by true make kind (Some place) event is = (place, refl, is)
+made_by false make kind at event is = absurd (none_is_not_some event is)
 
--- the event of a command
-abbrev event_of : List ObjectLine → List Judged → Moment → Body → Option ObjectEvent
-event_of table before moment body =
-    if is_accepted (outcome_at table before moment body) then object_event_of table moment (length before) body else None
+-- the event of an act
+abbrev event_of : List ObjectLine → List Judged → Moment → Act → Option ObjectEvent
+event_of table before moment act =
+    if is_accepted (outcome_at table before moment act) then object_event_of table moment (length before) act else None
 
-acks_problem : (table : List ObjectLine) (before : List Judged) (moment : Moment) (body : Body) (place : ℕ) (sticky : Bool) (index : ℕ)
-    → event_of table before moment body ≡ Some (object.Acknowledge place sticky index)
+-- it acknowledges a problem
+abbrev is_acknowledge : Deed → Bool
+is_acknowledge (deeds.Acknowledge sticky persistent) = true
+is_acknowledge _ = false
+
+-- no other deed is an acknowledgement
+other_deed : (deed : Deed) (moment : Moment) (number : ℕ) (found : ObjectId) (place : ℕ) (sticky : Bool) (index : ℕ)
+    → is_acknowledge deed ≡ false → object_event_of_deed moment number deed found ≡ Some (object.Acknowledge place sticky index) → ⊥
+other_deed (deeds.Acknowledge given persistent) moment number found place sticky index other is = cc
+other_deed deed moment number found place sticky index other is = cc
+
+acks_problem : (table : List ObjectLine) (before : List Judged) (moment : Moment) (act : Act) (place : ℕ) (sticky : Bool) (index : ℕ)
+    → event_of table before moment act ≡ Some (object.Acknowledge place sticky index)
     → is_problem (state_of place (object_events table before)) ≡ true
-acks_problem table before moment (bodies.Result host service code output) place sticky index is =
-    let made = made_by (is_accepted (outcome_at table before moment (bodies.Result host service code output)))
-    (λ found. object.Result found (state_of_code (object_kind service) code) moment (length before)) (place_of table host service)
-    (object.Acknowledge place sticky index) is in
-    let same = made.2 in
-    absurd cc
-acks_problem table before moment (bodies.AddComment host service persistent author text) place sticky index is =
-    absurd (no_event (is_accepted (outcome_at table before moment (bodies.AddComment host service persistent author text))) (object.Acknowledge place sticky index) is)
-acks_problem table before moment (bodies.DelComment kind id) place sticky index is =
-    absurd (no_event (is_accepted (outcome_at table before moment (bodies.DelComment kind id))) (object.Acknowledge place sticky index) is)
-acks_problem table before moment (bodies.DelAllComments host service) place sticky index is =
-    absurd (no_event (is_accepted (outcome_at table before moment (bodies.DelAllComments host service))) (object.Acknowledge place sticky index) is)
-acks_problem table before moment (bodies.Acknowledge host service sticks notify persistent author text) place sticky index is =
+acks_problem table before moment (acts.On host service (deeds.Acknowledge given persistent)) place sticky index is =
     judged_case (has_object table host None) (place_of table host service) (λ found. is_problem (state_of found (object_events table before)))
-    (sticks == 2) sticky (length before) index place is
-acks_problem table before moment (bodies.RemoveAck host service) place sticky index is =
-    let made = made_by (is_accepted (outcome_at table before moment (bodies.RemoveAck host service)))
-    (λ found. object.RemoveAck found) (place_of table host service) (object.Acknowledge place sticky index) is in
-    let same = made.2 in
-    absurd cc
-acks_problem table before moment (bodies.Schedule host service starts ends fixed trigger lasts author text) place sticky index is =
-    absurd (no_event (is_accepted (outcome_at table before moment (bodies.Schedule host service starts ends fixed trigger lasts author text))) (object.Acknowledge place sticky index) is)
-acks_problem table before moment (bodies.DelDowntime kind id) place sticky index is =
-    absurd (no_event (is_accepted (outcome_at table before moment (bodies.DelDowntime kind id))) (object.Acknowledge place sticky index) is)
-acks_problem table before moment (bodies.Passive host service on) place sticky index is =
-    let made = made_by (is_accepted (outcome_at table before moment (bodies.Passive host service on)))
-    (λ found. object.Passive found on) (place_of table host service) (object.Acknowledge place sticky index) is in
-    let same = made.2 in
-    absurd cc
-acks_problem table before moment (bodies.ScheduleServices host starts ends fixed trigger lasts author text) place sticky index is =
-    absurd (no_event (is_accepted (outcome_at table before moment (bodies.ScheduleServices host starts ends fixed trigger lasts author text))) (object.Acknowledge place sticky index) is)
-acks_problem table before moment bodies.Shutdown place sticky index is =
-    absurd (no_event true (object.Acknowledge place sticky index) is)
+    (object_kind service) given sticky (length before) index place is
+acks_problem table before moment (acts.On host service deed) place sticky index is =
+    let made = made_by (is_accepted (outcome_at table before moment (acts.On host service deed))) (object_event_of_deed moment (length before) deed)
+    (object_kind service) (place_of table host service) (object.Acknowledge place sticky index) is in
+    absurd (other_deed deed moment (length before) (object_at (object_kind service) made.0) place sticky index refl made.2)
+acks_problem table before moment act place sticky index is =
+    absurd (no_event (is_accepted (outcome_at table before moment act)) (object.Acknowledge place sticky index) is)
 
 all_problems : (table : List ObjectLine) (newest : List Record) (place : ℕ) → IsProblemAt place (object_events table (judged table newest))
 all_problems table [] place = λ made is. absurd (none_is_not_some made is)
@@ -166,7 +161,7 @@ all_problems table (applied ∷ older) place =
         (λ same.
         let one : at ≡ place = grind arith in
         ap (λ where_it_is. is_problem (state_of where_it_is (object_events table (judged table older)))) (sym one)
-        ∙ acks_problem table (judged table older) applied.moment applied.item.body at sticky index is)
+        ∙ acks_problem table (judged table older) applied.moment (act_of applied.item.body) at sticky index is)
         known
     next (Some (object.RemoveAck at)) is known = after_remove place at (object_events table (judged table older)) known
     next (Some (object.Passive at on)) is known =
@@ -214,53 +209,48 @@ record IsResultOf (table : List ObjectLine) (before : List Judged) (body : Body)
   state_is : state ≡ state_of_code (object_kind service) code
   index_is : index ≡ length before
 
-result_body : (table : List ObjectLine) (before : List Judged) (moment : Moment) (body : Body) (place : ℕ) (state : State) (at : Moment) (index : ℕ)
-    → event_of table before moment body ≡ Some (object.Result place state at index) → IsResultOf table before body place state index
-result_body table before moment (bodies.Result host service code output) place state at index is =
-    let made = made_by (is_accepted (outcome_at table before moment (bodies.Result host service code output)))
-    (λ found. object.Result found (state_of_code (object_kind service) code) moment (length before)) (place_of table host service)
-    (object.Result place state at index) is in
+-- a body that asks for a result is one
+body_of_result : (body : Body) (host : List ℕ) (service : Option (List ℕ)) (code : ℤ) → act_of body ≡ acts.On host service (deeds.Result code)
+    → (output : List ℕ) × (body ≡ bodies.Result host service code output)
+body_of_result (bodies.Result host' service' code' output) host service code is = (output, cc)
+body_of_result body host service code is = absurd cc
+
+-- it is a result
+abbrev is_report : Deed → Bool
+is_report (deeds.Result code) = true
+is_report _ = false
+
+-- no other deed is a result
+no_report : (deed : Deed) (moment : Moment) (number : ℕ) (found : ObjectId) (place : ℕ) (state : State) (at : Moment) (index : ℕ)
+    → is_report deed ≡ false → object_event_of_deed moment number deed found ≡ Some (object.Result place state at index) → ⊥
+no_report (deeds.Result code) moment number found place state at index other is = cc
+no_report deed moment number found place state at index other is = cc
+
+-- the act of a result
+result_act : (table : List ObjectLine) (before : List Judged) (moment : Moment) (body : Body) (act : Act) (place : ℕ) (state : State) (at : Moment) (index : ℕ)
+    → act_of body ≡ act → event_of table before moment act ≡ Some (object.Result place state at index) → IsResultOf table before body place state index
+result_act table before moment body (acts.On host service (deeds.Result code)) place state at index asks is =
+    let from = body_of_result body host service code asks in
+    let made = made_by (is_accepted (outcome_at table before moment (acts.On host service (deeds.Result code)))) (object_event_of_deed moment (length before) (deeds.Result code))
+    (object_kind service) (place_of table host service) (object.Result place state at index) is in
     let same = made.2 in
     let one : made.0 ≡ place = cc in
     record {
       host = host;
       service = service;
       code = code;
-      output = output;
-      whole = refl;
+      output = from.0;
+      whole = from.1;
       object_is = made.1 ∙ ap (λ found. Some found) one;
       state_is = cc;
       index_is = cc;
     }
-result_body table before moment (bodies.AddComment host service persistent author text) place state at index is =
-    absurd (no_event (is_accepted (outcome_at table before moment (bodies.AddComment host service persistent author text))) (object.Result place state at index) is)
-result_body table before moment (bodies.DelComment kind id) place state at index is =
-    absurd (no_event (is_accepted (outcome_at table before moment (bodies.DelComment kind id))) (object.Result place state at index) is)
-result_body table before moment (bodies.DelAllComments host service) place state at index is =
-    absurd (no_event (is_accepted (outcome_at table before moment (bodies.DelAllComments host service))) (object.Result place state at index) is)
-result_body table before moment (bodies.Acknowledge host service sticks notify persistent author text) place state at index is =
-    let made = made_by (is_accepted (outcome_at table before moment (bodies.Acknowledge host service sticks notify persistent author text)))
-    (λ found. object.Acknowledge found (sticks == 2) (length before)) (place_of table host service) (object.Result place state at index) is in
-    let same = made.2 in
-    absurd cc
-result_body table before moment (bodies.RemoveAck host service) place state at index is =
-    let made = made_by (is_accepted (outcome_at table before moment (bodies.RemoveAck host service)))
-    (λ found. object.RemoveAck found) (place_of table host service) (object.Result place state at index) is in
-    let same = made.2 in
-    absurd cc
-result_body table before moment (bodies.Schedule host service starts ends fixed trigger lasts author text) place state at index is =
-    absurd (no_event (is_accepted (outcome_at table before moment (bodies.Schedule host service starts ends fixed trigger lasts author text))) (object.Result place state at index) is)
-result_body table before moment (bodies.DelDowntime kind id) place state at index is =
-    absurd (no_event (is_accepted (outcome_at table before moment (bodies.DelDowntime kind id))) (object.Result place state at index) is)
-result_body table before moment (bodies.Passive host service on) place state at index is =
-    let made = made_by (is_accepted (outcome_at table before moment (bodies.Passive host service on)))
-    (λ found. object.Passive found on) (place_of table host service) (object.Result place state at index) is in
-    let same = made.2 in
-    absurd cc
-result_body table before moment (bodies.ScheduleServices host starts ends fixed trigger lasts author text) place state at index is =
-    absurd (no_event (is_accepted (outcome_at table before moment (bodies.ScheduleServices host starts ends fixed trigger lasts author text))) (object.Result place state at index) is)
-result_body table before moment bodies.Shutdown place state at index is =
-    absurd (no_event true (object.Result place state at index) is)
+result_act table before moment body (acts.On host service deed) place state at index asks is =
+    let made = made_by (is_accepted (outcome_at table before moment (acts.On host service deed))) (object_event_of_deed moment (length before) deed)
+    (object_kind service) (place_of table host service) (object.Result place state at index) is in
+    absurd (no_report deed moment (length before) (object_at (object_kind service) made.0) place state at index refl made.2)
+result_act table before moment body act place state at index asks is =
+    absurd (no_event (is_accepted (outcome_at table before moment act)) (object.Result place state at index) is)
 
 recorded_before : (table : List ObjectLine) (older : List Record) (applied : Record) (place : ℕ) (last : CheckResult)
     → IsRecorded table (reverse older) place last → IsRecorded table (reverse (applied ∷ older)) place last
@@ -297,11 +287,11 @@ all_recorded table (applied ∷ older) place last is =
     before = object_events table (judged table older)
 
     own : (at : ℕ) (state : State) (moment : Moment) (index : ℕ)
-        → event_of table (judged table older) applied.moment applied.item.body ≡ Some (object.Result at state moment index)
+        → event_of table (judged table older) applied.moment (act_of applied.item.body) ≡ Some (object.Result at state moment index)
         → (at == place) ≡ true → record { state = state; moment = moment; log_index = index } ≡ last
         → IsRecorded table (reverse (applied ∷ older)) place last
     own at state moment index event mine same =
-        let from = result_body table (judged table older) applied.moment applied.item.body at state moment index event in
+        let from = result_act table (judged table older) applied.moment applied.item.body (act_of applied.item.body) at state moment index refl event in
         let one : at ≡ place = grind arith in
         let here : last.log_index ≡ length (reverse older) =
         sym (ap (λ (found : CheckResult). found.log_index) same) ∙ from.index_is ∙ judged_length table older ∙ sym (length-reverse older) in
@@ -320,7 +310,7 @@ all_recorded table (applied ∷ older) place last is =
           state = sym (ap (λ (found : CheckResult). found.state) same) ∙ from.state_is;
         }
 
-    next : (event : Option ObjectEvent) → event_of table (judged table older) applied.moment applied.item.body ≡ event
+    next : (event : Option ObjectEvent) → event_of table (judged table older) applied.moment (act_of applied.item.body) ≡ event
         → last_result place (option_to_list event ++ before) ≡ Some last
         → (last_result place before ≡ Some last → IsRecorded table (reverse (applied ∷ older)) place last)
         → IsRecorded table (reverse (applied ∷ older)) place last

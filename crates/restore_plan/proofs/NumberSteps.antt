@@ -1,6 +1,6 @@
 -- A gateway that accepts each of some commands numbers their downtime entries.
 use Rattle.std.proofs.Common.{◌≡◌, ℕ, zero, suc, ◌+◌, Bool, true, false, List, [], ◌∷◌, ◌++◌, length, take, drop, map, reverse, refl, sym, ap, ◌∙◌, subst, arith}
-use Rattle.std.specs.Prelude.{not, ◌||◌, if◌then◌else◌, Option, Some, None, is_some, option_map}
+use Rattle.std.specs.Prelude.{not, ◌||◌, if◌then◌else◌, Option, Some, None, is_some, option_map, unwrap_or}
 use Rattle.std.specs.List.{list_any, sum_by}
 use Rattle.std.specs.Option.{option_to_list}
 use Rattle.std.proofs.lemmas.List.{reverse-append, take-append-drop}
@@ -17,12 +17,16 @@ use Rattle.gate_model.specs.declared.downtime.DowntimeEvent.TheVariants as downt
 use Rattle.gate_model.specs.declared.status.ObjectEvent.{ObjectEvent}
 use Rattle.gate_model.specs.declared.status.ObjectEvent.TheVariants as object
 use Rattle.gate_model.specs.declared.submission.Body.{Body}
-use Rattle.gate_model.specs.declared.submission.Body.TheVariants as bodies
+use Rattle.gate_model.specs.declared.act.Deed.{Deed}
+use Rattle.gate_model.specs.declared.act.Deed.TheVariants as deeds
+use Rattle.gate_model.specs.declared.act.Act.{Act}
+use Rattle.gate_model.specs.declared.act.Act.TheVariants as acts
+use Rattle.gate_model.specs.Act.{act_of}
 use Rattle.gate_model.specs.Record.{is_accepted}
 use Rattle.gate_model.specs.Status.{is_transition}
 use Rattle.gate_model.specs.Table.{place_of, has_object, object_kind, object_at, services_of}
 use Rattle.gate_model.specs.Downtime.{scheduled_in}
-use Rattle.gate_model.specs.Meaning.{Judged, object_event_of, object_events, transition_by, plan_of, downtime_events_of_body, downtime_events, is_live_after, outcome_at_place, outcome_of_window, outcome_at, judged, history_of, outcomes_of}
+use Rattle.gate_model.specs.Meaning.{Judged, object_event_of_deed, object_events, transition_by, plan_of, downtime_events_of_deed, downtime_events_of, downtime_events, outcome_at_place, outcome_of_deed, outcome_at, judged, history_of, outcomes_of}
 use Rattle.gate_model.proofs.Lists.{list_any_from_position}
 use Rattle.gate_applier.proofs.ListSteps.{any-reverse}
 use Rattle.restore_plan.specs.Rehearsal.{records_from, first_among, first_refusal, entry_count, AreNumbered}
@@ -90,34 +94,37 @@ found judge true (Some place) is = refl
 found judge false place is = absurd cc
 
 one_at : (moment : Moment) (plan : Plan) (service : Option (List ℕ)) (place : Option ℕ) → is_some place ≡ true
-    → scheduled_by (option_to_list (
-    option_map (λ object. downtime.Schedule moment object plan) (option_map (object_at (object_kind service)) place)
-    )) ≡ 1
+    → scheduled_by (
+    unwrap_or (option_map (λ object. downtime.Schedule moment object plan ∷ []) (option_map (object_at (object_kind service)) place)) []
+    ) ≡ 1
 unfolding scheduled_by
 one_at moment plan service None is = absurd cc
 one_at moment plan service (Some place) is = refl
 
-of_body : (table : List ObjectLine) (before : List Judged) (moment : Moment) (index : ℕ) (body : Body)
-    → is_accepted (outcome_at table before moment body) ≡ true
-    → scheduled_by (downtime_events_of_body table (object_events table before) moment index body) ≡ entry_count table body
+-- it schedules downtime
+abbrev is_schedule : Deed → Bool
+is_schedule (deeds.Schedule span) = true
+is_schedule _ = false
+
+-- any other deed schedules nothing
+none_at : (before : List ObjectEvent) (moment : Moment) (index : ℕ) (service : Option (List ℕ)) (deed : Deed) (place : Option ℕ) → is_schedule deed ≡ false
+    → scheduled_by (unwrap_or (option_map (downtime_events_of_deed before moment index deed) (option_map (object_at (object_kind service)) place)) []) ≡ 0
 unfolding scheduled_by
-of_body table before moment index (bodies.Result host service code output) is =
-    none_by (object_events table before) (object_event_of table moment index (bodies.Result host service code output))
-of_body table before moment index (bodies.AddComment host service persistent author text) is = refl
-of_body table before moment index (bodies.DelComment kind id) is = refl
-of_body table before moment index (bodies.DelAllComments host service) is = refl
-of_body table before moment index (bodies.Acknowledge host service sticky notify persistent author text) is = refl
-of_body table before moment index (bodies.RemoveAck host service) is = refl
-of_body table before moment index (bodies.Schedule host service starts ends fixed trigger lasts author text) is =
-    one_at moment (plan_of starts ends fixed trigger lasts index) service (place_of table host service) (
-    found (λ place. outcome_of_window (is_live_after table before moment) moment starts ends trigger)
-    (has_object table host None) (place_of table host service) is
-    )
-of_body table before moment index (bodies.DelDowntime kind id) is = refl
-of_body table before moment index (bodies.Passive host service on) is = refl
-of_body table before moment index (bodies.ScheduleServices host starts ends fixed trigger lasts author text) is =
-    each_service moment (plan_of starts ends fixed trigger lasts index) (services_of table host)
-of_body table before moment index bodies.Shutdown is = refl
+none_at before moment index service deed None other = refl
+none_at before moment index service (deeds.Schedule span) (Some place) other = absurd cc
+none_at before moment index service deed (Some place) other = none_by before (object_event_of_deed moment index deed (object_at (object_kind service) place))
+
+of_act : (table : List ObjectLine) (before : List Judged) (moment : Moment) (index : ℕ) (act : Act)
+    → is_accepted (outcome_at table before moment act) ≡ true
+    → scheduled_by (downtime_events_of table (object_events table before) moment index act) ≡ entry_count table act
+unfolding scheduled_by
+of_act table before moment index (acts.On host service (deeds.Schedule span)) is =
+    one_at moment (plan_of span index) service (place_of table host service)
+    (found (outcome_of_deed table before moment (deeds.Schedule span)) (has_object table host None) (place_of table host service) is)
+of_act table before moment index (acts.On host service deed) is =
+    none_at (object_events table before) moment index service deed (place_of table host service) refl
+of_act table before moment index (acts.ScheduleServices host span) is = each_service moment (plan_of span index) (services_of table host)
+of_act table before moment index act is = refl
 
 -- ---- lists of records, newest first
 
@@ -125,7 +132,7 @@ of_body table before moment index bodies.Shutdown is = refl
 AreAccepted : List ObjectLine → List Record → Type 0
 AreAccepted table [] = Unit {0}
 AreAccepted table (applied ∷ before) =
-    (is_accepted (outcome_at table (judged table before) applied.moment applied.item.body) ≡ true) × AreAccepted table before
+    (is_accepted (outcome_at table (judged table before) applied.moment (act_of applied.item.body)) ≡ true) × AreAccepted table before
 
 earlier : (table : List ObjectLine) (newer older : List Record) → AreAccepted table (newer ++ older) → AreAccepted table older
 unfolding AreAccepted
@@ -134,7 +141,11 @@ earlier table (applied ∷ newer) older all = earlier table newer older all.1
 
 -- how many entries a record schedules
 abbrev record_count : List ObjectLine → Record → ℕ
-record_count table applied = entry_count table applied.item.body
+record_count table applied = entry_count table (act_of applied.item.body)
+
+-- and a command
+abbrev body_count : List ObjectLine → Body → ℕ
+body_count table body = entry_count table (act_of body)
 
 if_accepted : (accepted : Bool) (events : List DowntimeEvent) → accepted ≡ true → (if accepted then events else []) ≡ events
 if_accepted true events is = refl
@@ -147,13 +158,13 @@ counted table [] all = refl
 counted table (applied ∷ before) all =
     let history = judged table before in
     let here =
-    downtime_events_of_body table (object_events table history) applied.moment (length history) applied.item.body in
+    downtime_events_of table (object_events table history) applied.moment (length history) (act_of applied.item.body) in
     let rest = downtime_events table history in
     ap (λ events. scheduled_by (events ++ rest)) (
-    if_accepted (is_accepted (outcome_at table history applied.moment applied.item.body)) here all.0
+    if_accepted (is_accepted (outcome_at table history applied.moment (act_of applied.item.body))) here all.0
     )
     ∙ scheduled_by-append here rest
-    ∙ ap (λ more. more + scheduled_by rest) (of_body table history applied.moment (length history) applied.item.body all.0)
+    ∙ ap (λ more. more + scheduled_by rest) (of_act table history applied.moment (length history) (act_of applied.item.body) all.0)
     ∙ ap (λ more. record_count table applied + more) (counted table before all.1)
     ∙ sym (sum_by-cons (record_count table) applied before)
 
@@ -173,7 +184,7 @@ accepted_all : (table : List ObjectLine) (records : List Record)
 unfolding AreAccepted
 accepted_all table [] none = tt
 accepted_all table (applied ∷ before) none =
-    let both = no_first (is_accepted (outcome_at table (judged table before) applied.moment applied.item.body))
+    let both = no_first (is_accepted (outcome_at table (judged table before) applied.moment (act_of applied.item.body)))
     (list_any is_refusal (map (λ (judgement : Judged). judgement.outcome) (judged table before))) none in
     (both.0, accepted_all table before both.1)
 
@@ -207,13 +218,13 @@ sum_by-reverse count (one ∷ rest) =
     ∙ sym (sum_by-append count (one ∷ []) rest)
 
 sum-records : (table : List ObjectLine) (now : Moment) (number : ℕ) (commands : List Body)
-    → sum_by (record_count table) (records_from now number commands) ≡ sum_by (entry_count table) commands
+    → sum_by (record_count table) (records_from now number commands) ≡ sum_by (body_count table) commands
 sum-records table now number [] = refl
 sum-records table now number (body ∷ rest) =
     let one : Record = record { moment = now; item = record { client = 1; number = number; body = body } } in
     sum_by-cons (record_count table) one (records_from now (number + 1) rest)
-    ∙ ap (λ more. entry_count table body + more) (sum-records table now (number + 1) rest)
-    ∙ sym (sum_by-cons (entry_count table) body rest)
+    ∙ ap (λ more. body_count table body + more) (sum-records table now (number + 1) rest)
+    ∙ sym (sum_by-cons (body_count table) body rest)
 
 pub numbered : (fresh : List ObjectLine) (now : Moment) (commands : List Body) → first_refusal fresh now commands ≡ None
     → AreNumbered fresh now commands

@@ -7,8 +7,11 @@ use Rattle.gate_model.specs.declared.record.Record.{Record}
 use Rattle.gate_model.specs.declared.record.Outcome.{Outcome}
 use Rattle.gate_model.specs.declared.object.ObjectLine.{ObjectLine}
 use Rattle.gate_model.specs.declared.submission.Body.{Body}
+use Rattle.gate_model.specs.declared.act.Deed.TheVariants.{Schedule}
+use Rattle.gate_model.specs.declared.act.Act.{Act}
+use Rattle.gate_model.specs.declared.act.Act.TheVariants.{On, ScheduleServices}
+use Rattle.gate_model.specs.Act.{act_of}
 use Rattle.gate_model.specs.Record.{is_accepted}
-use Rattle.gate_model.specs.declared.submission.Body.TheVariants.{Schedule, ScheduleServices}
 use Rattle.gate_model.specs.Table.{services_of}
 use Rattle.gate_model.specs.Meaning.{outcomes_of, history_of, next_entry}
 use Rattle.restore_plan.specs.declared.rehearsal.RehearsalFault.{RehearsalFault}
@@ -36,10 +39,10 @@ IsUnrehearsed fresh now commands TooMany = 1000000 < length commands
 IsUnrehearsed fresh now commands (Refused index) = first_refusal fresh now commands ≡ Some index
 IsUnrehearsed fresh now commands OutOfMemory = Unit {0}
 
--- how many downtime entries a command schedules, where it is accepted
-abbrev pub entry_count : List ObjectLine → Body → ℕ
-entry_count fresh (Schedule host service starts ends fixed trigger lasts author text) = 1
-entry_count fresh (ScheduleServices host starts ends fixed trigger lasts author text) = length (services_of fresh host)
+-- how many downtime entries an act schedules, where it is accepted
+abbrev pub entry_count : List ObjectLine → Act → ℕ
+entry_count fresh (On host service (Schedule span)) = 1
+entry_count fresh (ScheduleServices host span) = length (services_of fresh host)
 entry_count fresh _ = 0
 
 -- after the first of these commands, however many, the id of the next downtime entry is one more than the number of entries
@@ -47,4 +50,4 @@ entry_count fresh _ = 0
 abbrev pub AreNumbered : List ObjectLine → Moment → List Body → Type 0
 AreNumbered fresh now commands =
     (count : ℕ) → next_entry fresh (history_of fresh (records_from now 1 (take count commands)))
-    ≡ 1 + sum_by (entry_count fresh) (take count commands)
+    ≡ 1 + sum_by (λ (body : Body). entry_count fresh (act_of body)) (take count commands)

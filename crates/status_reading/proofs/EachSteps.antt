@@ -1,8 +1,8 @@
 -- What holds of each element of a list, once the list is appended to, reversed, mapped or filtered.
 use Rattle.std.proofs.Common.{ℕ, zero, suc, Bool, true, false, List, [], ◌∷◌, ◌++◌, map, Option, Some, None, sym, subst}
-use Rattle.std.specs.Prelude.{filter, filter_map, slice_get, reverse, option_map, IfSome, if◌then◌else◌}
+use Rattle.std.specs.Prelude.{filter, filter_map, slice_get, reverse, option_map, unwrap_or, IfSome, if◌then◌else◌}
 use Rattle.std.specs.List.{AllByRecursion, cons_option}
-use Rattle.std.specs.Option.{option_to_list}
+use Rattle.std.specs.Option.{option_to_list, option_and_then}
 use Rattle.std.proofs.lemmas.List.{reverse-append}
 
 module _ {A : Type 0} (P : A → Type 0) where
@@ -72,6 +72,20 @@ module _ {A B : Type 0} (P : B → Type 0) (made : A → B) (all : (one : A) →
   every_map [] = tt
   every_map (one ∷ list) = (all one, every_map list)
 
-  pub some_map : (found : Option A) → IfSome (option_map made found) P
-  some_map None = tt
-  some_map (Some one) = all one
+module _ {A B : Type 0} (P : B → Type 0) where
+  -- what holds of all that is made, if one was found to make it of
+  pub some_made : (making : A → Option B) → ((one : A) → IfSome (making one) P) → (found : Option A) → IfSome (option_and_then making found) P
+  some_made making each None = tt
+  some_made making each (Some one) = each one
+
+  pub each_made : (making : A → List B) → ((one : A) → AllByRecursion P (making one)) → (found : Option A)
+      → AllByRecursion P (unwrap_or (option_map making found) [])
+  each_made making each None = tt
+  each_made making each (Some one) = each one
+
+module _ {A B : Type 0} (P : A → Type 0) (Q : B → Type 0) where
+  -- what holds of all that is made of such a one, if it was found
+  pub each_found : (making : A → List B) → ((one : A) → P one → AllByRecursion Q (making one)) → (found : Option A) → IfSome found P
+      → AllByRecursion Q (unwrap_or (option_map making found) [])
+  each_found making each None here = tt
+  each_found making each (Some one) here = each one here

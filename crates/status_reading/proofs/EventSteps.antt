@@ -7,8 +7,11 @@ use Rattle.gate_model.specs.declared.record.Moment.{Moment}
 use Rattle.gate_model.specs.declared.record.Record.{Record}
 use Rattle.gate_model.specs.declared.object.ObjectId.{ObjectId}
 use Rattle.gate_model.specs.declared.object.ObjectLine.{ObjectLine}
-use Rattle.gate_model.specs.declared.submission.Body.{Body}
-use Rattle.gate_model.specs.declared.submission.Body.TheVariants as bodies
+use Rattle.gate_model.specs.declared.act.Deed.{Deed}
+use Rattle.gate_model.specs.declared.act.Deed.TheVariants as deeds
+use Rattle.gate_model.specs.declared.act.Act.{Act}
+use Rattle.gate_model.specs.declared.act.Act.TheVariants as acts
+use Rattle.gate_model.specs.Act.{act_of}
 use Rattle.gate_model.specs.declared.status.ObjectEvent.{ObjectEvent}
 use Rattle.gate_model.specs.declared.status.ObjectEvent.TheVariants as object
 use Rattle.gate_model.specs.declared.status.CheckResult.{CheckResult}
@@ -24,11 +27,11 @@ use Rattle.gate_model.specs.Status.{newest, check_result_of, results_of, last_re
 use Rattle.gate_model.specs.Comments.{is_addition, number_made, removes, unless_removed, comment_made, comments_left}
 use Rattle.gate_model.specs.Downtime.{scheduled_in}
 use Rattle.gate_model.specs.Table.{object_kind, object_of, place_of, services_of}
-use Rattle.gate_model.specs.Meaning.{Judged, is_sticky, object_event_of, object_event, object_events, transition_by, plan_of, downtime_events_of_body, downtime_events_of_record, downtime_events, judged}
+use Rattle.gate_model.specs.Meaning.{Judged, object_event_of_deed, object_event_of, object_event, object_events, transition_by, plan_of, downtime_events_of_deed, downtime_events_of, downtime_events_of_record, downtime_events, judged}
 use Rattle.gate_lines.specs.Lines.{last_moment}
 use Rattle.status_reading.specs.Readable.{Fits, MayFit}
-use Rattle.status_reading.proofs.EachSteps.{each_append, each_reverse, every_map, each_filter_map, each_option, some_if, some_map}
-use Rattle.status_reading.proofs.SubmissionSteps.{IsPlainPlan, HasPlainPlan}
+use Rattle.status_reading.proofs.EachSteps.{each_append, each_reverse, every_map, each_filter_map, each_option, some_if, some_made, each_made}
+use Rattle.status_reading.proofs.SubmissionSteps.{IsPlainPlan, IsPlainDeed, IsPlainAct}
 
 -- ---- records
 
@@ -49,25 +52,17 @@ abbrev pub HasMoment : ObjectEvent → Type 0
 HasMoment (object.Result place state moment log_index) = Fits moment.0
 HasMoment _ = Unit {0}
 
-event_fits : (table : List ObjectLine) (moment : Moment) (log_index : ℕ) (body : Body) → Fits moment.0
-    → IfSome (object_event_of table moment log_index body) HasMoment
-event_fits table moment log_index (bodies.Result host service code output) fits =
-    some_map HasMoment (λ place. object.Result place (state_of_code (object_kind service) code) moment log_index)
-    (λ place. fits) (place_of table host service)
-event_fits table moment log_index (bodies.AddComment host service persistent author text) fits = tt
-event_fits table moment log_index (bodies.DelComment kind id) fits = tt
-event_fits table moment log_index (bodies.DelAllComments host service) fits = tt
-event_fits table moment log_index (bodies.Acknowledge host service sticky notify persistent author text) fits =
-    some_map HasMoment (λ place. object.Acknowledge place (is_sticky sticky) log_index) (λ place. tt)
-    (place_of table host service)
-event_fits table moment log_index (bodies.RemoveAck host service) fits =
-    some_map HasMoment (λ place. object.RemoveAck place) (λ place. tt) (place_of table host service)
-event_fits table moment log_index (bodies.Schedule host service starts ends fixed trigger lasts author text) fits = tt
-event_fits table moment log_index (bodies.DelDowntime kind id) fits = tt
-event_fits table moment log_index (bodies.Passive host service on) fits =
-    some_map HasMoment (λ place. object.Passive place on) (λ place. tt) (place_of table host service)
-event_fits table moment log_index (bodies.ScheduleServices host starts ends fixed trigger lasts author text) fits = tt
-event_fits table moment log_index bodies.Shutdown fits = tt
+deed_fits : (moment : Moment) (log_index : ℕ) (deed : Deed) (found : ObjectId) → Fits moment.0
+    → IfSome (object_event_of_deed moment log_index deed found) HasMoment
+deed_fits moment log_index (deeds.Result code) found fits = fits
+deed_fits moment log_index deed found fits = tt
+
+event_fits : (table : List ObjectLine) (moment : Moment) (log_index : ℕ) (act : Act) → Fits moment.0
+    → IfSome (object_event_of table moment log_index act) HasMoment
+event_fits table moment log_index (acts.On host service deed) fits =
+    some_made HasMoment (object_event_of_deed moment log_index deed)
+    (λ found. deed_fits moment log_index deed found fits) (object_of table host service)
+event_fits table moment log_index act fits = tt
 
 accepted_fits : (accepted : Bool) (event : Option ObjectEvent) → IfSome event HasMoment
     → IfSome (if accepted then event else None) HasMoment
@@ -81,8 +76,8 @@ events_fit table judgements all =
     each_filter_map (λ (judgement : Judged). Fits judgement.applied.moment.0) HasMoment (object_event table)
     (λ judgement fits.
     accepted_fits (is_accepted judgement.outcome)
-    (object_event_of table judgement.applied.moment judgement.log_index judgement.applied.item.body)
-    (event_fits table judgement.applied.moment judgement.log_index judgement.applied.item.body fits))
+    (object_event_of table judgement.applied.moment judgement.log_index (act_of judgement.applied.item.body))
+    (event_fits table judgement.applied.moment judgement.log_index (act_of judgement.applied.item.body) fits))
     judgements all
 
 result_fits : (place : ℕ) (event : ObjectEvent) → HasMoment event
@@ -161,33 +156,26 @@ transition_plain before (Some (object.Acknowledge place sticky log_index)) = tt
 transition_plain before (Some (object.RemoveAck place)) = tt
 transition_plain before (Some (object.Passive place on)) = tt
 
-body_plain : (table : List ObjectLine) (before : List ObjectEvent) (moment : Moment) (log_index : ℕ) (body : Body)
-    → HasPlainPlan body
-    → AllByRecursion SchedulesPlain (downtime_events_of_body table before moment log_index body)
-body_plain table before moment log_index (bodies.Result host service code output) plain =
-    let event = object_event_of table moment log_index (bodies.Result host service code output) in
+deed_plain : (before : List ObjectEvent) (moment : Moment) (log_index : ℕ) (deed : Deed) (found : ObjectId)
+    → IsPlainDeed deed
+    → AllByRecursion SchedulesPlain (downtime_events_of_deed before moment log_index deed found)
+deed_plain before moment log_index (deeds.Schedule span) found plain = (plain log_index, tt)
+deed_plain before moment log_index deed found plain =
+    let event = object_event_of_deed moment log_index deed found in
     each_option SchedulesPlain (transition_by before event) (transition_plain before event)
-body_plain table before moment log_index (bodies.AddComment host service persistent author text) plain = tt
-body_plain table before moment log_index (bodies.DelComment kind id) plain = tt
-body_plain table before moment log_index (bodies.DelAllComments host service) plain = tt
-body_plain table before moment log_index
-    (bodies.Acknowledge host service sticky notify persistent author text) plain = tt
-body_plain table before moment log_index (bodies.RemoveAck host service) plain = tt
-body_plain table before moment log_index
-    (bodies.Schedule host service starts ends fixed trigger lasts author text) plain =
-    let plan = plan_of starts ends fixed trigger lasts log_index in
-    let make : ObjectId → DowntimeEvent = λ found. downtime.Schedule moment found plan in
-    each_option SchedulesPlain (option_map make (object_of table host service))
-    (some_map SchedulesPlain make (λ found. plain log_index) (object_of table host service))
-body_plain table before moment log_index (bodies.DelDowntime kind id) plain = (tt, tt)
-body_plain table before moment log_index (bodies.Passive host service on) plain = tt
-body_plain table before moment log_index
-    (bodies.ScheduleServices host starts ends fixed trigger lasts author text) plain =
-    let plan = plan_of starts ends fixed trigger lasts log_index in
-    let make : ObjectId → DowntimeEvent = λ service. downtime.Schedule moment service plan in
+
+act_plain : (table : List ObjectLine) (before : List ObjectEvent) (moment : Moment) (log_index : ℕ) (act : Act)
+    → IsPlainAct act
+    → AllByRecursion SchedulesPlain (downtime_events_of table before moment log_index act)
+act_plain table before moment log_index (acts.On host service deed) plain =
+    each_made SchedulesPlain (downtime_events_of_deed before moment log_index deed)
+    (λ found. deed_plain before moment log_index deed found plain) (object_of table host service)
+act_plain table before moment log_index (acts.ScheduleServices host span) plain =
+    let make : ObjectId → DowntimeEvent = λ service. downtime.Schedule moment service (plan_of span log_index) in
     each_reverse SchedulesPlain (map make (services_of table host))
     (every_map SchedulesPlain make (λ service. plain log_index) (services_of table host))
-body_plain table before moment log_index bodies.Shutdown plain = tt
+act_plain table before moment log_index (acts.DelDowntime kind id) plain = (tt, tt)
+act_plain table before moment log_index act plain = tt
 
 accepted_plain : (accepted : Bool) (events : List DowntimeEvent) → AllByRecursion SchedulesPlain events
     → AllByRecursion SchedulesPlain (if accepted then events else [])
@@ -195,17 +183,17 @@ accepted_plain true events plain = plain
 accepted_plain false events plain = tt
 
 pub downtimes_plain : (table : List ObjectLine) (judgements : List Judged)
-    → AllByRecursion (λ (judgement : Judged). HasPlainPlan judgement.applied.item.body) judgements
+    → AllByRecursion (λ (judgement : Judged). IsPlainAct (act_of judgement.applied.item.body)) judgements
     → AllByRecursion SchedulesPlain (downtime_events table judgements)
 downtimes_plain table [] all = tt
 downtimes_plain table (judgement ∷ before) all =
     let moment = judgement.applied.moment in
-    let body = judgement.applied.item.body in
+    let act = act_of judgement.applied.item.body in
     let objects = object_events table before in
     each_append SchedulesPlain (downtime_events_of_record table before judgement) (downtime_events table before)
     (accepted_plain (is_accepted judgement.outcome)
-    (downtime_events_of_body table objects moment judgement.log_index body)
-    (body_plain table objects moment judgement.log_index body all.0))
+    (downtime_events_of table objects moment judgement.log_index act)
+    (act_plain table objects moment judgement.log_index act all.0))
     (downtimes_plain table before all.1)
 
 -- the id and the numbers of an entry have 32 bits

@@ -12,6 +12,7 @@ use Rattle.gate_model.specs.declared.comments.Comment.{Comment}
 use Rattle.gate_model.specs.declared.downtime.Scheduled.{Scheduled}
 use Rattle.gate_model.specs.declared.downtime.Entry.{Entry}
 use Rattle.gate_model.specs.declared.downtime.DowntimeEvent.{DowntimeEvent}
+use Rattle.gate_model.specs.Act.{act_of}
 use Rattle.gate_model.specs.Comments.{comments_of}
 use Rattle.gate_model.specs.Downtime.{scheduled_in, entries_by, entries_of, begin_of, is_live, is_active_in, transition_of, was_deleted}
 use Rattle.gate_model.specs.Meaning.{Judged, object_events, downtime_events, comment_events, outlives, is_live_after, history_of, last_result_at, comments_at, depth_at, LiveEntry, downtimes_at}
@@ -31,7 +32,7 @@ use Rattle.status_reading.proofs.SamePages.{Reading}
 use Rattle.status_reading.proofs.BoardLaws.{reads_board}
 use Rattle.status_reading.proofs.SoundLaws.{gateway_sound}
 use Rattle.status_reading.proofs.EachSteps.{each_weaker, each_reverse, each_filter, each_at, each_map}
-use Rattle.status_reading.proofs.SubmissionSteps.{HasPlainPlan, IsPlainBody, plain_body}
+use Rattle.status_reading.proofs.SubmissionSteps.{IsPlainAct, IsPlainBody, plain_body}
 use Rattle.status_reading.proofs.TableSteps.{IsPlainLine, plain_lines, plain_host, plain_service}
 use Rattle.status_reading.proofs.EventSteps.{each_judged, length_judged, events_fit, last_fits, ids_below, downtimes_plain, IsPlainScheduled, scheduled_plain}
 
@@ -179,7 +180,7 @@ module _ (gateway : GatewayView) (is : IsGateway gateway) where
   scheduled_all =
       scheduled_plain (events gateway) (omega (arith, scheduled_few))
       (downtimes_plain gateway.table (history gateway)
-      (judged_all (λ (applied : Record). HasPlainPlan applied.item.body) (λ applied plain. plain.body.plan)))
+      (judged_all (λ (applied : Record). IsPlainAct (act_of applied.item.body)) (λ applied plain. plain.body.plan)))
 
   entries_plain : AllByRecursion (λ (entry : Entry). IsPlainScheduled entry.scheduled) (entries gateway)
   entries_plain =

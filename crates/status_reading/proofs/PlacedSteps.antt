@@ -2,6 +2,7 @@
 use Rattle.std.proofs.Common.{◌≡◌, ℕ, ◌+◌, ◌<◌, ◌==◌, Bool, true, false, List, [], ◌∷◌, map, length, Option, Some, None, refl, sym, ap, subst, ◌∙◌, arith}
 use Rattle.std.specs.Prelude.{ℤ, pos, negsuc, option_map, slice_get, IfSome, if◌then◌else◌}
 use Rattle.std.specs.List.{AllByRecursion, enumerate_from, list_any}
+use Rattle.std.specs.Option.{option_and_then}
 use Rattle.std.proofs.lemmas.Bool.{eqb-true}
 use Rattle.std.proofs.lemmas.List.Elements.{recursion_from_All}
 use Rattle.gate_model.specs.declared.record.Moment.{Moment}
@@ -11,13 +12,14 @@ use Rattle.gate_model.specs.declared.object.ObjectId.{ObjectId}
 use Rattle.gate_model.specs.declared.object.ObjectLine.{ObjectLine}
 use Rattle.gate_model.specs.declared.state.State.{State}
 use Rattle.gate_model.specs.declared.state.State.TheVariants as states
-use Rattle.gate_model.specs.declared.submission.Body.{Body}
-use Rattle.gate_model.specs.declared.submission.Body.TheVariants as bodies
+use Rattle.gate_model.specs.declared.act.Deed.{Deed}
+use Rattle.gate_model.specs.declared.act.Deed.TheVariants as deeds
+use Rattle.gate_model.specs.declared.act.Act.{Act}
+use Rattle.gate_model.specs.declared.act.Act.TheVariants as acts
+use Rattle.gate_model.specs.Act.{act_of}
 use Rattle.gate_model.specs.declared.status.ObjectEvent.{ObjectEvent}
 use Rattle.gate_model.specs.declared.status.ObjectEvent.TheVariants as object
 use Rattle.gate_model.specs.declared.status.CheckResult.{CheckResult}
-use Rattle.gate_model.specs.declared.comments.Source.{Source}
-use Rattle.gate_model.specs.declared.comments.Source.TheVariants as source
 use Rattle.gate_model.specs.declared.comments.Comment.{Comment}
 use Rattle.gate_model.specs.declared.comments.CommentEvent.{CommentEvent}
 use Rattle.gate_model.specs.declared.comments.CommentEvent.TheVariants.{Add, Delete, DeleteAll, Clear, Gone}
@@ -30,18 +32,13 @@ use Rattle.gate_model.specs.Status.{newest, check_result_of, results_of, last_re
 use Rattle.gate_model.specs.Comments.{removes, unless_removed, comment_made, comments_left}
 use Rattle.gate_model.specs.Downtime.{scheduled_in}
 use Rattle.gate_model.specs.Table.{is_line_of, object_kind, object_at, object_of, place_of, services_of}
-use Rattle.gate_model.specs.Meaning.{Judged, is_persistent, is_sticky, object_event_of, object_event, object_events, transition_by, plan_of, clearing_by, addition_for, addition_of_entry, next_entry, downtime_events_of_body, downtime_events_of_record, downtime_events, comment_events_of_body, comment_events_of_record, comment_events}
+use Rattle.gate_model.specs.Meaning.{Judged, object_event_of_deed, object_event_of, object_event, object_events, transition_by, plan_of, clearing_by, addition_of_entry, next_entry, downtime_events_of_deed, downtime_events_of, downtime_events_of_record, downtime_events, comment_events_of_deed, comment_events_of, comment_events_of_record, comment_events}
 use Rattle.gate_model.proofs.Lists.{position_from-within}
 use Rattle.gate_table.proofs.ServiceSteps.{services-within}
 use Rattle.gate_lines.specs.Lines.{last_moment}
 use Rattle.status_reading.specs.RowFaults.{is_state_of}
-use Rattle.status_reading.proofs.EachSteps.{each_append, each_reverse, each_map, each_filter_map, each_option, some_if, some_map}
+use Rattle.status_reading.proofs.EachSteps.{each_append, each_reverse, each_map, each_filter_map, each_option, each_found, some_if}
 use Rattle.status_reading.proofs.BareSteps.{found_line}
-
-made_of : {A B : Type 0} (P : A → Type 0) (Q : B → Type 0) (made : A → B) → ((one : A) → P one → Q (made one)) → (found : Option A)
-    → IfSome found P → IfSome (option_map made found) Q
-made_of P Q made step None here = tt
-made_of P Q made step (Some one) here = step one here
 
 all_if : {A : Type 0} (P : A → Type 0) (test : Bool) (list : List A) → AllByRecursion P list → AllByRecursion P (if test then list else [])
 all_if P true list all = all
@@ -78,46 +75,38 @@ module _ (table : List ObjectLine) where
   cleared before (Some (object.RemoveAck place)) = some_if AddsPlaced (is_clearing place (object.RemoveAck place) before) (Clear place) tt
   cleared before (Some (object.Passive place on)) = tt
 
-  added : (host : List ℕ) (service : Option (List ℕ)) (from : Source) (persistent : Bool) (log_index : ℕ)
-      → IfSome (addition_for table host service from persistent log_index) AddsPlaced
-  added host service from persistent log_index =
-      made_of IsPlaced AddsPlaced (λ found. Add found from persistent log_index) (λ found here. here) (object_of table host service) (object_placed host service)
-
   added_each : (log_index entry : ℕ) (services : List ObjectId) → AllByRecursion IsPlaced services
       → AllByRecursion AddsPlaced (map (addition_of_entry log_index) (enumerate_from entry services))
   added_each log_index entry [] all = tt
   added_each log_index entry (one ∷ services) all = (all.0, added_each log_index (entry + 1) services all.1)
 
-  body_adds : (before : List ObjectEvent) (entry : ℕ) (moment : Moment) (log_index : ℕ) (body : Body)
-      → AllByRecursion AddsPlaced (comment_events_of_body table before entry moment log_index body)
-  body_adds before entry moment log_index (bodies.Result host service code output) =
-      let event = object_event_of table moment log_index (bodies.Result host service code output) in
+  deed_adds : (before : List ObjectEvent) (entry : ℕ) (moment : Moment) (log_index : ℕ) (deed : Deed) (found : ObjectId) → IsPlaced found
+      → AllByRecursion AddsPlaced (comment_events_of_deed before entry moment log_index deed found)
+  deed_adds before entry moment log_index (deeds.AddComment persistent) found here = (here, tt)
+  deed_adds before entry moment log_index (deeds.Acknowledge sticky persistent) found here = (here, tt)
+  deed_adds before entry moment log_index (deeds.Schedule span) found here = (here, tt)
+  deed_adds before entry moment log_index deeds.DelAllComments found here = (tt, tt)
+  deed_adds before entry moment log_index deed found here =
+      let event = object_event_of_deed moment log_index deed found in
       each_option AddsPlaced (clearing_by before event) (cleared before event)
-  body_adds before entry moment log_index (bodies.AddComment host service persistent author text) =
-      each_option AddsPlaced _ (added host service source.User (is_persistent persistent) log_index)
-  body_adds before entry moment log_index (bodies.DelComment kind id) = (tt, tt)
-  body_adds before entry moment log_index (bodies.DelAllComments host service) =
-      each_option AddsPlaced _ (some_map AddsPlaced (λ place. DeleteAll place) (λ place. tt) (place_of table host service))
-  body_adds before entry moment log_index (bodies.Acknowledge host service sticky notify persistent author text) =
-      each_option AddsPlaced _ (added host service source.Ack (is_persistent persistent) log_index)
-  body_adds before entry moment log_index (bodies.RemoveAck host service) =
-      let event = object_event_of table moment log_index (bodies.RemoveAck host service) in
-      each_option AddsPlaced (clearing_by before event) (cleared before event)
-  body_adds before entry moment log_index (bodies.Schedule host service starts ends fixed trigger lasts author text) =
-      each_option AddsPlaced _ (added host service (source.Downtime entry) false log_index)
-  body_adds before entry moment log_index (bodies.DelDowntime kind id) = tt
-  body_adds before entry moment log_index (bodies.Passive host service on) = tt
-  body_adds before entry moment log_index (bodies.ScheduleServices host starts ends fixed trigger lasts author text) =
+
+  act_adds : (before : List ObjectEvent) (entry : ℕ) (moment : Moment) (log_index : ℕ) (act : Act)
+      → AllByRecursion AddsPlaced (comment_events_of table before entry moment log_index act)
+  act_adds before entry moment log_index (acts.On host service deed) =
+      each_found IsPlaced AddsPlaced (comment_events_of_deed before entry moment log_index deed) (deed_adds before entry moment log_index deed)
+      (object_of table host service) (object_placed host service)
+  act_adds before entry moment log_index (acts.ScheduleServices host span) =
       each_reverse AddsPlaced _ (added_each log_index entry (services_of table host) (services_placed host))
-  body_adds before entry moment log_index bodies.Shutdown = tt
+  act_adds before entry moment log_index (acts.DelComment kind id) = (tt, tt)
+  act_adds before entry moment log_index act = tt
 
   events_add : (judgements : List Judged) → AllByRecursion AddsPlaced (comment_events table judgements)
   events_add [] = tt
   events_add (judgement ∷ before) =
-      let body = judgement.applied.item.body in
+      let act = act_of judgement.applied.item.body in
       each_append AddsPlaced (comment_events_of_record table before judgement) (comment_events table before)
       (all_if AddsPlaced (is_accepted judgement.outcome) _
-      (body_adds (object_events table before) (next_entry table before) judgement.applied.moment judgement.log_index body))
+      (act_adds (object_events table before) (next_entry table before) judgement.applied.moment judgement.log_index act))
       (events_add before)
 
   kept_placed : (removed : Bool) (comment : Comment) → IsPlaced comment.object
@@ -158,35 +147,31 @@ module _ (table : List ObjectLine) where
   transition_made before (Some (object.RemoveAck place)) = tt
   transition_made before (Some (object.Passive place on)) = tt
 
-  body_schedules : (before : List ObjectEvent) (moment : Moment) (log_index : ℕ) (body : Body)
-      → AllByRecursion SchedulesPlaced (downtime_events_of_body table before moment log_index body)
-  body_schedules before moment log_index (bodies.Result host service code output) =
-      let event = object_event_of table moment log_index (bodies.Result host service code output) in
+  deed_schedules : (before : List ObjectEvent) (moment : Moment) (log_index : ℕ) (deed : Deed) (found : ObjectId) → IsPlaced found
+      → AllByRecursion SchedulesPlaced (downtime_events_of_deed before moment log_index deed found)
+  deed_schedules before moment log_index (deeds.Schedule span) found here = (here, tt)
+  deed_schedules before moment log_index deed found here =
+      let event = object_event_of_deed moment log_index deed found in
       each_option SchedulesPlaced (transition_by before event) (transition_made before event)
-  body_schedules before moment log_index (bodies.AddComment host service persistent author text) = tt
-  body_schedules before moment log_index (bodies.DelComment kind id) = tt
-  body_schedules before moment log_index (bodies.DelAllComments host service) = tt
-  body_schedules before moment log_index (bodies.Acknowledge host service sticky notify persistent author text) = tt
-  body_schedules before moment log_index (bodies.RemoveAck host service) = tt
-  body_schedules before moment log_index (bodies.Schedule host service starts ends fixed trigger lasts author text) =
-      let plan = plan_of starts ends fixed trigger lasts log_index in
-      each_option SchedulesPlaced _
-      (made_of IsPlaced SchedulesPlaced (λ found. downtime.Schedule moment found plan) (λ found here. here) (object_of table host service) (object_placed host service))
-  body_schedules before moment log_index (bodies.DelDowntime kind id) = (tt, tt)
-  body_schedules before moment log_index (bodies.Passive host service on) = tt
-  body_schedules before moment log_index (bodies.ScheduleServices host starts ends fixed trigger lasts author text) =
-      let plan = plan_of starts ends fixed trigger lasts log_index in
+
+  act_schedules : (before : List ObjectEvent) (moment : Moment) (log_index : ℕ) (act : Act)
+      → AllByRecursion SchedulesPlaced (downtime_events_of table before moment log_index act)
+  act_schedules before moment log_index (acts.On host service deed) =
+      each_found IsPlaced SchedulesPlaced (downtime_events_of_deed before moment log_index deed) (deed_schedules before moment log_index deed)
+      (object_of table host service) (object_placed host service)
+  act_schedules before moment log_index (acts.ScheduleServices host span) =
       each_reverse SchedulesPlaced _
-      (each_map IsPlaced SchedulesPlaced (λ service. downtime.Schedule moment service plan) (λ service here. here) (services_of table host) (services_placed host))
-  body_schedules before moment log_index bodies.Shutdown = tt
+      (each_map IsPlaced SchedulesPlaced (λ service. downtime.Schedule moment service (plan_of span log_index)) (λ service here. here) (services_of table host) (services_placed host))
+  act_schedules before moment log_index (acts.DelDowntime kind id) = (tt, tt)
+  act_schedules before moment log_index act = tt
 
   events_schedule : (judgements : List Judged) → AllByRecursion SchedulesPlaced (downtime_events table judgements)
   events_schedule [] = tt
   events_schedule (judgement ∷ before) =
-      let body = judgement.applied.item.body in
+      let act = act_of judgement.applied.item.body in
       each_append SchedulesPlaced (downtime_events_of_record table before judgement) (downtime_events table before)
       (all_if SchedulesPlaced (is_accepted judgement.outcome) _
-      (body_schedules (object_events table before) judgement.applied.moment judgement.log_index body))
+      (act_schedules (object_events table before) judgement.applied.moment judgement.log_index act))
       (events_schedule before)
 
   in_placed : (events : List DowntimeEvent) → AllByRecursion SchedulesPlaced events
@@ -232,11 +217,9 @@ module _ (table : List ObjectLine) where
   LeavesKind (object.Result place state moment log_index) = HasKind place state
   LeavesKind _ = Unit {0}
 
-  result_kind : (moment : Moment) (log_index : ℕ) (host : List ℕ) (service : Option (List ℕ)) (code : ℤ) (found : Option ℕ)
-      → place_of table host service ≡ found
-      → IfSome (option_map (λ place. object.Result place (state_of_code (object_kind service) code) moment log_index) found) LeavesKind
-  result_kind moment log_index host service code None is = tt
-  result_kind moment log_index host service code (Some place) is = λ line here last.
+  result_kind : (moment : Moment) (log_index : ℕ) (host : List ℕ) (service : Option (List ℕ)) (code : ℤ) (place : ℕ)
+      → place_of table host service ≡ Some place → HasKind place (state_of_code (object_kind service) code)
+  result_kind moment log_index host service code place is = λ line here last.
       let found = found_line table host service place is in
       let same : found.0 ≡ line = same_line found.0 line (sym found.1 ∙ here) in
       let services : line.service ≡ service = sym (ap (λ (one : ObjectLine). one.service) same) ∙ found.2 in
@@ -246,22 +229,20 @@ module _ (table : List ObjectLine) where
       same_line : (one other : ObjectLine) → ◌≡◌ {A = Option ObjectLine} (Some one) (Some other) → one ≡ other
       same_line one other is = cc
 
-  event_kind : (moment : Moment) (log_index : ℕ) (body : Body) → IfSome (object_event_of table moment log_index body) LeavesKind
-  event_kind moment log_index (bodies.Result host service code output) =
-      result_kind moment log_index host service code (place_of table host service) refl
-  event_kind moment log_index (bodies.AddComment host service persistent author text) = tt
-  event_kind moment log_index (bodies.DelComment kind id) = tt
-  event_kind moment log_index (bodies.DelAllComments host service) = tt
-  event_kind moment log_index (bodies.Acknowledge host service sticky notify persistent author text) =
-      some_map LeavesKind (λ place. object.Acknowledge place (is_sticky sticky) log_index) (λ place. tt) (place_of table host service)
-  event_kind moment log_index (bodies.RemoveAck host service) =
-      some_map LeavesKind (λ place. object.RemoveAck place) (λ place. tt) (place_of table host service)
-  event_kind moment log_index (bodies.Schedule host service starts ends fixed trigger lasts author text) = tt
-  event_kind moment log_index (bodies.DelDowntime kind id) = tt
-  event_kind moment log_index (bodies.Passive host service on) =
-      some_map LeavesKind (λ place. object.Passive place on) (λ place. tt) (place_of table host service)
-  event_kind moment log_index (bodies.ScheduleServices host starts ends fixed trigger lasts author text) = tt
-  event_kind moment log_index bodies.Shutdown = tt
+  deed_kind : (moment : Moment) (log_index : ℕ) (host : List ℕ) (service : Option (List ℕ)) (deed : Deed) (place : ℕ)
+      → place_of table host service ≡ Some place → IfSome (object_event_of_deed moment log_index deed (object_at (object_kind service) place)) LeavesKind
+  deed_kind moment log_index host service (deeds.Result code) place is = result_kind moment log_index host service code place is
+  deed_kind moment log_index host service deed place is = tt
+
+  found_kind : (moment : Moment) (log_index : ℕ) (host : List ℕ) (service : Option (List ℕ)) (deed : Deed) (found : Option ℕ)
+      → place_of table host service ≡ found
+      → IfSome (option_and_then (object_event_of_deed moment log_index deed) (option_map (object_at (object_kind service)) found)) LeavesKind
+  found_kind moment log_index host service deed None is = tt
+  found_kind moment log_index host service deed (Some place) is = deed_kind moment log_index host service deed place is
+
+  event_kind : (moment : Moment) (log_index : ℕ) (act : Act) → IfSome (object_event_of table moment log_index act) LeavesKind
+  event_kind moment log_index (acts.On host service deed) = found_kind moment log_index host service deed (place_of table host service) refl
+  event_kind moment log_index act = tt
 
   accepted_kind : (accepted : Bool) (event : Option ObjectEvent) → IfSome event LeavesKind → IfSome (if accepted then event else None) LeavesKind
   accepted_kind true event kind = kind
@@ -275,7 +256,7 @@ module _ (table : List ObjectLine) where
   events_kind judgements =
       each_filter_map (λ (judgement : Judged). Unit {0}) LeavesKind (object_event table)
       (λ judgement none.
-      accepted_kind (is_accepted judgement.outcome) _ (event_kind judgement.applied.moment judgement.log_index judgement.applied.item.body))
+      accepted_kind (is_accepted judgement.outcome) _ (event_kind judgement.applied.moment judgement.log_index (act_of judgement.applied.item.body)))
       judgements (none_needed judgements)
 
   made_here : (place other : ℕ) (state : State) (moment : Moment) (log_index : ℕ) (here : Bool) → (other == place) ≡ here → HasKind other state

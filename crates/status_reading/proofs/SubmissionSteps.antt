@@ -4,9 +4,14 @@ use Rattle.std.specs.List.{AllByRecursion}
 use Rattle.std.proofs.lemmas.Bool.{true≢false}
 use Rattle.gate_model.specs.declared.record.Moment.{Moment}
 use Rattle.gate_model.specs.declared.downtime.Plan.{Plan}
+use Rattle.gate_model.specs.declared.act.Deed.{Deed}
+use Rattle.gate_model.specs.declared.act.Deed.TheVariants as deeds
+use Rattle.gate_model.specs.declared.act.Act.{Act}
+use Rattle.gate_model.specs.declared.act.Act.TheVariants as acts
 use Rattle.gate_model.specs.declared.submission.Body.{Body}
 use Rattle.gate_model.specs.declared.submission.Body.TheVariants as bodies
 use Rattle.gate_model.specs.Submission.{is_result}
+use Rattle.gate_model.specs.Act.{span_of, act_of}
 use Rattle.gate_model.specs.Meaning.{plan_of}
 use Rattle.gate_grammar.specs.Arguments.{ArgumentValue, Name, Number, Code, Text}
 use Rattle.gate_grammar.specs.Commands.{values_of}
@@ -26,16 +31,19 @@ pub record IsPlainPlan (plan : Plan) : Type 0 where
   pub end : Fits plan.ends.0
   pub duration : Fits plan.lasts
 
-abbrev pub HasPlainPlan : Body → Type 0
-HasPlainPlan (bodies.Schedule host service starts ends fixed trigger lasts author text) =
-    (log_index : ℕ) → IsPlainPlan (plan_of starts ends fixed trigger lasts log_index)
-HasPlainPlan (bodies.ScheduleServices host starts ends fixed trigger lasts author text) =
-    (log_index : ℕ) → IsPlainPlan (plan_of starts ends fixed trigger lasts log_index)
-HasPlainPlan _ = Unit {0}
+-- the numbers of the downtime that it asks for have 32 bits
+abbrev pub IsPlainDeed : Deed → Type 0
+IsPlainDeed (deeds.Schedule span) = (log_index : ℕ) → IsPlainPlan (plan_of span log_index)
+IsPlainDeed _ = Unit {0}
+
+abbrev pub IsPlainAct : Act → Type 0
+IsPlainAct (acts.On host service deed) = IsPlainDeed deed
+IsPlainAct (acts.ScheduleServices host span) = (log_index : ℕ) → IsPlainPlan (plan_of span log_index)
+IsPlainAct _ = Unit {0}
 
 pub record IsPlainBody (body : Body) : Type 0 where
   pub author : HoldsNone (author_in body)
-  pub plan : HasPlainPlan body
+  pub plan : IsPlainAct (act_of body)
 
 -- ---- numbers
 
@@ -95,7 +103,7 @@ plan_values starts ends fixed trigger lasts =
 
 plain_plan : (starts ends : Moment) (fixed trigger lasts : ℕ) (rest : List ArgumentValue)
     → AllByRecursion FitsIfNumber (plan_values starts ends fixed trigger lasts ++ rest) → (log_index : ℕ)
-    → IsPlainPlan (plan_of starts ends fixed trigger lasts log_index)
+    → IsPlainPlan (plan_of (span_of starts ends fixed trigger lasts) log_index)
 plain_plan starts ends fixed trigger lasts rest fit log_index =
     record { trigger = fit.1.1.1.0; start = fit.0; end = fit.1.0; duration = fit.1.1.1.1.0 }
 
