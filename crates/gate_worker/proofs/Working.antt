@@ -16,8 +16,13 @@ use Rattle.gate_reader.specs.declared.report.Answer.TheVariants.{Queued, Full, S
 use Rattle.gate_reader.specs.declared.report.Report.{Report}
 use Rattle.gate_worker.specs.Numbers.{queued_numbers, item_numbers, numbers_after, reported_numbers}
 use Rattle.gate_environment.specs.Streams.{ComesNext, AreSent, SendFirst}
+use Rattle.gate_environment.specs.Parting.{parting, parting_all}
+use Rattle.gate_environment.specs.declared.connections.PieceEnd.{PieceEnd}
+use Rattle.gate_environment.proofs.PartingLaws.{parting_none, parting_next}
 use Rattle.gate_worker.specs.Work.{ServedPiece, IsServed, limits_of, left_after, ServesEach, has_queued, met_close, is_kept, count_of, AreFirst, Serves, KnowsItsClose, MetNoClose, EndsAtClose, IsWork}
 use Rattle.gate_worker.specs.Stops.{StopsAt}
+use Rattle.gate_worker.specs.inner.Parting.{end_after, GivesBack}
+use Rattle.gate_worker.specs.inner.Serving.{end_of_piece}
 use Rattle.gate_worker.specs.inner.Progress.{IsAsBefore, progress_before, progress_after, left_after_all, AgreesWith}
 use Rattle.gate_worker.specs.declared.progress.Progress.{Progress}
 use Rattle.gate_worker.specs.declared.progress.ProgressTable.{ProgressTable}
@@ -171,58 +176,64 @@ serves_next is_operator limits shows streams left later begun reports pushed loo
 
 -- ---- what a worker has done so far
 
--- it served pieces, and its table agrees with them
-pub record Worked (is_operator : Bool) (limits : WorkerLimits) (shows : Moment → Type 0) (streams left : Option (List (List ℕ))) (begun : ClientState) (reports : List Report) (table : ProgressTable) (client : ClientState) : Type 0 where
+-- it served pieces, its table agrees with them, and it gave them back
+pub record Worked (is_operator : Bool) (limits : WorkerLimits) (shows : Moment → Type 0) (streams left : Option (List (List ℕ))) (given now : Option (List PieceEnd)) (begun : ClientState) (reports : List Report) (table : ProgressTable) (client : ClientState) : Type 0 where
   pub serves : Serves is_operator limits shows streams left begun reports client
   pub agrees : AgreesWith limits.session table serves.pieces
+  pub parted : now ≡ parting_all (map end_after serves.pieces) given
 
-pub worked_none : (is_operator : Bool) (limits : WorkerLimits) (shows : Moment → Type 0) (streams : Option (List (List ℕ))) (begun : ClientState) (reports : List Report) (table : ProgressTable) (client : ClientState)
+pub worked_none : (is_operator : Bool) (limits : WorkerLimits) (shows : Moment → Type 0) (streams : Option (List (List ℕ))) (given : Option (List PieceEnd)) (begun : ClientState) (reports : List Report) (table : ProgressTable) (client : ClientState)
     → client ≡ client_state begun.gate begun.number begun.queued client.known_close → IfSome begun.known_close (λ first. client.known_close ≡ Some first)
     → reports ≡ [] → table.session ≡ limits.session → table.entries.items ≡ [] → table.counted ≡ 0
-    → Worked is_operator limits shows streams streams begun reports table client
+    → Worked is_operator limits shows streams streams given given begun reports table client
 unfolding serves_none
-worked_none is_operator limits shows streams begun reports table client stays learns empty session entries counted =
-    subst (λ (l : List Report). Worked is_operator limits shows streams streams begun l table client) (sym empty)
-    (record { serves = serves_none is_operator limits shows streams begun client stays learns; agrees = agrees_none limits.session table session entries counted })
+worked_none is_operator limits shows streams given begun reports table client stays learns empty session entries counted =
+    subst (λ (l : List Report). Worked is_operator limits shows streams streams given given begun l table client) (sym empty)
+    (record { serves = serves_none is_operator limits shows streams begun client stays learns; agrees = agrees_none limits.session table session entries counted; parted = parting_none given })
 
 -- a look at the close, and a table that says the same
-pub worked_look : (is_operator : Bool) (limits : WorkerLimits) (shows : Moment → Type 0) (streams left : Option (List (List ℕ))) (begun : ClientState) (reports reserved : List Report) (table grown : ProgressTable) (client looked : ClientState)
-    → Worked is_operator limits shows streams left begun reports table client
+pub worked_look : (is_operator : Bool) (limits : WorkerLimits) (shows : Moment → Type 0) (streams left : Option (List (List ℕ))) (given now taken : Option (List PieceEnd)) (begun : ClientState) (reports reserved : List Report) (table grown : ProgressTable) (client looked : ClientState)
+    → Worked is_operator limits shows streams left given now begun reports table client
     → looked ≡ client_state client.gate client.number client.queued looked.known_close → IfSome client.known_close (λ first. looked.known_close ≡ Some first)
-    → reserved ≡ reports → IsAsBefore table grown
-    → Worked is_operator limits shows streams left begun reserved grown looked
+    → reserved ≡ reports → IsAsBefore table grown → taken ≡ now
+    → Worked is_operator limits shows streams left given taken begun reserved grown looked
 unfolding serves_look
-worked_look is_operator limits shows streams left begun reports reserved table grown client looked w stays learns same as_before =
-    subst (λ (l : List Report). Worked is_operator limits shows streams left begun l grown looked) (sym same)
+worked_look is_operator limits shows streams left given now taken begun reports reserved table grown client looked w stays learns same as_before comes =
+    subst (λ (l : List Report). Worked is_operator limits shows streams left given taken begun l grown looked) (sym same)
     (record {
       serves = serves_look is_operator limits shows streams left begun reports client looked w.serves stays learns;
       agrees = agrees_same limits.session table grown w.serves.pieces as_before w.agrees;
+      parted = comes ∙ w.parted;
     })
 
--- one more piece, which was served with what the table said was left
-pub worked_next : (is_operator : Bool) (limits : WorkerLimits) (shows : Moment → Type 0) (streams left later : Option (List (List ℕ))) (begun : ClientState) (reports pushed : List Report) (table noted : ProgressTable) (looked : ClientState) (piece : ServedPiece) (before : Progress) (queued : Bool) (new : ClientState)
-    → Worked is_operator limits shows streams left begun reports table looked → looked.known_close ≡ None
+-- one more piece, which was served with what the table said was left, and given back
+pub worked_next : (is_operator : Bool) (limits : WorkerLimits) (shows : Moment → Type 0) (streams left later : Option (List (List ℕ))) (given now after : Option (List PieceEnd)) (end : PieceEnd) (begun : ClientState) (reports pushed : List Report) (table noted : ProgressTable) (looked : ClientState) (piece : ServedPiece) (before : Progress) (queued : Bool) (new : ClientState)
+    → Worked is_operator limits shows streams left given now begun reports table looked → looked.known_close ≡ None
     → before ≡ progress_before table.session table.entries.items piece.is_first piece.place
     → IsServed is_operator before.left limits.greatest_age shows looked piece new
     → ComesNext left (Some piece.sent) later → (IsSome left → piece.is_first ≡ true) → pushed ≡ reports ++ filter is_kept (piece.report ∷ [])
     → queued ≡ has_queued piece.report.answers → piece.place < length table.entries.items
     → noted.entries.items ≡ set table.entries.items piece.place (progress_after before piece.left queued)
     → noted.session ≡ table.session → noted.counted ≡ table.counted + count_of before.is_counted queued
-    → Worked is_operator limits shows streams later begun pushed noted new
-worked_next is_operator limits shows streams left later begun reports pushed table noted looked piece before queued new w none is served next whole kept had in' entries session counted =
+    → after ≡ parting end now → end ≡ end_of_piece piece.report.stop queued
+    → Worked is_operator limits shows streams later given after begun pushed noted new
+worked_next is_operator limits shows streams left later given now after end begun reports pushed table noted looked piece before queued new w none is served next whole kept had in' entries session counted parts ends =
     let allowed : before.left ≡ limits_of limits.session (left_after_all (λ (place : ℕ). limits.session) w.serves.pieces) piece =
     ap (λ (p : Progress). p.left) (before_piece limits.session table w.serves.pieces piece before w.agrees is) in
     let n = serves_next is_operator limits shows streams left later begun reports pushed looked piece new w.serves none
     (subst (λ (l : SessionLimits). IsServed is_operator l limits.greatest_age shows looked piece new) allowed served) next whole kept in
+    let called : end ≡ end_after piece = ends ∙ ap (end_of_piece piece.report.stop) had in
     record {
       serves = n.0;
       agrees = subst (AgreesWith limits.session noted) (sym n.1)
           (agrees_next limits.session table noted w.serves.pieces piece before queued w.agrees is had in' entries session counted);
+      parted = subst (λ (pieces : List ServedPiece). after ≡ parting_all (map end_after pieces) given) (sym n.1)
+          (parting_next end_after w.serves.pieces piece given now after w.parted (parts ∙ ap (λ (e : PieceEnd). parting e now) called));
     }
 
 -- the same of a piece before which the client looked for a close
-pub goes_on : (has is_operator : Bool) (limits : WorkerLimits) (shows : Moment → Type 0) (streams left middle later : Option (List (List ℕ))) (begun : ClientState) (reports reserved kept : List Report) (table grown noted : ProgressTable) (client looked : ClientState) (piece : ServedPiece) (before : Progress) (queued : Bool) (new : ClientState) (gate : GateId) (number : ℕ)
-    → Worked is_operator limits shows streams left begun reports table client
+pub goes_on : (has is_operator : Bool) (limits : WorkerLimits) (shows : Moment → Type 0) (streams left middle later : Option (List (List ℕ))) (given now taken after : Option (List PieceEnd)) (end : PieceEnd) (begun : ClientState) (reports reserved kept : List Report) (table grown noted : ProgressTable) (client looked : ClientState) (piece : ServedPiece) (before : Progress) (queued : Bool) (new : ClientState) (gate : GateId) (number : ℕ)
+    → Worked is_operator limits shows streams left given now begun reports table client
     → looked ≡ client_state client.gate client.number client.queued looked.known_close → IfSome client.known_close (λ first. looked.known_close ≡ Some first) → looked.known_close ≡ None
     → reserved ≡ reports → IsAsBefore table grown
     → before ≡ progress_before grown.session grown.entries.items piece.is_first piece.place
@@ -231,16 +242,17 @@ pub goes_on : (has is_operator : Bool) (limits : WorkerLimits) (shows : Moment �
     → queued ≡ has_queued piece.report.answers → piece.place < length grown.entries.items
     → noted.entries.items ≡ set grown.entries.items piece.place (progress_after before piece.left queued)
     → noted.session ≡ grown.session → noted.counted ≡ grown.counted + count_of before.is_counted queued
+    → taken ≡ now → after ≡ parting end taken → end ≡ end_of_piece piece.report.stop queued
     → client.gate ≡ gate → client.number ≡ number
-    → (new.gate ≡ gate) × (new.number ≡ number) × Worked is_operator limits shows streams later begun kept noted new
-goes_on has is_operator limits shows streams left middle later begun reports reserved kept table grown noted client looked piece before queued new gate number w stays learns none listed as_before is served role next parted whole pushed had in' entries session counted of_gate named = (
+    → (new.gate ≡ gate) × (new.number ≡ number) × Worked is_operator limits shows streams later given after begun kept noted new
+goes_on has is_operator limits shows streams left middle later given now taken after end begun reports reserved kept table grown noted client looked piece before queued new gate number w stays learns none listed as_before is served role next same whole pushed had in' entries session counted comes parts ends of_gate named = (
   served.same.gate ∙ ap (λ (c : ClientState). c.gate) stays ∙ of_gate,
   served.same.number ∙ ap (λ (c : ClientState). c.number) stays ∙ named,
-  worked_next is_operator limits shows streams left later begun reserved kept grown noted looked piece before queued new
-      (worked_look is_operator limits shows streams left begun reports reserved table grown client looked w stays learns listed as_before) none is
+  worked_next is_operator limits shows streams left later given taken after end begun reserved kept grown noted looked piece before queued new
+      (worked_look is_operator limits shows streams left given now taken begun reports reserved table grown client looked w stays learns listed as_before comes) none is
       (subst (λ (b : Bool). IsServed b before.left limits.greatest_age shows looked piece new) role served)
-      (subst (λ (o : Option (List (List ℕ))). ComesNext left (Some piece.sent) o) (sym parted) next)
-      whole pushed had in' entries session counted,
+      (subst (λ (o : Option (List (List ℕ))). ComesNext left (Some piece.sent) o) (sym same) next)
+      whole pushed had in' entries session counted parts ends,
 )
 
 -- a piece counts for one at most
@@ -370,18 +382,21 @@ serves_closes is_operator limits shows streams left begun reports ended s =
 
 -- ---- the end
 
-pub ended_work : (is_operator : Bool) (limits : WorkerLimits) (shows : Moment → Type 0) (streams left later : Option (List (List ℕ))) (begun : ClientState) (reports kept : List Report) (table : ProgressTable) (looked ended : ClientState) (cause why : Cause)
-    → Worked is_operator limits shows streams left begun reports table looked → ended ≡ looked → kept ≡ reports → why ≡ cause
+pub ended_work : (is_operator : Bool) (limits : WorkerLimits) (shows : Moment → Type 0) (streams left later : Option (List (List ℕ))) (given now : Option (List PieceEnd)) (begun : ClientState) (reports kept : List Report) (table : ProgressTable) (looked ended : ClientState) (cause why : Cause)
+    → Worked is_operator limits shows streams left given now begun reports table looked → ended ≡ looked → kept ≡ reports → why ≡ cause
     → (cause ≡ NoMoreConnections → ComesNext left None later) → StopsAt limits.sessions cause table.counted looked.known_close
-    → IsWork is_operator limits shows streams begun kept ended why
-ended_work is_operator limits shows streams left later begun reports kept table looked ended cause why w same listed is none stops =
-    let whole : IsWork is_operator limits shows streams begun reports looked cause = record {
-      left = left;
-      serves = w.serves;
-      all = λ e. none_left left later (none e);
-      stops = subst (λ (n : ℕ). StopsAt limits.sessions cause n looked.known_close) w.agrees.counted_is stops;
-      closes = serves_closes is_operator limits shows streams left begun reports looked w.serves;
+    → GivesBack is_operator limits shows streams begun kept ended why given now
+ended_work is_operator limits shows streams left later given now begun reports kept table looked ended cause why w same listed is none stops =
+    let whole : GivesBack is_operator limits shows streams begun reports looked cause given now = record {
+      work = record {
+        left = left;
+        serves = w.serves;
+        all = λ e. none_left left later (none e);
+        stops = subst (λ (n : ℕ). StopsAt limits.sessions cause n looked.known_close) w.agrees.counted_is stops;
+        closes = serves_closes is_operator limits shows streams left begun reports looked w.serves;
+      };
+      parted = w.parted;
     } in
-    subst (λ (c : ClientState). IsWork is_operator limits shows streams begun kept c why) (sym same)
-    (subst (λ (l : List Report). IsWork is_operator limits shows streams begun l looked why) (sym listed)
-    (subst (λ (c : Cause). IsWork is_operator limits shows streams begun reports looked c) (sym is) whole))
+    subst (λ (c : ClientState). GivesBack is_operator limits shows streams begun kept c why given now) (sym same)
+    (subst (λ (l : List Report). GivesBack is_operator limits shows streams begun l looked why given now) (sym listed)
+    (subst (λ (c : Cause). GivesBack is_operator limits shows streams begun reports looked c given now) (sym is) whole))

@@ -4,6 +4,7 @@ ghost use Rattle.gate_worker.specs.Numbers.{item_numbers, numbers_after, reporte
 ghost use Rattle.gate_worker.specs.Stops.{StopsAt};
 ghost use Rattle.gate_environment.specs.Streams.{ComesNext};
 ghost use Rattle.gate_worker.specs.Work.{has_queued, is_kept, IsWork};
+ghost use Rattle.gate_worker.specs.inner.Parting.{GivesBack};
 ghost use Rattle.gate_worker.specs.inner.Progress.{IsAsBefore};
 ghost use Rattle.gate_worker.specs.declared.worker.Cause.TheVariants.{NoMoreConnections};
 
@@ -79,6 +80,7 @@ fn next_piece<R: Wait + Clock, C: Connections, K>(
         IsSome (C.streams connections.old) → piece.is_first ≡ true) }
     ensures none { IfErr result (λ cause. cause ≡ NoMoreConnections
         → ComesNext (C.streams connections.old) None (C.streams connections.new)) }
+    ensures none_parts { C.parted connections.new ≡ C.parted connections.old }
     ensures reports { reports.new.items ≡ reports.old.items }
     ensures room { OnOk result (vec_len reports.new < vec_capacity reports.new) }
     ensures as_before { IsAsBefore table.old table.new }
@@ -157,6 +159,57 @@ fn end_of(client: Client, reports: Vec<Report>, cause: Cause) -> WorkerEnd
     }
 }
 
+// Serves pieces one after another until the worker ends, and gives each back: its connection goes on or is
+// over as the report calls for.
+fn serve_pieces<R: Wait + Clock, C: Connections, K: Watch, H: Hold>(
+    serving: &Serving<'_, R, K>,
+    client: Client,
+    closer: Option<Closer>,
+    connections: &mut C,
+    hold: &mut H,
+) -> WorkerEnd
+    requires gate { client.gate ≡ serving.now.gate.now }
+    requires closer { IfSome closer (λ c. c.cell ≡ serving.now.gate.now.cell) }
+    requires fresh { client.queued ≡ [] }
+    requires sessions { serving.now.limits.sessions ≤ 4294967295 }
+    ensures gate { result.ended.gate ≡ serving.now.gate.now }
+    ensures number { result.ended.number ≡ client.number }
+    ensures work { GivesBack (is_some closer) serving.now.limits (K.shows serving.now.clock.now)
+        (C.streams connections.old) client result.reports.items result.ended result.cause
+        (C.parted connections.old) (C.parted connections.new) }
+{
+    let Serving {
+        rt,
+        alloc,
+        limits,
+        ..
+    } = *serving;
+    let mut client = client;
+    let mut closer = closer;
+    let mut reports = Vec::new(alloc);
+    let mut table = ProgressTable::new(alloc, limits.session);
+    learn(&mut client, &closer);
+    for _ in rt.forever() {
+        match next_piece(serving, &mut client, &mut reports, &mut table, connections) {
+            Ok(mut piece) => {
+                hold.pass(Point::Session);
+                let place = piece.place;
+                let before = table.before(place, piece.is_first);
+                let served = serve(serving, client, closer, &mut piece, before.left);
+                client = served.client;
+                closer = served.closer;
+                let queued = has_queued(served.report.answers.as_slice());
+                table.note(place, before, served.left, queued);
+                connections.part(piece, end_of_piece(&served.report.stop, queued));
+                keep_report(&mut reports, served.report, queued);
+                hold.pass(Point::Answered);
+            }
+            Err(cause) => return end_of(client, reports, cause),
+        }
+    }
+    unreachable!()
+}
+
 /// Serves pieces of connections one after another: as lines of an operator where there is a closer, else
 /// as packets of an agent.
 ///
@@ -201,37 +254,7 @@ pub fn run_worker<R: Wait + Clock, C: Connections + Drop, K: Watch, H: Hold + Dr
         clock,
         limits,
     };
-    let mut client = client;
-    let mut closer = closer;
-    let mut reports = Vec::new(alloc);
-    let mut table = ProgressTable::new(alloc, limits.session);
-    learn(&mut client, &closer);
-    for _ in rt.forever() {
-        match next_piece(
-            &serving,
-            &mut client,
-            &mut reports,
-            &mut table,
-            &mut connections,
-        ) {
-            Ok(mut piece) => {
-                hold.pass(Point::Session);
-                let place = piece.place;
-                let before = table.before(place, piece.is_first);
-                let served = serve(&serving, client, closer, &mut piece, before.left);
-                client = served.client;
-                closer = served.closer;
-                let queued = has_queued(served.report.answers.as_slice());
-                table.note(place, before, served.left, queued);
-                connections.part(piece, end_of_piece(&served.report.stop, queued));
-                keep_report(&mut reports, served.report, queued);
-                hold.pass(Point::Answered);
-            }
-            Err(cause) => {
-                connections.end();
-                return end_of(client, reports, cause);
-            }
-        }
-    }
-    unreachable!()
+    let end = serve_pieces(&serving, client, closer, &mut connections, &mut hold);
+    connections.end();
+    end
 }
