@@ -104,14 +104,20 @@ def play_little_memory(_, folder):
     check_whole("little memory", status, errors, page, MANY + 1)
 
 
+def starved(folder):
+    """A daemon that has taken packets, and the file beside which it is granted no memory."""
+    refusing = os.path.join(folder, "refusing")
+    daemon = Logged(folder, f"export LD_PRELOAD='{sys.argv[2]}' FAIL_ALLOC_LARGE=0 FAIL_ALLOC_WHILE='{refusing}'")
+    daemon.send(3 * AT_ONCE)
+    return daemon, refusing
+
+
 def play_no_memory(_, folder):
     """From the answer `closing` on no memory is granted, and the page is whole."""
     if len(sys.argv) < 3:
         print("no memory ... skipped: cc is not installed")
         return
-    refusing = os.path.join(folder, "refusing")
-    daemon = Logged(folder, f"export LD_PRELOAD='{sys.argv[2]}' FAIL_ALLOC_LARGE=0 FAIL_ALLOC_WHILE='{refusing}'")
-    daemon.send(3 * AT_ONCE)
+    daemon, refusing = starved(folder)
     daemon.close()
     open(refusing, "w", encoding="ascii").close()
     status, page, errors = daemon.end(SECONDS)
@@ -124,9 +130,7 @@ def play_a_shutdown_without_memory(_, folder):
     if len(sys.argv) < 3:
         print("a shutdown without memory ... skipped: cc is not installed")
         return
-    refusing = os.path.join(folder, "refusing")
-    daemon = Logged(folder, f"export LD_PRELOAD='{sys.argv[2]}' FAIL_ALLOC_LARGE=0 FAIL_ALLOC_WHILE='{refusing}'")
-    daemon.send(3 * AT_ONCE)
+    daemon, refusing = starved(folder)
     open(refusing, "w", encoding="ascii").close()
     daemon.close()
     status, page, errors = daemon.end(SECONDS)
