@@ -14,6 +14,7 @@ use Rattle.gate_reader.specs.declared.report.Stop.TheVariants.{End, Truncated, B
 use Rattle.gate_environment.proofs.Readings.{shows_append}
 use Rattle.gate_reader.proofs.Blocks.{packet_laws}
 use Rattle.gate_reader.proofs.LineCuts.{line_laws}
+use Rattle.gate_reader.proofs.LineSteps.{may_later}
 use Rattle.gate_reader.proofs.LineProgress.{writes_append, writes_fail}
 use Rattle.gate_reader.proofs.PacketSessions.{session_of_first}
 use Rattle.gate_reader.proofs.Joins.{open_append, close_later, open_before_last_later, StopsLater, pieces_join}
@@ -85,7 +86,20 @@ line_stops_later view most fewer one two o all WriteFault rest answered last new
 line_stops_later view most fewer one two o all TooMany rest answered last new s =
     let full = s.2 in (open_append one two o s.0, s.1, omega (arith, length-append one two, all, full), s.3)
 line_stops_later view most fewer one two o all OutOfMemory rest answered last new s =
-    let few = s.2 in (open_append one two o s.0, s.1, omega (arith, length-append one two, all, few), s.3)
+    let out = s.1 in
+    let few = s.2 in (
+      open_append one two o s.0,
+      record {
+        line = out.line;
+        more = out.more;
+        begins = out.begins;
+        ran_out = elim out.ran_out [
+          | inl stays ↦ inl (stays.0, may_later one two out.line stays.1)
+          | inr closes ↦ inr closes
+        ];
+      },
+      omega (arith, length-append one two, all, few),
+    )
 line_stops_later view most fewer one two o all Shutdown rest answered last new s = (close_later one two o s.0, s.1)
 
 answered_later : (stop : Stop) (one two : List Answer) (a m b : SinkState) → WritesAnswers a m one → Answered stop two m b → Answered stop (one ++ two) a b

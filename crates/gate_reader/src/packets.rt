@@ -118,6 +118,7 @@ pub(crate) fn stop_at_end(rest: usize) -> Stop
 // Reads and serves the packets of the input: why the session stops, and how many of its reads count.
 fn read_packets<R: Source, C: Clock, S: Submit>(
     alloc: Global,
+    buffer: &mut ReadBuffer,
     reader: &mut R,
     clock: &mut C,
     client: &mut S,
@@ -133,7 +134,7 @@ fn read_packets<R: Source, C: Clock, S: Submit>(
     ensures named { S.named client.new ≡ S.named client.old }
     ensures keeps { S.keeps client.old client.new }
 {
-    let mut buffer = ReadBuffer::new();
+    buffer.clear();
     for made in 0..limits.reads {
         match buffer.read(reader) {
             Err(_) => return (Stop::ReadFault, made + 1),
@@ -160,6 +161,8 @@ fn read_packets<R: Source, C: Clock, S: Submit>(
 /// of each, one after the other. Beside the report stands what is left of the limits, which is what
 /// the connection's next piece may do.
 ///
+/// What the buffer holds is dropped before the first read.
+///
 /// Each packet has one answer in the report: `Queued`, `Full`, `Spent` or `Closing` as the client
 /// answers its submission, or `Stale` or `EmptyHost` where it was dropped. The piece stops at its
 /// end (`End`, `Truncated`), at a packet with another fault (`BadPacket`), after the answer `Closing`
@@ -178,6 +181,7 @@ fn read_packets<R: Source, C: Clock, S: Submit>(
 /// answers, the stops and what is left.
 pub fn serve_packet_piece<R: Source, C: Clock, S: Submit>(
     alloc: Global,
+    buffer: &mut ReadBuffer,
     reader: &mut R,
     clock: &mut C,
     client: &mut S,
@@ -200,6 +204,7 @@ pub fn serve_packet_piece<R: Source, C: Clock, S: Submit>(
     let mut answers = AnswerList::new(alloc);
     let (stop, reads) = read_packets(
         alloc,
+        buffer,
         reader,
         clock,
         client,
@@ -248,6 +253,7 @@ pub fn greet<W: Sink, C: Clock>(writer: &mut W, clock: &mut C) -> io::Result<()>
 /// length of a packet, the answers, the stops and what is left.
 pub fn serve_first_packet_piece<R: Source, W: Sink, C: Clock, S: Submit>(
     alloc: Global,
+    buffer: &mut ReadBuffer,
     reader: &mut R,
     writer: &mut W,
     clock: &mut C,
@@ -276,7 +282,7 @@ pub fn serve_first_packet_piece<R: Source, W: Sink, C: Clock, S: Submit>(
         };
         return (report, limits);
     }
-    serve_packet_piece(alloc, reader, clock, client, limits, greatest_age)
+    serve_packet_piece(alloc, buffer, reader, clock, client, limits, greatest_age)
 }
 
 /// Serves one connection of an agent: writes the greeting with the clock's moment, and then reads
@@ -320,8 +326,10 @@ pub fn serve_packets<R: Source, W: Sink, C: Clock, S: Submit>(
     ensures named { S.named client.new ≡ S.named client.old }
     ensures keeps { S.keeps client.old client.new }
 {
+    let mut buffer = ReadBuffer::new();
     let (report, _) = serve_first_packet_piece(
         alloc,
+        &mut buffer,
         reader,
         writer,
         clock,

@@ -124,8 +124,8 @@ lines_after {S} view limits halt.End answers rest answered last new calls failur
 lines_after {S} view limits (halt.Truncated count) answers rest answered last new calls failures left s first e = ap view.client.knows s.1.0 ∙ e
 lines_after {S} view limits halt.ReadFault answers rest answered last new calls failures left s first e = ap view.client.knows s.1.0 ∙ e
 lines_after {S} view limits halt.TooMany answers rest answered last new calls failures left s first e = ap view.client.knows s.0.1.0 ∙ e
-lines_after {S} view limits halt.OutOfMemory answers rest answered last new calls failures left s first e = elim s.0.1 [
-  | inl same ↦ ap view.client.knows same.0 ∙ e
+lines_after {S} view limits halt.OutOfMemory answers rest answered last new calls failures left s first e = elim s.0.1.ran_out [
+  | inl stays ↦ ap view.client.knows stays.0.0 ∙ e
   | inr out ↦ closes_stay view answered out.now (Err fault.OutOfMemory) new out.refused first e
 ]
 lines_after {S} view limits halt.WriteFault answers rest answered last new calls failures left s first e = ap view.client.knows s.0.1.0 ∙ e

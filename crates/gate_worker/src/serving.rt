@@ -11,7 +11,7 @@ use gate_environment::times::{AGENT_ROOM_MILLIS, OPERATOR_ROOM_MILLIS};
 use gate_environment::{Clock, Piece, PieceEnd, SharedClock, Watch};
 use gate_queue::{Client, Closer, Gate, GateClient, GateOperator};
 use gate_reader::{
-    Answer, Report, SessionLimits, Stop, serve_first_packet_piece, serve_line_piece,
+    Answer, ReadBuffer, Report, SessionLimits, Stop, serve_first_packet_piece, serve_line_piece,
     serve_packet_piece,
 };
 use gate_streams::{Sink, Source};
@@ -32,6 +32,7 @@ pub(crate) struct Serving<'a, R, K> {
 // Serves a piece of an agent's connection, with these limits, to this client: its first one is greeted.
 fn serve_packets<I: Source, O: Sink, C: Clock, S: Submit>(
     alloc: Global,
+    buffer: &mut ReadBuffer,
     piece: &mut Piece<I, O>,
     clock: &mut C,
     client: &mut S,
@@ -50,6 +51,7 @@ fn serve_packets<I: Source, O: Sink, C: Clock, S: Submit>(
     if piece.is_first {
         serve_first_packet_piece(
             alloc,
+            buffer,
             &mut piece.input,
             &mut piece.output,
             clock,
@@ -60,6 +62,7 @@ fn serve_packets<I: Source, O: Sink, C: Clock, S: Submit>(
     } else {
         serve_packet_piece(
             alloc,
+            buffer,
             &mut piece.input,
             clock,
             client,
@@ -82,6 +85,7 @@ pub(crate) struct Served {
 /// agent.
 pub(crate) fn serve<R: Wait + time::Clock, I: Source + Drop, O: Sink + Drop, K: Watch>(
     serving: &Serving<'_, R, K>,
+    buffer: &mut ReadBuffer,
     client: Client,
     closer: Option<Closer>,
     piece: &mut Piece<I, O>,
@@ -132,6 +136,7 @@ pub(crate) fn serve<R: Wait + time::Clock, I: Source + Drop, O: Sink + Drop, K: 
             let mut agent = Waiting::new(rt, gate, lone, AGENT_ROOM_MILLIS);
             let (report, left) = serve_packets(
                 alloc,
+                buffer,
                 piece,
                 &mut clock,
                 &mut agent,

@@ -14,7 +14,7 @@ use crate::serving::{Serving, end_of_piece, has_queued, met_close, serve};
 use gate_environment::times::MEMORY_TRIES;
 use gate_environment::{Connections, Hold, Piece, Point, Watch, pause};
 use gate_queue::{Client, Closer, Ended, Gate};
-use gate_reader::Report;
+use gate_reader::{ReadBuffer, Report};
 use std::alloc::Global;
 use std::sync::Wait;
 use std::time::Clock;
@@ -188,6 +188,7 @@ fn serve_pieces<R: Wait + Clock, C: Connections, K: Watch, H: Hold>(
     let mut closer = closer;
     let mut reports = Vec::new(alloc);
     let mut table = ProgressTable::new(alloc, limits.session);
+    let mut buffer = ReadBuffer::new();
     learn(&mut client, &closer);
     for _ in rt.forever() {
         match next_piece(serving, &mut client, &mut reports, &mut table, connections) {
@@ -195,7 +196,14 @@ fn serve_pieces<R: Wait + Clock, C: Connections, K: Watch, H: Hold>(
                 hold.pass(Point::Session);
                 let place = piece.place;
                 let before = table.before(place, piece.is_first);
-                let served = serve(serving, client, closer, &mut piece, before.left);
+                let served = serve(
+                    serving,
+                    &mut buffer,
+                    client,
+                    closer,
+                    &mut piece,
+                    before.left,
+                );
                 client = served.client;
                 closer = served.closer;
                 let queued = has_queued(served.report.answers.as_slice());
