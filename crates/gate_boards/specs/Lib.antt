@@ -1,3 +1,4 @@
 pub mod Applying
 pub mod Boards
+pub mod Showing
 pub mod inner

@@ -1,1 +1,3 @@
+pub mod Making
 pub mod Publishing
+pub mod Serving

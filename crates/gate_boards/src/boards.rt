@@ -149,9 +149,11 @@ pub(crate) fn show<R: Wait + Clock>(
     board: &Mutex<Board>,
 ) -> LastBoard
     requires rest { last.rest_millis ≤ 5_000 }
-    ensures due { is_due found last (length applier.now.records) applier.now.moment passed_millis ≡ true
-        → IsTried applier.now result }
-    ensures waits { is_due found last (length applier.now.records) applier.now.moment passed_millis ≡ false
+    ensures due { let shown = applier.now in
+        is_due found last (length shown.records) shown.moment passed_millis ≡ true
+        → IsTried shown result }
+    ensures waits { let shown = applier.now in
+        is_due found last (length shown.records) shown.moment passed_millis ≡ false
         → result ≡ record last { quiet_pauses = quiet_after found last.quiet_pauses } }
     ensures rest { result.rest_millis ≤ 5_000 }
 {

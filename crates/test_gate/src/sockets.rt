@@ -2,7 +2,7 @@ use crate::fakes::{packet, settings};
 use crate::gateways::left_by;
 use gate_daemon::{Endpoints, run_gateway};
 use gate_environment::NoHold;
-use gate_ports::{AgentsPort, OperatorsPort, PagesPort, Ports, SystemWatch};
+use gate_ports::{AgentsPort, Listener, OperatorsPort, Owner, PagesPort, Ports, SystemWatch};
 use gate_worker::Endpoint;
 use std::alloc::Global;
 use std::io::{Read, Write};
@@ -75,10 +75,11 @@ fn serve<R: Threads + Wait + Clock + Sync>(rt: &R, alloc: Global, ports: &Ports)
 // A listener at a free port, with its address.
 fn bound<R: Net<Listener = TcpListener, Stream = TcpStream>>(
     rt: &R,
-) -> io::Result<(TcpListener, SocketAddr)> {
-    let listener = TcpListener::bind(rt, "127.0.0.1:0")?;
-    let address = listener.local_addr()?;
-    Ok((listener, address))
+) -> io::Result<(Listener, SocketAddr)> {
+    let socket = TcpListener::bind(rt, "127.0.0.1:0")?;
+    let address = socket.local_addr()?;
+    let owner = Owner::Daemon;
+    Ok((Listener { socket, owner }, address))
 }
 
 // The ports of a gateway at free ports, with their addresses: the agents', the operators' and the pages'.

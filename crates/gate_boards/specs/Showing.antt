@@ -4,8 +4,8 @@ use Rattle.std.specs.List.{AllByRecursion}
 use Rattle.gate_environment.specs.Streams.{SendFirst, AreSent}
 use Rattle.gate_pages.specs.StatusPage.{BoardView, status_text}
 use Rattle.gate_streams.specs.Sink.{SinkState, Delivers, FailsOnce}
-use Rattle.gate_showing.specs.declared.pages.PagesEnd.{PagesEnd}
-use Rattle.gate_showing.specs.declared.pages.PagesEnd.TheVariants.{Closed, NoMoreReaders}
+use Rattle.gate_boards.specs.declared.pages.PagesEnd.{PagesEnd}
+use Rattle.gate_boards.specs.declared.pages.PagesEnd.TheVariants.{Closed, NoMoreReaders}
 
 -- the status page of a board was written and delivered, or a call of the output failed, or nothing was written, since
 -- there was no memory for it; it is the last page exactly where that board is marked closing

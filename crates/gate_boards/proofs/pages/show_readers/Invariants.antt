@@ -1,5 +1,5 @@
-use Rattle.gate_showing.proofs.Readers.{HasShown}
-use Rattle.gate_showing.proofs.pages.show_readers.Given as goal
+use Rattle.gate_boards.proofs.Readers.{HasShown}
+use Rattle.gate_boards.proofs.pages.show_readers.Given as goal
 
 abbrev pub invariant-loop : goal.invariant-loop
 invariant-loop g l =

@@ -1,9 +1,9 @@
 ghost use Rattle.std.specs.Prelude.{◌≡◌, IfOk};
 ghost use Rattle.std.specs.Arc.{arc_value};
 ghost use Rattle.gate_pages.specs.StatusPage.{status_text};
-ghost use Rattle.gate_showing.specs.Showing.{ShowsBoard, IsShowing};
-ghost use Rattle.gate_showing.specs.inner.Making.{IsMadeOf};
-ghost use Rattle.gate_showing.specs.inner.Serving.{ServesOnce};
+ghost use Rattle.gate_boards.specs.Showing.{ShowsBoard, IsShowing};
+ghost use Rattle.gate_boards.specs.inner.Making.{IsMadeOf};
+ghost use Rattle.gate_boards.specs.inner.Serving.{ServesOnce};
 
 use gate_environment::times::MEMORY_TRIES;
 use gate_environment::{Connections, PieceEnd, pause};

@@ -1,5 +1,5 @@
-use Rattle.gate_showing.proofs.Readers.{shown_next, shown_last, shown_all}
-use Rattle.gate_showing.proofs.pages.show_readers.Goals as goal
+use Rattle.gate_boards.proofs.Readers.{shown_next, shown_last, shown_all}
+use Rattle.gate_boards.proofs.pages.show_readers.Goals as goal
 
 pub returns-in_default : goal.returns-in_default
 returns-in_default g c =

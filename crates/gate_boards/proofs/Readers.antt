@@ -8,9 +8,9 @@ use Rattle.gate_environment.specs.declared.connections.PieceEnd.{PieceEnd}
 use Rattle.gate_environment.specs.declared.connections.PieceEnd.TheVariants.{Over}
 use Rattle.gate_environment.proofs.PartingLaws.{parting_none, parting_next}
 use Rattle.gate_streams.specs.Sink.{SinkState}
-use Rattle.gate_showing.specs.Showing.{ShowsBoard, ServedReader, EachShown, NoneIsLast, IsShowing}
-use Rattle.gate_showing.specs.inner.Serving.{ServesOnce}
-use Rattle.gate_showing.specs.declared.pages.PagesEnd.TheVariants.{Closed, NoMoreReaders}
+use Rattle.gate_boards.specs.Showing.{ShowsBoard, ServedReader, EachShown, NoneIsLast, IsShowing}
+use Rattle.gate_boards.specs.inner.Serving.{ServesOnce}
+use Rattle.gate_boards.specs.declared.pages.PagesEnd.TheVariants.{Closed, NoMoreReaders}
 
 -- the connection of a reader is over after its piece
 abbrev end_of : ServedReader → PieceEnd
