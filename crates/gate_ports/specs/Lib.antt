@@ -1,5 +1,6 @@
 pub mod Addresses
 pub mod Asked
+pub mod Listeners
 pub mod Since
 pub mod Held
 pub mod Ending

@@ -60,7 +60,9 @@ pub struct PeerConnections<'a, R, K: Copy> {
 }
 
 impl<'a, R, K: Copy> PeerConnections<'a, R, K> {
-    pub(crate) fn new(rt: &'a R, worker: &'a Worker, kind: K) -> PeerConnections<'a, R, K> {
+    pub(crate) fn new(rt: &'a R, worker: &'a Worker, kind: K) -> PeerConnections<'a, R, K>
+        ensures { result.worker.now ≡ worker.now }
+    {
         PeerConnections {
             rt,
             worker,

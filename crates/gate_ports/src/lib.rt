@@ -8,6 +8,7 @@ mod accepting;
 mod connections;
 mod cutting;
 mod held;
+mod listener;
 mod peer;
 mod peers;
 mod port;
@@ -29,6 +30,7 @@ pub use connections::{
     AgentConnections, Agents, OperatorConnections, Operators, PeerConnections, PeerInput,
     PeerOutput, ReaderConnections, Readers,
 };
+pub use listener::{Listener, Owner};
 pub use port::{AgentsPort, OperatorsPort, PagesPort};
 pub use ports::Ports;
 pub use system_watch::SystemWatch;

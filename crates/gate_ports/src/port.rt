@@ -2,6 +2,7 @@ ghost use Rattle.std.specs.Prelude.{◌≡◌, ◌<◌, ◌↔◌, vec_len, IsSo
 ghost use Rattle.gate_turns.specs.Waiting.{silence_of};
 
 use crate::connections::{Agents, Operators, PeerConnections, Readers};
+use crate::listener::Listener;
 use crate::peers::Peers;
 use crate::selector::Selector;
 use crate::serving::Serving;
@@ -11,7 +12,7 @@ use libc::net::listen;
 use mio::Waker;
 use std::alloc::Global;
 use std::io;
-use std::net::{Net, TcpListener};
+use std::net::Net;
 use std::os::fd::AsRawFd;
 use std::sync::atomic::{AtomicBool, AtomicU64, Ordering};
 use std::sync::{Arc, Mutex};
@@ -70,15 +71,15 @@ impl Port {
     fn new<R: Net + Clock>(
         rt: &R,
         alloc: Global,
-        listener: TcpListener,
+        listener: Listener,
         workers: u32,
         rules: Rules,
     ) -> io::Result<Port>
         ensures workers { IfOk result (λ port. vec_len port.workers ≡ workers) }
         ensures rules { IfOk result (λ port. port.rules ≡ rules) }
     {
-        listener.set_nonblocking(true)?;
-        if listen(listener.as_raw_fd(), BACKLOG) < 0 {
+        listener.socket.set_nonblocking(true)?;
+        if listen(listener.socket.as_raw_fd(), BACKLOG) < 0 {
             return Err(io::Error::from_raw_os_error(os::errno()));
         }
         let shared = Shared {
@@ -136,7 +137,7 @@ impl AgentsPort {
     pub fn new<R: Net + Clock>(
         rt: &R,
         alloc: Global,
-        listener: TcpListener,
+        listener: Listener,
         workers: u32,
         greatest_age: u32,
     ) -> io::Result<AgentsPort>
@@ -179,7 +180,7 @@ impl OperatorsPort {
     pub fn new<R: Net + Clock>(
         rt: &R,
         alloc: Global,
-        listener: TcpListener,
+        listener: Listener,
     ) -> io::Result<OperatorsPort>
         ensures { IfOk result (λ port. port.port.rules.role ≡ Role.Operator) }
     {
@@ -206,11 +207,7 @@ pub struct PagesPort {
 impl PagesPort {
     /// The port of this listener. It fails where the system has no descriptors for waiting, or memory is
     /// missing.
-    pub fn new<R: Net + Clock>(
-        rt: &R,
-        alloc: Global,
-        listener: TcpListener,
-    ) -> io::Result<PagesPort>
+    pub fn new<R: Net + Clock>(rt: &R, alloc: Global, listener: Listener) -> io::Result<PagesPort>
         ensures { IfOk result (λ port. port.port.rules.role ≡ Role.Reader) }
     {
         let rules = Rules::of_others(Role::Reader);

@@ -101,7 +101,7 @@ impl Peers {
     {
         let _ = self
             .selector
-            .ask(&self.shared.listener, Asked::NoConnections);
+            .ask(&self.shared.listener.socket, Asked::NoConnections);
         self.door = Door::Rests(self.now.saturating_add(ACCEPT_MILLIS));
     }
 
@@ -112,7 +112,10 @@ impl Peers {
         ensures table { self.new.table ≡ self.old.table }
         ensures time { IsSameTime self.old self.new }
     {
-        self.door = match self.selector.ask(&self.shared.listener, Asked::Connections) {
+        self.door = match self
+            .selector
+            .ask(&self.shared.listener.socket, Asked::Connections)
+        {
             Ok(()) => Door::Open,
             Err(_) => Door::Rests(self.now.saturating_add(ACCEPT_MILLIS)),
         };
@@ -144,7 +147,7 @@ impl Peers {
         if let Door::Open = self.door {
             let _ = self
                 .selector
-                .ask(&self.shared.listener, Asked::NoConnections);
+                .ask(&self.shared.listener.socket, Asked::NoConnections);
         }
         self.door = Door::Closed;
     }
@@ -212,7 +215,7 @@ impl Peers {
             self.rest();
             return false;
         }
-        match accept(&self.shared.listener) {
+        match accept(&self.shared.listener.socket) {
             Ok((stream, address)) => {
                 let _ = self.add(served, stream, address);
                 true

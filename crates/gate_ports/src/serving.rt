@@ -7,6 +7,7 @@ ghost use Rattle.gate_turns.specs.Pages.{is_slow, kept};
 ghost use Rattle.gate_ports.specs.Room.{GiveWay};
 ghost use Rattle.gate_ports.specs.Serving.{timeout_of, most_wait, KeepsServed, HandsOutServed, IsServedNext, GoesOnSince, IsNextOf};
 
+use crate::listener::{Listener, ends_listener};
 use crate::peers::{Door, Peers, earlier};
 use crate::selector::LISTENER;
 use crate::served::Served;
@@ -435,8 +436,8 @@ impl Serving {
         }
     }
 
-    // No more connections are accepted. The last worker closes the listener, so that peers are refused at
-    // once.
+    // No more connections are accepted. The last worker ends the listener, so that peers are refused at
+    // once. A listener that is lent doesn't end: peers wait there for the next daemon.
     fn stop_accepting(&mut self)
         ensures table { self.new.peers.table ≡ self.old.peers.table }
         ensures door { self.new.peers.door ≡ Door.Closed }
@@ -444,8 +445,13 @@ impl Serving {
     {
         self.peers.stop_accepting();
         let shared = &self.peers.shared;
-        if shared.workers.fetch_sub(1, Ordering::SeqCst) == 1 {
-            shutdown(shared.listener.as_raw_fd(), SHUT_RDWR);
+        let left = shared
+            .workers
+            .fetch_sub(1, Ordering::SeqCst)
+            .saturating_sub(1);
+        let Listener { socket, owner } = &shared.listener;
+        if ends_listener(*owner, left) {
+            shutdown(socket.as_raw_fd(), SHUT_RDWR);
         }
     }
 

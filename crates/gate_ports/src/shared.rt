@@ -1,8 +1,8 @@
 ghost use Rattle.std.specs.Prelude.{◌≡◌, ◌≢◌};
 ghost use Rattle.gate_turns.specs.Waiting.{silence_of};
 
+use crate::listener::Listener;
 use gate_turns::{Role, silence_of};
-use std::net::TcpListener;
 use std::sync::atomic::{AtomicBool, AtomicU64};
 
 /// What holds for the peers of a port.
@@ -58,7 +58,7 @@ impl Rules {
 /// What the workers of a port share.
 #[derive(Drop)]
 pub(crate) struct Shared {
-    pub(crate) listener: TcpListener,
+    pub(crate) listener: Listener,
     // How many peers are open.
     pub(crate) count: AtomicU64,
     // How many workers have not ended.

@@ -1,4 +1,5 @@
 pub mod Kept
+pub mod Lent
 pub mod AfterServing
 pub mod BeforeServing
 pub mod Fault

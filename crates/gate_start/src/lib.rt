@@ -6,6 +6,7 @@ mod configuring;
 mod ending;
 mod fault;
 mod keeping;
+mod lent;
 mod listening;
 mod printing;
 mod served;

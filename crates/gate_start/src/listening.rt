@@ -2,9 +2,10 @@ ghost use Rattle.std.specs.Prelude.{◌≡◌, IfErr, IfOk, IsTrue};
 ghost use Rattle.gate_start.specs.BeforeServing.{AreBoundAs, IsAddressIn, IsBindEnd, IsBoundAs};
 
 use crate::fault::{ServeFault, or_fault};
+use crate::lent::Lent;
 use gate_config::{Address, Config};
 use gate_model::Text;
-use gate_ports::{AgentsPort, OperatorsPort, PagesPort, Ports};
+use gate_ports::{AgentsPort, Listener, OperatorsPort, Owner, PagesPort, Ports};
 use std::alloc::Global;
 use std::io;
 use std::io::ErrorKind;
@@ -41,17 +42,35 @@ fn is_bound_as(configured: SocketAddr, address: SocketAddr) -> bool
         && (configured.port() == 0 || address.port() == configured.port())
 }
 
-// Binds a socket, and opens a port at this very listener.
+// The listening socket of this address: one that is lent, or else one that is bound here.
+fn listener_of<R: Net<Listener = TcpListener, Stream = TcpStream>>(
+    rt: &R,
+    lent: &mut Lent,
+    socket: SocketAddr,
+) -> io::Result<Listener> {
+    match lent.take(socket) {
+        Some(socket) => Ok(Listener {
+            socket,
+            owner: Owner::Supervisor,
+        }),
+        None => Ok(Listener {
+            socket: TcpListener::bind(rt, socket)?,
+            owner: Owner::Daemon,
+        }),
+    }
+}
+
+// Binds a socket, unless it is lent, and opens a port at this very listener.
 fn bind_socket<
     R: Net<Listener = TcpListener, Stream = TcpStream>,
     P: Drop,
-    F: FnOnce(TcpListener) -> io::Result<P> + Drop,
->(rt: &R, socket: SocketAddr, make: F) -> io::Result<Bound<P>>
+    F: FnOnce(Listener) -> io::Result<P> + Drop,
+>(rt: &R, lent: &mut Lent, socket: SocketAddr, make: F) -> io::Result<Bound<P>>
     requires { F.IsAlwaysCallable make }
     ensures { IfOk result (λ bound. IsBoundAs socket bound.address) }
 {
-    let listener = TcpListener::bind(rt, socket)?;
-    let address = listener.local_addr()?;
+    let listener = listener_of(rt, lent, socket)?;
+    let address = listener.socket.local_addr()?;
     if !is_bound_as(socket, address) {
         return Err(io::Error::from(ErrorKind::AddrNotAvailable));
     }
@@ -65,14 +84,20 @@ fn bind_socket<
 fn bind<
     R: Net<Listener = TcpListener, Stream = TcpStream>,
     P: Drop,
-    F: FnOnce(TcpListener) -> io::Result<P> + Drop,
->(rt: &R, alloc: Global, address: &Address, make: F) -> Result<Bound<P>, ServeFault>
+    F: FnOnce(Listener) -> io::Result<P> + Drop,
+>(
+    rt: &R,
+    alloc: Global,
+    lent: &mut Lent,
+    address: &Address,
+    make: F,
+) -> Result<Bound<P>, ServeFault>
     requires { F.IsAlwaysCallable make }
     ensures bound { IfOk result (λ bound. IsBoundAs address.now.socket bound.address) }
     ensures err { IfErr result (IsBindEnd (λ text. text ≡ address.now.text)) }
 {
     let unbound = ServeFault::Bind(Text::copied(alloc, address.text.bytes())?);
-    or_fault(bind_socket(rt, address.socket, make), unbound)
+    or_fault(bind_socket(rt, lent, address.socket, make), unbound)
 }
 
 // Whether the system grants so many descriptors: they are those of peers, once the daemon serves.
@@ -84,7 +109,8 @@ fn grants_descriptors(alloc: Global, listener: &TcpListener, count: u32) -> io::
     Ok(())
 }
 
-/// Binds the addresses of agents, of operators and of pages, in this order, each once.
+/// Binds the addresses of agents, of operators and of pages, in this order, each once. An address at which a
+/// listening socket is lent isn't bound: that socket is taken.
 ///
 /// Bind names the first address that can't be bound, or at which the system doesn't grant what its port
 /// waits with. It names that of the agents where the system doesn't grant three descriptors for each
@@ -92,6 +118,7 @@ fn grants_descriptors(alloc: Global, listener: &TcpListener, count: u32) -> io::
 pub(crate) fn listen<R: Net<Listener = TcpListener, Stream = TcpStream> + Clock>(
     rt: &R,
     alloc: Global,
+    lent: &mut Lent,
     config: &Config,
 ) -> Result<Listening, ServeFault>
     ensures bound { IfOk result (λ listening. AreBoundAs config.now
@@ -99,17 +126,17 @@ pub(crate) fn listen<R: Net<Listener = TcpListener, Stream = TcpStream> + Clock>
 
     ensures err { IfErr result (IsBindEnd (IsAddressIn config.now)) }
 {
-    let agents = bind(rt, alloc, &config.agents, |listener| {
+    let agents = bind(rt, alloc, lent, &config.agents, |listener| {
         let of_workers = config.workers.saturating_mul(WORKER_DESCRIPTORS);
         let count = of_workers.saturating_add(SPARE_DESCRIPTORS);
-        grants_descriptors(alloc, &listener, count)?;
+        grants_descriptors(alloc, &listener.socket, count)?;
         let greatest_age = config.limits.greatest_age;
         AgentsPort::new(rt, alloc, listener, config.workers, greatest_age)
     })?;
-    let operators = bind(rt, alloc, &config.operators, |listener| {
+    let operators = bind(rt, alloc, lent, &config.operators, |listener| {
         OperatorsPort::new(rt, alloc, listener)
     })?;
-    let pages = bind(rt, alloc, &config.pages, |listener| {
+    let pages = bind(rt, alloc, lent, &config.pages, |listener| {
         PagesPort::new(rt, alloc, listener)
     })?;
     Ok(Listening {

@@ -3,6 +3,7 @@ ghost use Rattle.gate_start.specs.BeforeServing.{EndsBefore, FollowsAddresses, I
 
 use crate::configuring::configuration;
 use crate::fault::ServeFault;
+use crate::lent::Lent;
 use crate::listening::listen;
 use crate::printing::{address_lines, print};
 use gate_config::Config;
@@ -11,10 +12,11 @@ use gate_streams::Sink;
 use std::alloc::Global;
 use std::fs::Files;
 use std::net::{Net, TcpListener, TcpStream};
+use std::rt::Env;
 use std::time::Clock;
 
 // Binds the addresses of a configuration, and prints them as they are bound: the ports.
-fn open_ports<R: Net<Listener = TcpListener, Stream = TcpStream> + Clock, W: Sink>(
+fn open_ports<R: Net<Listener = TcpListener, Stream = TcpStream> + Clock + Env, W: Sink>(
     rt: &R,
     alloc: Global,
     config: &Config,
@@ -26,7 +28,8 @@ fn open_ports<R: Net<Listener = TcpListener, Stream = TcpStream> + Clock, W: Sin
         × (W.state output.new ≡ W.state output.old))
         ⊎ IsWriteEnd (W.state output.old) (W.state output.new) fault) }
 {
-    let listening = listen(rt, alloc, config)?;
+    let mut lent = Lent::of(rt, alloc)?;
+    let listening = listen(rt, alloc, &mut lent, config)?;
     let lines = address_lines(
         alloc,
         listening.agents,
@@ -39,12 +42,13 @@ fn open_ports<R: Net<Listener = TcpListener, Stream = TcpStream> + Clock, W: Sin
 
 /// Reads the configuration in the file of this path, binds the addresses of agents, operators and
 /// pages, in this order, and prints them as they are bound, each on a line: the configuration, and the
-/// ports.
+/// ports. An address at which a supervisor lends a listening socket, as the environment names it
+/// (sd_listen_fds(3)), isn't bound: that socket is taken, and stays open for the next daemon.
 ///
 /// Unreadable, Config and Bind come before anything is printed: the file can't be read, it
 /// configures nothing, or an address can't be bound. At OutOfMemory nothing was printed. WriteFault
 /// is a failed call of `output`, after which no other is made. LogFull and Spawn don't come. Own rule.
-pub fn start<R: Files + Net<Listener = TcpListener, Stream = TcpStream> + Clock, W: Sink>(
+pub fn start<R: Files + Net<Listener = TcpListener, Stream = TcpStream> + Clock + Env, W: Sink>(
     rt: &R,
     alloc: Global,
     path: &str,

@@ -13,6 +13,7 @@ use std::alloc::Global;
 use std::fs::Files;
 use std::io::Read;
 use std::net::{Net, TcpListener, TcpStream};
+use std::rt::Env;
 use std::sync::Wait;
 use std::thread::Threads;
 use std::time::Clock;
@@ -27,7 +28,13 @@ use std::time::Clock;
 /// and nothing printed. Memory may run out before the words are known: the status is 3 and the line
 /// `nscagate: OutOfMemory`. That a line can't be written to `errors` changes nothing. Own rules.
 pub fn run_program<
-    T: Files + Net<Listener = TcpListener, Stream = TcpStream> + Threads + Wait + Clock + Sync,
+    T: Files
+        + Net<Listener = TcpListener, Stream = TcpStream>
+        + Threads
+        + Wait
+        + Clock
+        + Sync
+        + Env,
     R: Read,
     W: Sink,
     E: Sink,

@@ -24,6 +24,7 @@ use std::alloc::{AllocError, Global};
 use std::fs::Files;
 use std::io::Read;
 use std::net::{Net, TcpListener, TcpStream};
+use std::rt::Env;
 use std::sync::Wait;
 use std::thread::{Threads, join_mut};
 use std::time::Clock;
@@ -213,7 +214,13 @@ fn run<
 
 // Runs the daemon, and tells `progress` how far its log page is.
 fn serve_watched<
-    R: Files + Net<Listener = TcpListener, Stream = TcpStream> + Threads + Wait + Clock + Sync,
+    R: Files
+        + Net<Listener = TcpListener, Stream = TcpStream>
+        + Threads
+        + Wait
+        + Clock
+        + Sync
+        + Env,
     I: Read,
     W: Sink,
     E: Sink,
@@ -242,7 +249,8 @@ fn serve_watched<
 
 /// Runs the daemon as the file of this path configures it, until an operator shuts it down: it
 /// binds the addresses of agents, operators and pages, in this order, and prints them as they are
-/// bound, each on a line. Before it serves anybody it takes what `input` holds, where standard input is
+/// bound, each on a line. An address at which a supervisor lends a listening socket isn't bound, as `start`
+/// has it. Before it serves anybody it takes what `input` holds, where standard input is
 /// a regular file, and names on `errors` what of it isn't taken. As many workers as are configured serve
 /// packets side by side, of clients 1, 2 and so on; the operator is the client after them. In the end it
 /// prints the log page, also where not all that was queued could be applied. What the clients were
@@ -261,7 +269,13 @@ fn serve_watched<
 /// report of the operator's worker is missing, nobody could shut the daemon down any more: it closes
 /// itself, applies all, prints the log page and ends with OutOfMemory. Own rules.
 pub fn serve<
-    R: Files + Net<Listener = TcpListener, Stream = TcpStream> + Threads + Wait + Clock + Sync,
+    R: Files
+        + Net<Listener = TcpListener, Stream = TcpStream>
+        + Threads
+        + Wait
+        + Clock
+        + Sync
+        + Env,
     I: Read,
     W: Sink,
     E: Sink,
