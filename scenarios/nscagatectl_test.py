@@ -11,6 +11,7 @@ import threading
 import time
 
 from daemon_clients import CONFIGURATION, TIME_LIMIT, Daemon, ask, check, end_tests, free_port
+from two_operators import play_two_operators
 
 TABLE = CONFIGURATION + """
 [[host]]
@@ -738,6 +739,7 @@ def main():
         play_tests_of_configurations(program, folder)
         play_watching(program, folder)
         play_keeping(program, sys.argv[1], folder)
+        play_two_operators(program, sys.argv[1], folder)
     end_tests()
 
 

@@ -5,7 +5,7 @@ use Rattle.std.specs.List.{AllByRecursion}
 use Rattle.gate_model.specs.declared.submission.Body.{Body}
 use Rattle.status_reading.specs.Rows.{PageView}
 use Rattle.status_reading.proofs.EachSteps.{each_append}
-use Rattle.operator_effects.specs.declared.ending.Effect.{Effect}
+use Rattle.page_changes.specs.declared.effects.Effect.{Effect}
 use Rattle.operator_effects.specs.declared.watching.Next.{Next}
 use Rattle.operator_effects.specs.declared.watching.Next.TheVariants.{Over}
 use Rattle.operator_effects.specs.Watching.{ComesNext, Shows, ShowsNone, EndsAt, IsFirstSeen}

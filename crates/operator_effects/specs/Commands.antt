@@ -1,6 +1,6 @@
 -- The commands that a request is, on a status page (External Command List): `commands_of`. None stands for a command
 -- that there is not, since its words are faulty; `first_fault` is the first fault of the words. Own rule: the faults.
-use Rattle.std.specs.Prelude.{ℕ, ◌==◌, Bool, true, false, List, [], ◌∷◌, length, map, find, Option, Some, None, option_map, is_none, Result, Ok, Err, if◌then◌else◌}
+use Rattle.std.specs.Prelude.{ℕ, ◌==◌, Bool, true, false, List, [], ◌∷◌, length, map, Option, Some, None, option_map, is_none, Ok, Err, if◌then◌else◌}
 use Rattle.std.specs.List.{list_any}
 use Rattle.std.specs.Result.{result_err, result_ok}
 use Rattle.gate_model.specs.declared.object.Kind.{Kind}
@@ -9,7 +9,8 @@ use Rattle.gate_model.specs.declared.record.Moment.{Moment}
 use Rattle.gate_model.specs.declared.submission.Body.{Body}
 use Rattle.gate_model.specs.declared.submission.Body.TheVariants as bodies
 use Rattle.gate_grammar.specs.Numbers.{number_of}
-use Rattle.status_reading.specs.Rows.{CommentView, DowntimeView, PageView}
+use Rattle.status_reading.specs.Rows.{PageView}
+use Rattle.page_changes.specs.Foreseen.{comment_field, downtime_field}
 use Rattle.operator_commands.specs.declared.request.Object.{Object}
 use Rattle.operator_commands.specs.declared.request.Remark.{Remark}
 use Rattle.operator_commands.specs.declared.request.Window.{Window}
@@ -19,6 +20,8 @@ use Rattle.operator_commands.specs.declared.bodies.RequestFault.{RequestFault}
 use Rattle.operator_commands.specs.declared.bodies.RequestFault.TheVariants.{BadId}
 use Rattle.operator_commands.specs.Bodies.{body_for, schedule}
 use Rattle.operator_commands.specs.Times.{times_of}
+use Rattle.operator_effects.specs.declared.commands.Deleted.{Deleted}
+use Rattle.operator_effects.specs.declared.commands.Deleted.TheVariants.{Comment, Downtime}
 use Rattle.operator_effects.specs.declared.commands.PlanFault.{PlanFault}
 use Rattle.operator_effects.specs.declared.commands.PlanFault.TheVariants as fault
 
@@ -27,25 +30,14 @@ abbrev pub kind_of : Option (List ℕ) → Kind
 kind_of None = Host
 kind_of (Some field) = if length field == 0 then Host else Service
 
--- the service's field of the comment of this id
-abbrev pub comment_service : ℕ → List CommentView → Option (List ℕ)
-comment_service id rows =
-    option_map (λ (row : CommentView). row.service) (find (λ (row : CommentView). row.id == id) rows)
+-- the deletion of the comment or the downtime entry of this id, as one of a host or of a service, as the page has it
+abbrev pub deletion_of : Deleted → PageView → ℕ → Body
+deletion_of Comment page id = bodies.DelComment (kind_of (comment_field id page.comments)) id
+deletion_of Downtime page id = bodies.DelDowntime (kind_of (downtime_field id page.downtimes)) id
 
--- the service's field of the downtime entry of this id
-abbrev pub downtime_service : ℕ → List DowntimeView → Option (List ℕ)
-downtime_service id rows =
-    option_map (λ (row : DowntimeView). row.service) (find (λ (row : DowntimeView). row.id == id) rows)
-
--- the deletion of the comment of the id that a word is, as one of a host or of a service, as the page has it
-abbrev pub comment_deletion : PageView → List ℕ → Option Body
-comment_deletion page word =
-    option_map (λ id. bodies.DelComment (kind_of (comment_service id page.comments)) id) (number_of word)
-
--- the same of a downtime entry
-abbrev pub downtime_deletion : PageView → List ℕ → Option Body
-downtime_deletion page word =
-    option_map (λ id. bodies.DelDowntime (kind_of (downtime_service id page.downtimes)) id) (number_of word)
+-- the deletion of the one of the id that a word is
+abbrev pub deletion : Deleted → PageView → List ℕ → Option Body
+deletion deleted page word = option_map (deletion_of deleted page) (number_of word)
 
 -- the deletion of all comments of the object that one word or two are
 abbrev pub comments_deletion : List (List ℕ) → Option Body
@@ -61,8 +53,8 @@ downtime user now object remark window services =
 -- the commands of a request, in the order of its words
 abbrev pub commands_of : PageView → Moment → List ℕ → Request → List (Option Body)
 commands_of page now user (request.Uncomment words true) = comments_deletion words ∷ []
-commands_of page now user (request.Uncomment words false) = map (comment_deletion page) words
-commands_of page now user (request.Cancel ids) = map (downtime_deletion page) ids
+commands_of page now user (request.Uncomment words false) = map (deletion Comment page) words
+commands_of page now user (request.Cancel ids) = map (deletion Downtime page) ids
 commands_of page now user (request.Downtime object remark window services) =
     downtime user now object remark window services ∷ []
 commands_of page now user other = result_ok (body_for user other) ∷ []

@@ -1,7 +1,6 @@
 pub mod Commands
 pub mod Endings
 pub mod Messages
-pub mod Effects
 pub mod Watching
 pub mod Plain
 pub mod Refusals

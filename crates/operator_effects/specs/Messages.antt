@@ -1,12 +1,18 @@
 -- The line that reports how a command ended: `message`. Names are escaped as a status page shows them. Own rules.
-use Rattle.std.specs.Prelude.{ℕ, Bool, true, false, List, [], ◌++◌, codes, Option, Some, None}
+use Rattle.std.specs.Prelude.{ℕ, true, false, List, [], ◌++◌, codes, Option, Some, None}
 use Rattle.std.specs.Fmt.{decimal}
 use Rattle.gate_model.specs.declared.state.State.{State}
 use Rattle.gate_model.specs.declared.submission.Body.{Body}
-use Rattle.gate_model.specs.declared.submission.Body.TheVariants as bodies
+use Rattle.gate_model.specs.declared.act.Deed.{Deed}
+use Rattle.gate_model.specs.declared.act.Deed.TheVariants as deeds
+use Rattle.gate_model.specs.declared.act.Act.{Act}
+use Rattle.gate_model.specs.declared.act.Act.TheVariants as acts
 use Rattle.gate_model.specs.Escaping.{escaped}
-use Rattle.gate_model.specs.Act.{is_sticky}
+use Rattle.gate_model.specs.Act.{act_of}
 use Rattle.gate_lines.specs.Lines.{state_name}
+use Rattle.page_changes.specs.declared.effects.Made.{Made}
+use Rattle.page_changes.specs.declared.effects.Made.TheVariants.{Comment, Downtime}
+use Rattle.page_changes.specs.declared.effects.Effect.{Effect}
 use Rattle.page_changes.specs.Foreseen.{refusal_text}
 use Rattle.operator_lines.specs.declared.replies.Reply.{Reply}
 use Rattle.operator_lines.specs.declared.replies.Reply.TheVariants as replies
@@ -14,7 +20,6 @@ use Rattle.operator_lines.specs.declared.asking.AskFault.{AskFault}
 use Rattle.operator_lines.specs.declared.asking.AskFault.TheVariants as ask
 use Rattle.operator_lines.specs.declared.sending.SendFault.{SendFault}
 use Rattle.operator_lines.specs.declared.sending.SendFault.TheVariants as send
-use Rattle.operator_effects.specs.declared.ending.Effect.{Effect}
 use Rattle.operator_effects.specs.declared.ending.Ending.{Ending}
 use Rattle.operator_effects.specs.declared.ending.Ending.TheVariants.{Shown, Unseen, NotShown, Refused, NotQueued, NoAnswer}
 
@@ -26,18 +31,12 @@ object_text host None = escaped host
 object_text host (Some service) = escaped host ++ codes " " ++ escaped service
 
 -- the object or the id that a command names
-abbrev pub subject : Body → List ℕ
-subject (bodies.Result host service code output) = object_text host service
-subject (bodies.AddComment host service persistent author text) = object_text host service
-subject (bodies.DelComment kind id) = codes "comment " ++ decimal id
-subject (bodies.DelAllComments host service) = object_text host service
-subject (bodies.Acknowledge host service sticky notify persistent author text) = object_text host service
-subject (bodies.RemoveAck host service) = object_text host service
-subject (bodies.Schedule host service starts ends fixed trigger lasts author text) = object_text host service
-subject (bodies.DelDowntime kind id) = codes "downtime " ++ decimal id
-subject (bodies.Passive host service on) = object_text host service
-subject (bodies.ScheduleServices host starts ends fixed trigger lasts author text) = object_text host None
-subject bodies.Shutdown = codes "the gateway"
+abbrev pub subject : Act → List ℕ
+subject (acts.On host service deed) = object_text host service
+subject (acts.ScheduleServices host span) = object_text host None
+subject (acts.DelComment kind id) = codes "comment " ++ decimal id
+subject (acts.DelDowntime kind id) = codes "downtime " ++ decimal id
+subject acts.Shutdown = codes "the gateway"
 
 -- ---- what was done
 
@@ -46,40 +45,39 @@ abbrev pub state_part : Option State → List ℕ
 state_part None = []
 state_part (Some state) = codes " (" ++ state_name state ++ codes ")"
 
--- the id of what was made
-abbrev pub id_part : List ℕ → Option ℕ → List ℕ
-id_part name None = []
-id_part name (Some id) = name ++ decimal id
+-- what was made, with its id
+abbrev pub made_part : Option Made → List ℕ
+made_part None = []
+made_part (Some (Comment id)) = codes ", comment " ++ decimal id
+made_part (Some (Downtime id)) = codes ", downtime " ++ decimal id
 
 -- an acknowledgement is sticky
-abbrev pub sticky_part : Bool → List ℕ
-sticky_part true = codes ", sticky"
-sticky_part false = []
+abbrev pub sticky_part : Act → List ℕ
+sticky_part (acts.On host service (deeds.Acknowledge true persistent)) = codes ", sticky"
+sticky_part _ = []
+
+-- what a deed does
+abbrev pub verb_of_deed : Deed → List ℕ
+verb_of_deed (deeds.Result code) = codes "result: "
+verb_of_deed (deeds.AddComment persistent) = codes "commented: "
+verb_of_deed deeds.DelAllComments = codes "comments deleted: "
+verb_of_deed (deeds.Acknowledge sticky persistent) = codes "acknowledged: "
+verb_of_deed deeds.RemoveAck = codes "acknowledgement removed: "
+verb_of_deed (deeds.Schedule span) = codes "downtime scheduled: "
+verb_of_deed (deeds.Passive true) = codes "passive checks enabled: "
+verb_of_deed (deeds.Passive false) = codes "passive checks disabled: "
 
 -- what a command does
-abbrev pub verb : Body → List ℕ
-verb (bodies.Result host service code output) = codes "result: "
-verb (bodies.AddComment host service persistent author text) = codes "commented: "
-verb (bodies.DelComment kind id) = codes "deleted: "
-verb (bodies.DelAllComments host service) = codes "comments deleted: "
-verb (bodies.Acknowledge host service sticky notify persistent author text) = codes "acknowledged: "
-verb (bodies.RemoveAck host service) = codes "acknowledgement removed: "
-verb (bodies.Schedule host service starts ends fixed trigger lasts author text) = codes "downtime scheduled: "
-verb (bodies.DelDowntime kind id) = codes "cancelled: "
-verb (bodies.Passive host service true) = codes "passive checks enabled: "
-verb (bodies.Passive host service false) = codes "passive checks disabled: "
-verb (bodies.ScheduleServices host starts ends fixed trigger lasts author text) =
-    codes "downtime scheduled for each service: "
-verb bodies.Shutdown = codes "closing: "
+abbrev pub verb : Act → List ℕ
+verb (acts.On host service deed) = verb_of_deed deed
+verb (acts.ScheduleServices host span) = codes "downtime scheduled for each service: "
+verb (acts.DelComment kind id) = codes "deleted: "
+verb (acts.DelDowntime kind id) = codes "cancelled: "
+verb acts.Shutdown = codes "closing: "
 
 -- how a command did it, and what it made
-abbrev pub details : Body → Effect → List ℕ
-details (bodies.AddComment host service persistent author text) effect = id_part (codes ", comment ") effect.id
-details (bodies.Acknowledge host service sticky notify persistent author text) effect =
-    state_part effect.state ++ sticky_part (is_sticky sticky) ++ id_part (codes ", comment ") effect.id
-details (bodies.Schedule host service starts ends fixed trigger lasts author text) effect =
-    id_part (codes ", downtime ") effect.id
-details body effect = []
+abbrev pub details : Act → Effect → List ℕ
+details act effect = state_part effect.state ++ sticky_part act ++ made_part effect.made
 
 -- it was queued as this number, and that is all that is known
 abbrev pub unseen : ℕ → List ℕ
@@ -111,11 +109,15 @@ fault_text ask.NoAnswer = codes "the answer is none of a gateway"
 
 -- ---- the line
 
--- the line without its end
+-- the line of an act without its end
+abbrev pub message_of : Act → Ending → List ℕ
+message_of act (Shown effect) = verb act ++ subject act ++ details act effect
+message_of act (Unseen number) = (verb act ++ subject act) ++ unseen number
+message_of act NotShown = subject act ++ codes ": " ++ codes "queued, and not shown in time"
+message_of act (Refused outcome) = subject act ++ codes ": " ++ refusal_text outcome
+message_of act (NotQueued reply) = subject act ++ codes ": " ++ reply_text reply
+message_of act (NoAnswer fault) = subject act ++ codes ": " ++ fault_text fault
+
+-- the line of a command
 abbrev pub message : Body → Ending → List ℕ
-message body (Shown effect) = verb body ++ subject body ++ details body effect
-message body (Unseen number) = (verb body ++ subject body) ++ unseen number
-message body NotShown = subject body ++ codes ": " ++ codes "queued, and not shown in time"
-message body (Refused outcome) = subject body ++ codes ": " ++ refusal_text outcome
-message body (NotQueued reply) = subject body ++ codes ": " ++ reply_text reply
-message body (NoAnswer fault) = subject body ++ codes ": " ++ fault_text fault
+message body ending = message_of (act_of body) ending

@@ -1,5 +1,5 @@
 -- A request whose names and texts have a page's escapes, and what it stands for: `plain_request`. Own rule: which words.
-use Rattle.std.specs.Prelude.{List, map, option_map}
+use Rattle.std.specs.Prelude.{map, option_map}
 use Rattle.status_reading.specs.Plain.{plain_bytes}
 use Rattle.operator_commands.specs.declared.request.Object.{Object}
 use Rattle.operator_commands.specs.declared.request.Remark.{Remark}

@@ -1,6 +1,6 @@
 -- What is read of a gateway's pages, one after another, until one shows a command's effect: `ComesNext`, `Shows`, and of
 -- pages that are known, `IsFirstSeen`. Own rules.
-use Rattle.std.specs.Prelude.{◌≡◌, ◌≢◌, ℕ, List, [], ◌∷◌, ◌++◌, Option, Some, None, true, false, ⊤}
+use Rattle.std.specs.Prelude.{◌≡◌, ◌≢◌, ℕ, List, [], ◌∷◌, ◌++◌, Option, Some, None, ⊤}
 use Rattle.std.specs.List.{AllByRecursion}
 use Rattle.gate_model.specs.declared.submission.Body.{Body}
 use Rattle.gate_model.specs.declared.submission.Body.TheVariants.{Shutdown}
@@ -8,11 +8,10 @@ use Rattle.status_reading.specs.Rows.{PageView}
 use Rattle.status_reading.specs.Page.{page_text}
 use Rattle.status_reading.specs.Readable.{IsReadable}
 use Rattle.status_reading.specs.RowFaults.{IsSound}
-use Rattle.page_changes.specs.Shows.{shows}
-use Rattle.operator_effects.specs.declared.ending.Effect.{Effect}
+use Rattle.page_changes.specs.declared.effects.Effect.{Effect}
+use Rattle.page_changes.specs.Effects.{effect_of}
 use Rattle.operator_effects.specs.declared.watching.Next.{Next}
 use Rattle.operator_effects.specs.declared.watching.Next.TheVariants.{Page, Gone, Over}
-use Rattle.operator_effects.specs.Effects.{effect_on}
 
 -- what is read next is the first of these, and the others are left; after the last the time is over
 abbrev pub ComesNext : Option (List Next) → Next → Option (List Next) → Type 0
@@ -23,18 +22,17 @@ ComesNext (Some (page ∷ pages)) next left = (next ≡ page) × (left ≡ Some 
 -- the text is a page that shows the command, where this page was before it, and this effect
 abbrev pub ShowsIn : Body → PageView → List ℕ → Effect → Type 0
 ShowsIn body before text effect =
-    (after : PageView) × (text ≡ page_text after) × (shows body before after ≡ true)
-    × (effect ≡ effect_on body before after)
+    (after : PageView) × IsSound after × (text ≡ page_text after) × (effect_of body before after ≡ Some effect)
 
 -- the text is no page that a gateway writes, or one that doesn't show the command
 abbrev pub ShowsNoneIn : Body → PageView → List ℕ → Type 0
 ShowsNoneIn body before text =
-    (after : PageView) → IsReadable after → IsSound after → text ≡ page_text after → shows body before after ≡ false
+    (after : PageView) → IsReadable after → IsSound after → text ≡ page_text after → effect_of body before after ≡ None
 
 -- what was read shows the command and this effect; a gateway that was shut down may show no page
 abbrev pub Shows : Body → PageView → Next → Effect → Type 0
 Shows body before (Page text) effect = ShowsIn body before text.items effect
-Shows body before Gone effect = (body ≡ Shutdown) × (effect ≡ record { state = None; id = None })
+Shows body before Gone effect = (body ≡ Shutdown) × (effect ≡ record { state = None; made = None })
 Shows body before Over effect = ⊥
 
 -- what was read doesn't show the command, and the time isn't over

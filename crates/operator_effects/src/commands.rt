@@ -1,17 +1,18 @@
 //! The commands that a request is, on a status page.
 
 ghost use Rattle.std.specs.Prelude.{◌≡◌, ◌≢◌, ◌∷◌, [], None, Some, Err, IfErr, IfOk, map, option_map};
-ghost use Rattle.operator_effects.specs.Commands.{kind_of, comment_service, downtime_service, comment_deletion, downtime_deletion, comments_deletion, downtime, commands_of, ids_fault, object_fault, downtime_fault, first_fault};
+ghost use Rattle.operator_effects.specs.Commands.{kind_of, deletion_of, deletion, comments_deletion, downtime, commands_of, ids_fault, object_fault, downtime_fault, first_fault};
 ghost use Rattle.gate_grammar.specs.Numbers.{number_of};
 ghost use Rattle.operator_commands.specs.declared.bodies.RequestFault.TheVariants.{BadId};
-ghost use Rattle.status_reading.specs.Rows.{comment_view, downtime_view, page_view};
+ghost use Rattle.status_reading.specs.Rows.{page_view};
 
 use gate_grammar::read_number;
 use gate_model::{Body, Kind, Moment, Text};
 use operator_commands::{
     Object, Remark, Request, RequestFault, Window, body_for, schedule, times_of,
 };
-use status_reading::{ShownComment, ShownDowntime, StatusPage};
+use page_changes::{comment_field, downtime_field};
+use status_reading::StatusPage;
 use std::alloc::{AllocError, AllocFailed, Global};
 use thiserror::Error;
 
@@ -49,6 +50,13 @@ impl<T: Drop> From<AllocFailed<T>> for PlanFault {
     }
 }
 
+/// What is deleted by its id.
+#[derive(Clone, Copy)]
+pub enum Deleted {
+    Comment,
+    Downtime,
+}
+
 fn kind_of(service: Option<&[u8]>) -> Kind
     ensures { result ≡ kind_of (option_map (λ field. field.now) service.entry) }
 {
@@ -64,88 +72,46 @@ fn kind_of(service: Option<&[u8]>) -> Kind
     }
 }
 
-fn comment_service<'a>(rows: &[ShownComment<'a>], id: u32) -> Option<&'a [u8]>
-    ensures { option_map (λ field. field.now) result
-        ≡ comment_service id (map comment_view rows.now) }
+fn deletion_of(page: &StatusPage<'_>, deleted: Deleted, id: u32) -> Body
+    ensures { result ≡ deletion_of deleted (page_view page.now) id }
 {
-    for row in rows {
-        if row.id == id {
-            return Some(row.service);
-        }
+    match deleted {
+        Deleted::Comment => Body::DelComment {
+            kind: kind_of(comment_field(page.comments.as_slice(), id)),
+            id,
+        },
+        Deleted::Downtime => Body::DelDowntime {
+            kind: kind_of(downtime_field(page.downtimes.as_slice(), id)),
+            id,
+        },
     }
-    None
 }
 
-fn downtime_service<'a>(rows: &[ShownDowntime<'a>], id: u32) -> Option<&'a [u8]>
-    ensures { option_map (λ field. field.now) result
-        ≡ downtime_service id (map downtime_view rows.now) }
-{
-    for row in rows {
-        if row.id == id {
-            return Some(row.service);
-        }
-    }
-    None
-}
-
-fn comment_deletion(page: &StatusPage<'_>, word: &Text) -> Result<Body, PlanFault>
-    ensures body { IfOk result (λ body. comment_deletion (page_view page.now) word.now ≡ Some body) }
+fn deletion(page: &StatusPage<'_>, deleted: Deleted, word: &Text) -> Result<Body, PlanFault>
+    ensures body { IfOk result (λ body. deletion deleted (page_view page.now) word.now ≡ Some body) }
     ensures fault { IfErr result (λ fault.
         (fault ≡ PlanFault.Request BadId) × (number_of word.now ≡ None)) }
 {
     match read_number(word.bytes()) {
-        Some(id) => Ok(Body::DelComment {
-            kind: kind_of(comment_service(page.comments.as_slice(), id)),
-            id,
-        }),
+        Some(id) => Ok(deletion_of(page, deleted, id)),
         None => Err(PlanFault::Request(RequestFault::BadId)),
     }
 }
 
-fn downtime_deletion(page: &StatusPage<'_>, word: &Text) -> Result<Body, PlanFault>
-    ensures body { IfOk result (λ body. downtime_deletion (page_view page.now) word.now ≡ Some body) }
-    ensures fault { IfErr result (λ fault.
-        (fault ≡ PlanFault.Request BadId) × (number_of word.now ≡ None)) }
-{
-    match read_number(word.bytes()) {
-        Some(id) => Ok(Body::DelDowntime {
-            kind: kind_of(downtime_service(page.downtimes.as_slice(), id)),
-            id,
-        }),
-        None => Err(PlanFault::Request(RequestFault::BadId)),
-    }
-}
-
-fn comment_deletions(
+fn deletions(
     alloc: Global,
     page: &StatusPage<'_>,
+    deleted: Deleted,
     words: &[Text],
 ) -> Result<Vec<Body>, PlanFault>
     ensures bodies { IfOk result (λ bodies.
-        map Some bodies.items ≡ map (comment_deletion (page_view page.now)) words.now) }
+        map Some bodies.items ≡ map (deletion deleted (page_view page.now)) words.now) }
     ensures fault { IfErr result (λ fault.
         fault ≢ PlanFault.OutOfMemory → ids_fault words.now ≡ Some fault) }
 {
     let mut bodies = Vec::new(alloc);
     for word in words {
-        bodies.push(comment_deletion(page, word)?)?;
-    }
-    Ok(bodies)
-}
-
-fn downtime_deletions(
-    alloc: Global,
-    page: &StatusPage<'_>,
-    words: &[Text],
-) -> Result<Vec<Body>, PlanFault>
-    ensures bodies { IfOk result (λ bodies.
-        map Some bodies.items ≡ map (downtime_deletion (page_view page.now)) words.now) }
-    ensures fault { IfErr result (λ fault.
-        fault ≢ PlanFault.OutOfMemory → ids_fault words.now ≡ Some fault) }
-{
-    let mut bodies = Vec::new(alloc);
-    for word in words {
-        bodies.push(downtime_deletion(page, word)?)?;
+        bodies.push(deletion(page, deleted, word)?)?;
     }
     Ok(bodies)
 }
@@ -222,10 +188,10 @@ pub fn commands_for(
             if all {
                 one(alloc, comments_deletion(alloc, words.as_slice())?)
             } else {
-                comment_deletions(alloc, page, words.as_slice())
+                deletions(alloc, page, Deleted::Comment, words.as_slice())
             }
         }
-        Request::Cancel { ids } => downtime_deletions(alloc, page, ids.as_slice()),
+        Request::Cancel { ids } => deletions(alloc, page, Deleted::Downtime, ids.as_slice()),
         Request::Downtime {
             object,
             remark,

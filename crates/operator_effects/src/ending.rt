@@ -3,17 +3,9 @@
 ghost use Rattle.std.specs.Prelude.{◌≡◌};
 ghost use Rattle.operator_effects.specs.Endings.{closing, ending_of, fault_status, queued, status_of};
 
-use gate_model::{Body, Outcome, State};
+use gate_model::{Act, Body, Deed, Outcome};
 use operator_lines::{AskFault, Reply, SendFault};
-
-/// What a page shows of a command.
-#[derive(Clone, Copy)]
-pub struct Effect {
-    /// The state of the object that it names, before it.
-    pub state: Option<State>,
-    /// The id of the comment or the downtime entry that it made.
-    pub id: Option<u32>,
-}
+use page_changes::Effect;
 
 /// How a command ended.
 #[derive(Clone, Copy)]
@@ -32,45 +24,30 @@ pub enum Ending {
     NoAnswer(AskFault),
 }
 
-fn queued(body: &Body, number: u64, seen: Option<Effect>) -> Ending
-    ensures { result ≡ queued body.now number seen }
+fn queued(act: &Act<'_>, number: u64, seen: Option<Effect>) -> Ending
+    ensures { result ≡ queued act.now number seen }
 {
     match seen {
         Some(effect) => Ending::Shown(effect),
-        None => match body {
-            Body::Passive { .. } => Ending::Unseen(number),
-            Body::Result { .. }
-            | Body::AddComment { .. }
-            | Body::DelComment { .. }
-            | Body::DelAllComments { .. }
-            | Body::Acknowledge { .. }
-            | Body::RemoveAck { .. }
-            | Body::Schedule { .. }
-            | Body::DelDowntime { .. }
-            | Body::ScheduleServices { .. }
-            | Body::Shutdown => Ending::NotShown,
+        None => match act {
+            Act::On {
+                deed: Deed::Passive { .. },
+                ..
+            } => Ending::Unseen(number),
+            _ => Ending::NotShown,
         },
     }
 }
 
-fn closing(body: &Body, seen: Option<Effect>) -> Ending
-    ensures { result ≡ closing body.now seen }
+fn closing(act: &Act<'_>, seen: Option<Effect>) -> Ending
+    ensures { result ≡ closing act.now seen }
 {
-    match body {
-        Body::Shutdown => match seen {
+    match act {
+        Act::Shutdown => match seen {
             Some(effect) => Ending::Shown(effect),
             None => Ending::NotShown,
         },
-        Body::Passive { .. }
-        | Body::Result { .. }
-        | Body::AddComment { .. }
-        | Body::DelComment { .. }
-        | Body::DelAllComments { .. }
-        | Body::Acknowledge { .. }
-        | Body::RemoveAck { .. }
-        | Body::Schedule { .. }
-        | Body::DelDowntime { .. }
-        | Body::ScheduleServices { .. } => Ending::NotQueued(Reply::Closing),
+        _ => Ending::NotQueued(Reply::Closing),
     }
 }
 
@@ -80,8 +57,8 @@ pub fn ending_of(body: &Body, reply: Reply, seen: Option<Effect>) -> Ending
     ensures { result ≡ ending_of body.now reply seen }
 {
     match reply {
-        Reply::Queued(number) => queued(body, number, seen),
-        Reply::Closing => closing(body, seen),
+        Reply::Queued(number) => queued(&body.act(), number, seen),
+        Reply::Closing => closing(&body.act(), seen),
         Reply::Full | Reply::Spent | Reply::Bad(_) => Ending::NotQueued(reply),
     }
 }

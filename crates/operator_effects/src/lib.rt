@@ -3,7 +3,6 @@
 #![tactic(auto)]
 
 mod commands;
-mod effects;
 mod ending;
 mod messages;
 mod refusing;
@@ -11,8 +10,7 @@ mod unescaping;
 mod watching;
 
 pub use commands::{PlanFault, commands_for};
-pub use effects::effect_on;
-pub use ending::{Effect, Ending, ending_of};
+pub use ending::{Ending, ending_of};
 pub use messages::push_message;
 pub use refusing::first_refusal;
 pub use unescaping::plain_request;

@@ -1,16 +1,21 @@
 //! The line that reports how a command ended.
 
-ghost use Rattle.std.specs.Prelude.{◌≡◌, ◌++◌, Some, OnOk, codes};
-ghost use Rattle.operator_effects.specs.Messages.{details, fault_text, id_part, message, object_text, reply_text, state_part, sticky_part, subject, unseen, verb};
+ghost use Rattle.std.specs.Prelude.{◌≡◌, ◌++◌, OnOk, codes};
+ghost use Rattle.std.specs.Fmt.{decimal};
+ghost use Rattle.operator_effects.specs.Messages.{details, fault_text, made_part, message, object_text, reply_text, state_part, sticky_part, subject, unseen, verb, verb_of_deed};
 
-use crate::ending::{Effect, Ending};
-use gate_model::{Body, State, Text, push_escaped, push_number};
+use crate::ending::Ending;
+use gate_model::{Act, Body, Deed, Name, State, push_escaped, push_number};
 use operator_lines::{AskFault, Reply, SendFault};
-use page_changes::refusal_text;
+use page_changes::{Effect, Made, refusal_text};
 use status_reading::state_name;
 use std::alloc::AllocError;
 
-fn push_object(out: &mut Vec<u8>, host: &Text, service: &Option<Text>) -> Result<(), AllocError>
+fn push_object(
+    out: &mut Vec<u8>,
+    host: &Name<'_>,
+    service: &Option<Name<'_>>,
+) -> Result<(), AllocError>
     ensures { OnOk result (out.new.items ≡ out.old.items ++ object_text host.now service.now) }
 {
     push_escaped(out, host.bytes())?;
@@ -24,28 +29,22 @@ fn push_object(out: &mut Vec<u8>, host: &Text, service: &Option<Text>) -> Result
 }
 
 fn push_numbered(out: &mut Vec<u8>, name: &[u8], number: u32) -> Result<(), AllocError>
-    ensures { OnOk result (out.new.items ≡ out.old.items ++ id_part name.now (Some number)) }
+    ensures { OnOk result (out.new.items ≡ out.old.items ++ (name.now ++ decimal number)) }
 {
     out.extend_from_slice(name)?;
     push_number(out, u64::from(number))
 }
 
 // Appends the object or the id that a command names.
-fn push_subject(out: &mut Vec<u8>, body: &Body) -> Result<(), AllocError>
-    ensures { OnOk result (out.new.items ≡ out.old.items ++ subject body.now) }
+fn push_subject(out: &mut Vec<u8>, act: &Act<'_>) -> Result<(), AllocError>
+    ensures { OnOk result (out.new.items ≡ out.old.items ++ subject act.now) }
 {
-    match body {
-        Body::Result { host, service, .. } => push_object(out, host, service),
-        Body::AddComment { host, service, .. } => push_object(out, host, service),
-        Body::DelAllComments { host, service } => push_object(out, host, service),
-        Body::Acknowledge { host, service, .. } => push_object(out, host, service),
-        Body::RemoveAck { host, service } => push_object(out, host, service),
-        Body::Schedule { host, service, .. } => push_object(out, host, service),
-        Body::Passive { host, service, .. } => push_object(out, host, service),
-        Body::ScheduleServices { host, .. } => push_escaped(out, host.bytes()),
-        Body::DelComment { id, .. } => push_numbered(out, b"comment ", *id),
-        Body::DelDowntime { id, .. } => push_numbered(out, b"downtime ", *id),
-        Body::Shutdown => out.extend_from_slice(b"the gateway"),
+    match act {
+        Act::On { host, service, .. } => push_object(out, host, service),
+        Act::ScheduleServices { host, .. } => push_escaped(out, host.bytes()),
+        Act::DelComment { id, .. } => push_numbered(out, b"comment ", *id),
+        Act::DelDowntime { id, .. } => push_numbered(out, b"downtime ", *id),
+        Act::Shutdown => out.extend_from_slice(b"the gateway"),
     }
 }
 
@@ -60,61 +59,62 @@ fn push_state(out: &mut Vec<u8>, state: Option<State>) -> Result<(), AllocError>
     out.extend_from_slice(b")")
 }
 
-fn push_id(out: &mut Vec<u8>, name: &[u8], id: Option<u32>) -> Result<(), AllocError>
-    ensures { OnOk result (out.new.items ≡ out.old.items ++ id_part name.now id) }
+fn push_made(out: &mut Vec<u8>, made: Option<Made>) -> Result<(), AllocError>
+    ensures { OnOk result (out.new.items ≡ out.old.items ++ made_part made) }
 {
-    match id {
-        Some(id) => push_numbered(out, name, id),
+    match made {
+        Some(Made::Comment(id)) => push_numbered(out, b", comment ", id),
+        Some(Made::Downtime(id)) => push_numbered(out, b", downtime ", id),
         None => Ok(()),
     }
 }
 
-fn sticky_part(sticky: bool) -> &'static [u8]
-    ensures { result.now ≡ sticky_part sticky }
+fn sticky_part(act: &Act<'_>) -> &'static [u8]
+    ensures { result.now ≡ sticky_part act.now }
 {
-    if sticky { b", sticky" } else { b"" }
+    match act {
+        Act::On {
+            deed: Deed::Acknowledge { sticky: true, .. },
+            ..
+        } => b", sticky",
+        _ => b"",
+    }
 }
 
-fn verb(body: &Body) -> &'static [u8]
-    ensures { result.now ≡ verb body.now }
+fn verb_of_deed(deed: Deed) -> &'static [u8]
+    ensures { result.now ≡ verb_of_deed deed }
 {
-    match body {
-        Body::Result { .. } => b"result: ",
-        Body::AddComment { .. } => b"commented: ",
-        Body::DelComment { .. } => b"deleted: ",
-        Body::DelAllComments { .. } => b"comments deleted: ",
-        Body::Acknowledge { .. } => b"acknowledged: ",
-        Body::RemoveAck { .. } => b"acknowledgement removed: ",
-        Body::Schedule { .. } => b"downtime scheduled: ",
-        Body::DelDowntime { .. } => b"cancelled: ",
-        Body::Passive { on: true, .. } => b"passive checks enabled: ",
-        Body::Passive { on: false, .. } => b"passive checks disabled: ",
-        Body::ScheduleServices { .. } => b"downtime scheduled for each service: ",
-        Body::Shutdown => b"closing: ",
+    match deed {
+        Deed::Result { .. } => b"result: ",
+        Deed::AddComment { .. } => b"commented: ",
+        Deed::DelAllComments => b"comments deleted: ",
+        Deed::Acknowledge { .. } => b"acknowledged: ",
+        Deed::RemoveAck => b"acknowledgement removed: ",
+        Deed::Schedule { .. } => b"downtime scheduled: ",
+        Deed::Passive { on: true } => b"passive checks enabled: ",
+        Deed::Passive { on: false } => b"passive checks disabled: ",
+    }
+}
+
+fn verb(act: &Act<'_>) -> &'static [u8]
+    ensures { result.now ≡ verb act.now }
+{
+    match act {
+        Act::On { deed, .. } => verb_of_deed(*deed),
+        Act::ScheduleServices { .. } => b"downtime scheduled for each service: ",
+        Act::DelComment { .. } => b"deleted: ",
+        Act::DelDowntime { .. } => b"cancelled: ",
+        Act::Shutdown => b"closing: ",
     }
 }
 
 // Appends how a command did it, and what it made.
-fn push_details(out: &mut Vec<u8>, body: &Body, effect: Effect) -> Result<(), AllocError>
-    ensures { OnOk result (out.new.items ≡ out.old.items ++ details body.now effect) }
+fn push_details(out: &mut Vec<u8>, act: &Act<'_>, effect: Effect) -> Result<(), AllocError>
+    ensures { OnOk result (out.new.items ≡ out.old.items ++ details act.now effect) }
 {
-    match body {
-        Body::AddComment { .. } => push_id(out, b", comment ", effect.id),
-        Body::Acknowledge { sticky, .. } => {
-            push_state(out, effect.state)?;
-            out.extend_from_slice(sticky_part(*sticky == 2))?;
-            push_id(out, b", comment ", effect.id)
-        }
-        Body::Schedule { .. } => push_id(out, b", downtime ", effect.id),
-        Body::Result { .. }
-        | Body::DelComment { .. }
-        | Body::DelAllComments { .. }
-        | Body::RemoveAck { .. }
-        | Body::DelDowntime { .. }
-        | Body::Passive { .. }
-        | Body::ScheduleServices { .. }
-        | Body::Shutdown => Ok(()),
-    }
+    push_state(out, effect.state)?;
+    out.extend_from_slice(sticky_part(act))?;
+    push_made(out, effect.made)
 }
 
 fn reply_text(reply: Reply) -> &'static [u8]
@@ -143,11 +143,11 @@ fn fault_text(fault: AskFault) -> &'static [u8]
 }
 
 // Appends what a command did, and to what.
-fn push_done(out: &mut Vec<u8>, body: &Body) -> Result<(), AllocError>
-    ensures { OnOk result (out.new.items ≡ out.old.items ++ (verb body.now ++ subject body.now)) }
+fn push_done(out: &mut Vec<u8>, act: &Act<'_>) -> Result<(), AllocError>
+    ensures { OnOk result (out.new.items ≡ out.old.items ++ (verb act.now ++ subject act.now)) }
 {
-    out.extend_from_slice(verb(body))?;
-    push_subject(out, body)
+    out.extend_from_slice(verb(act))?;
+    push_subject(out, act)
 }
 
 // Appends that a command was queued as this number, which is all that is known.
@@ -161,11 +161,11 @@ fn push_unseen(out: &mut Vec<u8>, number: u64) -> Result<(), AllocError>
 }
 
 // Appends what a command is of, and why it was not done.
-fn push_cause(out: &mut Vec<u8>, body: &Body, cause: &[u8]) -> Result<(), AllocError>
+fn push_cause(out: &mut Vec<u8>, act: &Act<'_>, cause: &[u8]) -> Result<(), AllocError>
     ensures { OnOk result (out.new.items
-        ≡ out.old.items ++ (subject body.now ++ codes ": " ++ cause.now)) }
+        ≡ out.old.items ++ (subject act.now ++ codes ": " ++ cause.now)) }
 {
-    push_subject(out, body)?;
+    push_subject(out, act)?;
     out.extend_from_slice(b": ")?;
     out.extend_from_slice(cause)
 }
@@ -175,18 +175,19 @@ fn push_cause(out: &mut Vec<u8>, body: &Body, cause: &[u8]) -> Result<(), AllocE
 pub fn push_message(out: &mut Vec<u8>, body: &Body, ending: Ending) -> Result<(), AllocError>
     ensures { OnOk result (out.new.items ≡ out.old.items ++ message body.now ending) }
 {
+    let act = body.act();
     match ending {
         Ending::Shown(effect) => {
-            push_done(out, body)?;
-            push_details(out, body, effect)
+            push_done(out, &act)?;
+            push_details(out, &act, effect)
         }
         Ending::Unseen(number) => {
-            push_done(out, body)?;
+            push_done(out, &act)?;
             push_unseen(out, number)
         }
-        Ending::NotShown => push_cause(out, body, b"queued, and not shown in time"),
-        Ending::Refused(outcome) => push_cause(out, body, refusal_text(outcome).as_bytes()),
-        Ending::NotQueued(reply) => push_cause(out, body, reply_text(reply)),
-        Ending::NoAnswer(fault) => push_cause(out, body, fault_text(fault)),
+        Ending::NotShown => push_cause(out, &act, b"queued, and not shown in time"),
+        Ending::Refused(outcome) => push_cause(out, &act, refusal_text(outcome).as_bytes()),
+        Ending::NotQueued(reply) => push_cause(out, &act, reply_text(reply)),
+        Ending::NoAnswer(fault) => push_cause(out, &act, fault_text(fault)),
     }
 }

@@ -6,10 +6,8 @@ ghost use Rattle.status_reading.specs.Rows.{page_view};
 ghost use Rattle.operator_effects.specs.declared.watching.Next.{Next as Given};
 ghost use Rattle.operator_effects.specs.Watching.{Shows, ShowsIn, ShowsNone, ShowsNoneIn, IsFirstSeen};
 
-use crate::effects::effect_on;
-use crate::ending::Effect;
 use gate_model::Body;
-use page_changes::shows;
+use page_changes::{Effect, effect_of};
 use status_reading::{ReadFault, StatusPage, read_status_page};
 use std::alloc::{AllocError, Global};
 
@@ -51,15 +49,10 @@ fn seen_in(
         (ShowsNoneIn body.now (page_view before.now) text.now)
         (ShowsIn body.now (page_view before.now) text.now)) }
 {
-    let after = match read_status_page(alloc, text) {
-        Ok(after) => after,
-        Err(ReadFault::OutOfMemory) => return Err(AllocError),
-        Err(_) => return Ok(None),
-    };
-    if shows(alloc, body, before, &after)? {
-        Ok(Some(effect_on(alloc, before, &after, body)?))
-    } else {
-        Ok(None)
+    match read_status_page(alloc, text) {
+        Ok(after) => effect_of(alloc, body, before, &after),
+        Err(ReadFault::OutOfMemory) => Err(AllocError),
+        Err(_) => Ok(None),
     }
 }
 
@@ -78,7 +71,7 @@ fn seen_by(
         Next::Page(text) => seen_in(alloc, before, body, text.as_slice()),
         Next::Gone if matches!(body, Body::Shutdown) => Ok(Some(Effect {
             state: None,
-            id: None,
+            made: None,
         })),
         Next::Gone | Next::Over => Ok(None),
     }

@@ -1,10 +1,11 @@
 -- How a command ended, as JSON: `ending_json`. Own rules: the members, their order and their words.
-use Rattle.std.specs.Prelude.{ℕ, List, [], ◌∷◌, Option, Some, None, codes}
+use Rattle.std.specs.Prelude.{ℕ, List, [], ◌∷◌, Option, Some, None, option_map, codes}
 use Rattle.std.specs.Str.Lossy.{utf8_lossy}
 use Rattle.json.specs.Json.{Json, null, string, object}
 use Rattle.gate_lines.specs.Lines.{state_name}
 use Rattle.gate_model.specs.declared.state.State.{State}
 use Rattle.gate_model.specs.declared.submission.Body.{Body}
+use Rattle.page_changes.specs.Effects.{id_of_made}
 use Rattle.operator_effects.specs.declared.ending.Ending.{Ending}
 use Rattle.operator_effects.specs.declared.ending.Ending.TheVariants as ending
 use Rattle.operator_effects.specs.Endings.{status_of}
@@ -30,7 +31,7 @@ state_or_null (Some state) = string (state_name state)
 
 -- the id of what a command made, and the state of what it acknowledged
 abbrev pub id_of : Ending → Json
-id_of (ending.Shown effect) = number_or_null effect.id
+id_of (ending.Shown effect) = number_or_null (option_map id_of_made effect.made)
 id_of other = null
 
 abbrev pub state_of : Ending → Json

@@ -28,8 +28,8 @@ fn id_of<'a>(ending: Ending) -> Value<'a>
     ensures { value_json result ≡ id_of ending }
 {
     match ending {
-        Ending::Shown(effect) => match effect.id {
-            Some(id) => Value::Number(id),
+        Ending::Shown(effect) => match effect.made {
+            Some(made) => Value::Number(made.id()),
             None => Value::Null,
         },
         Ending::Unseen(_)

@@ -22,6 +22,7 @@ pub record IsAlone (name : List ℕ) (page : StatusPage) (gateway : Gateway) : T
   pub page_is : gateway.page ≡ Ok page
   pub since_is : gateway.since.now ≡ []
   pub old_is : gateway.old ≡ None
+  pub alarms_are : gateway.alarms.items ≡ []
 
 -- the objects of one gateway, as statusweb shows those of several
 abbrev pub objects_at : Gateway → List MergedObject

@@ -18,7 +18,7 @@ use std::net::{Net, TcpListener, TcpStream};
 use std::time::Clock;
 
 // A gateway of this name, whose page this is.
-fn alone<'a>(name: &'a str, page: StatusPage<'a>) -> Gateway<'a>
+fn alone<'a>(alloc: Global, name: &'a str, page: StatusPage<'a>) -> Gateway<'a>
     ensures { IsAlone name.entry.now page.entry result }
 {
     Gateway {
@@ -26,7 +26,7 @@ fn alone<'a>(name: &'a str, page: StatusPage<'a>) -> Gateway<'a>
         page: Ok(page),
         since: &[],
         old: None,
-        most: 0,
+        alarms: Vec::new(alloc),
     }
 }
 
@@ -79,7 +79,7 @@ fn show_chosen<W: Sink>(
         × IsChosenShown text.now (asked_by query.now) (W.state output.old) (W.state output.new)) }
 {
     let page = page_of(alloc, text)?;
-    let lines = chosen_on(alloc, text, alone("", page), query)?;
+    let lines = chosen_on(alloc, text, alone(alloc, "", page), query)?;
     print(output, lines.as_slice())?;
     Ok(0)
 }
@@ -98,7 +98,7 @@ fn show_json<W: Sink>(
         (W.state output.old) (W.state output.new)) }
 {
     let page = page_of(alloc, text)?;
-    let line = json_on(alloc, alone(name, page), query)?;
+    let line = json_on(alloc, alone(alloc, name, page), query)?;
     print(output, line.as_slice())?;
     Ok(0)
 }

@@ -2,3 +2,4 @@ pub mod ObjectSteps
 pub mod NameSteps
 pub mod FindSteps
 pub mod OutcomeLaw
+pub mod OwnLaw

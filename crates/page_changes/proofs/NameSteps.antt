@@ -26,8 +26,8 @@ use Rattle.status_reading.specs.Board.{shown_object}
 use Rattle.status_reading.proofs.PlainLaws.{plain_escaped}
 use Rattle.status_reading.proofs.BareSteps.{HasLength, line_length}
 use Rattle.status_reading.proofs.EachSteps.{each_from_at}
-use Rattle.page_changes.specs.Names.{shown_names, has_names, is_service, is_service_of, row_with}
-use Rattle.page_changes.specs.Foreseen.{outcome_of_row, as_shown, kind_of_field}
+use Rattle.page_changes.specs.Names.{shown_names, has_names, is_service, is_service_of, kind_of_field, row_with}
+use Rattle.page_changes.specs.Foreseen.{outcome_of_row, as_shown}
 
 -- ---- texts
 

@@ -12,7 +12,12 @@ use Rattle.gate_model.specs.declared.object.Kind.TheVariants.{Service}
 use Rattle.gate_model.specs.declared.object.ObjectId.{ObjectId}
 use Rattle.gate_model.specs.declared.object.ObjectLine.{ObjectLine}
 use Rattle.gate_model.specs.declared.submission.Body.{Body}
-use Rattle.gate_model.specs.declared.submission.Body.TheVariants as bodies
+use Rattle.gate_model.specs.declared.act.Span.{Span}
+use Rattle.gate_model.specs.declared.act.Deed.{Deed}
+use Rattle.gate_model.specs.declared.act.Deed.TheVariants as deeds
+use Rattle.gate_model.specs.declared.act.Act.{Act}
+use Rattle.gate_model.specs.declared.act.Act.TheVariants as acts
+use Rattle.gate_model.specs.Act.{act_of}
 use Rattle.gate_model.specs.declared.status.Acknowledgement.{Acknowledgement}
 use Rattle.gate_model.specs.declared.comments.Comment.{Comment}
 use Rattle.gate_model.specs.declared.downtime.Scheduled.{Scheduled}
@@ -23,7 +28,7 @@ use Rattle.gate_model.specs.Status.{state_of, is_passive, acknowledgement_of}
 use Rattle.gate_model.specs.Comments.{comments_of}
 use Rattle.gate_model.specs.Downtime.{entries_of, scheduled_in, transition_of, was_deleted, begin_of}
 use Rattle.gate_model.specs.Table.{place_of, has_object, object_kind, object_at, object_of, is_service_line_of, services_from, services_of}
-use Rattle.gate_model.specs.Meaning.{Judged, is_same_kind, object_events, comment_events, downtime_events, outlives, is_live_after, history_of, comments_at, downtimes_at, LiveEntry, outcome_at, outcome_after}
+use Rattle.gate_model.specs.Meaning.{Judged, is_same_kind, object_events, comment_events, downtime_events, outlives, is_live_after, history_of, comments_at, LiveEntry, outcome_at, outcome_after}
 use Rattle.gate_model.specs.Meaning as meaning
 use Rattle.gate_table.proofs.ServiceSteps.{services-cons}
 use Rattle.gate_pages.specs.Rows.{service_of, comment_row, downtime_row}
@@ -35,8 +40,8 @@ use Rattle.status_reading.specs.Gateway.{GatewayView, IsGateway, published_board
 use Rattle.status_reading.proofs.BareSteps.{HasLength, line_length, found_line}
 use Rattle.status_reading.proofs.EachSteps.{each_filter, each_map, each_reverse}
 use Rattle.status_reading.proofs.IdSteps.{Ascend, ascend_map, scheduled_ascend}
-use Rattle.page_changes.specs.Names.{shown_names, row_with}
-use Rattle.page_changes.specs.Foreseen.{is_acknowledged, outcome_of_row, row_for, outcome_for, outcome_of_problem, outcome_of_acknowledged, kind_of_field, outcome_of_field, comment_field, downtime_field, is_entry, outcome_of_plan, has_services, outcome_on, as_shown}
+use Rattle.page_changes.specs.Names.{shown_names, kind_of_field, row_with}
+use Rattle.page_changes.specs.Foreseen.{is_acknowledged, outcome_of_row, row_for, outcome_for, outcome_of_field, comment_field, downtime_field, is_entry, outcome_of_span, has_services, outcome_of_deed, outcome_of_act, outcome_on, as_shown}
 use Rattle.page_changes.proofs.NameSteps.{AllNamed, all_named, kind_shown, found_same, row_judged, services_judged, no_line, row_at}
 use Rattle.page_changes.proofs.ObjectSteps.{comments_each, scheduled_each}
 use Rattle.page_changes.proofs.FindSteps.{find_reverse, find_filter, has, has_reverse, has_kept, live_there}
@@ -327,46 +332,46 @@ module _ (gateway : GatewayView) (is : IsGateway gateway) where
       ∙ ap (λ (there : Bool). is_live_after table history moment id && there) (has_reverse (λ (one : Entry). one.scheduled.id) id entries)
       ∙ live_there entries moment.0 id
 
-  plan_law : (starts ends : Moment) (trigger : ℕ)
-      → outcome_of_plan page starts ends trigger ≡ as_shown (meaning.outcome_of_window (is_live_after table history moment) moment starts ends trigger)
-  plan_law starts ends trigger =
-      ap (λ (alive : Bool). if nat_le ends.0 starts.0 then BadWindow else (if nat_le ends.0 moment.0 then WindowPast else (if (trigger == 0) || alive then Accepted else NoSuchTrigger)))
-      (trigger_law trigger)
-      ∙ window_shown (nat_le ends.0 starts.0) (nat_le ends.0 moment.0) ((trigger == 0) || is_live_after table history moment trigger)
+  abbrev window : Span → Outcome
+  window span = meaning.outcome_of_window (is_live_after table history moment) moment span.starts span.ends span.trigger
+
+  span_law : (span : Span) → outcome_of_span page span ≡ as_shown (window span)
+  span_law span =
+      ap (λ (alive : Bool). if nat_le span.ends.0 span.starts.0 then BadWindow else (if nat_le span.ends.0 moment.0 then WindowPast else (if (span.trigger == 0) || alive then Accepted else NoSuchTrigger)))
+      (trigger_law span.trigger)
+      ∙ window_shown (nat_le span.ends.0 span.starts.0) (nat_le span.ends.0 moment.0) ((span.trigger == 0) || is_live_after table history moment span.trigger)
 
   -- ---- commands
 
-  pub outcome_law : (body : Body) → outcome_on page body ≡ as_shown (outcome_after table gateway.records moment body)
-  outcome_law (bodies.Result host service code output) =
-      object_law (λ row. Accepted) (λ place. if is_passive place (object_events table history) then Accepted else PassiveDisabled)
-      (λ place line. passive_shown (is_passive place (object_events table history))) host service
-  outcome_law (bodies.AddComment host service persistent author text) = object_law (λ row. Accepted) (λ place. Accepted) (λ place line. refl) host service
-  outcome_law (bodies.DelComment kind id) = comment_law kind id
-  outcome_law (bodies.DelAllComments host service) = object_law (λ row. Accepted) (λ place. Accepted) (λ place line. refl) host service
-  outcome_law (bodies.Acknowledge host service sticky notify persistent author text) =
-      object_law outcome_of_problem (λ place. if is_problem (state_of place (object_events table history)) then Accepted else NoProblem)
-      (λ place line. accepted_or (is_problem (state_of place (object_events table history))) NoProblem refl) host service
-  outcome_law (bodies.RemoveAck host service) =
-      object_law outcome_of_acknowledged
-      (λ place. if is_some (acknowledgement_of place (object_events table history)) then Accepted else NotAcknowledged)
-      (λ place line.
+  deed_law : (deed : Deed) (place : ℕ) (line : ObjectLine)
+      → outcome_of_deed page deed (row_at table gateway.opening gateway.records moment place line)
+      ≡ as_shown (meaning.outcome_of_deed table history moment deed place)
+  deed_law (deeds.Result code) place line = passive_shown (is_passive place (object_events table history))
+  deed_law (deeds.AddComment persistent) place line = refl
+  deed_law deeds.DelAllComments place line = refl
+  deed_law (deeds.Acknowledge sticky persistent) place line =
+      accepted_or (is_problem (state_of place (object_events table history))) NoProblem refl
+  deed_law deeds.RemoveAck place line =
       ap (λ (test : Bool). if test then Accepted else NotAcknowledged) (acknowledged_shown (acknowledgement_of place (object_events table history)))
-      ∙ accepted_or (is_some (acknowledgement_of place (object_events table history))) NotAcknowledged refl) host service
-  outcome_law (bodies.Schedule host service starts ends fixed trigger lasts author text) =
-      object_law (λ row. outcome_of_plan page starts ends trigger)
-      (λ place. meaning.outcome_of_window (is_live_after table history moment) moment starts ends trigger)
-      (λ place line. plan_law starts ends trigger) host service
-  outcome_law (bodies.DelDowntime kind id) = downtime_law kind id
-  outcome_law (bodies.Passive host service on) = object_law (λ row. Accepted) (λ place. Accepted) (λ place line. refl) host service
-  outcome_law (bodies.ScheduleServices host starts ends fixed trigger lasts author text) =
-      let plan = outcome_of_plan page starts ends trigger in
-      let window = meaning.outcome_of_window (is_live_after table history moment) moment starts ends trigger in
-      object_law (λ row. if has_services page host then plan else NoServices)
-      (λ place. meaning.outcome_of_services (services_of table host) window)
+      ∙ accepted_or (is_some (acknowledgement_of place (object_events table history))) NotAcknowledged refl
+  deed_law (deeds.Schedule span) place line = span_law span
+  deed_law (deeds.Passive on) place line = refl
+
+  act_law : (act : Act) → outcome_of_act page act ≡ as_shown (outcome_at table history moment act)
+  act_law (acts.On host service deed) =
+      object_law (outcome_of_deed page deed) (meaning.outcome_of_deed table history moment deed) (deed_law deed) host service
+  act_law (acts.ScheduleServices host span) =
+      object_law (λ row. if has_services page host then outcome_of_span page span else NoServices)
+      (λ place. meaning.outcome_of_services (services_of table host) (window span))
       (λ place line.
-      services_judged table gateway.opening gateway.records moment host plan 0 table named_all
-      ∙ services_shown (services_of table host) plan window (plan_law starts ends trigger)) host None
-  outcome_law bodies.Shutdown = refl
+      services_judged table gateway.opening gateway.records moment host (outcome_of_span page span) 0 table named_all
+      ∙ services_shown (services_of table host) (outcome_of_span page span) (window span) (span_law span)) host None
+  act_law (acts.DelComment kind id) = comment_law kind id
+  act_law (acts.DelDowntime kind id) = downtime_law kind id
+  act_law acts.Shutdown = refl
+
+  pub outcome_law : (body : Body) → outcome_on page body ≡ as_shown (outcome_after table gateway.records moment body)
+  outcome_law body = act_law (act_of body)
 
 pub is_foreseen : {E : Type 0} (result : Result Outcome E) (view : PageView) (body : Body) → IfOk result (λ outcome. outcome ≡ outcome_on view body)
     → (gateway : GatewayView) → IsGateway gateway → view ≡ shown_board (published_board gateway)

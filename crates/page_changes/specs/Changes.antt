@@ -14,7 +14,7 @@ use Rattle.status_reading.specs.declared.rows.ShownDowntime.{ShownDowntime}
 use Rattle.status_reading.specs.declared.page.StatusPage.{StatusPage}
 use Rattle.page_changes.specs.declared.comparing.Change.{Change}
 use Rattle.page_changes.specs.declared.comparing.Change.TheVariants.{OtherObjects, State, Staleness, Acknowledgement, Depth, CommentGone, CommentMade, DowntimeGone, DowntimeMade, Closing}
-use Rattle.page_changes.specs.Shows.{is_same}
+use Rattle.page_changes.specs.Effects.{is_same}
 
 -- ---- equal values
 

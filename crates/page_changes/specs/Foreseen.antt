@@ -4,20 +4,23 @@
 use Rattle.std.specs.Prelude.{ℕ, ◌==◌, Bool, true, false, List, find, is_some, codes, Option, Some, None, if◌then◌else◌}
 use Rattle.std.specs.List.{list_any}
 use Rattle.std.specs.Option.{option_map}
-use Rattle.gate_model.specs.declared.record.Moment.{Moment}
 use Rattle.gate_model.specs.declared.record.Outcome.{Outcome}
 use Rattle.gate_model.specs.declared.record.Outcome.TheVariants.{Accepted, NoSuchHost, NoSuchService, NoServices, NoSuchComment, NoSuchDowntime, WrongKind, NoProblem, NotAcknowledged, PassiveDisabled, BadWindow, WindowPast, NoSuchTrigger}
 use Rattle.gate_model.specs.declared.object.Kind.{Kind}
-use Rattle.gate_model.specs.declared.object.Kind.TheVariants.{Host, Service}
 use Rattle.gate_model.specs.declared.submission.Body.{Body}
-use Rattle.gate_model.specs.declared.submission.Body.TheVariants.{Result, AddComment, DelComment, DelAllComments, Acknowledge, RemoveAck, Schedule, DelDowntime, Passive, ScheduleServices, Shutdown}
+use Rattle.gate_model.specs.declared.act.Span.{Span}
+use Rattle.gate_model.specs.declared.act.Deed.{Deed}
+use Rattle.gate_model.specs.declared.act.Deed.TheVariants as deeds
+use Rattle.gate_model.specs.declared.act.Act.{Act}
+use Rattle.gate_model.specs.declared.act.Act.TheVariants as acts
+use Rattle.gate_model.specs.Act.{act_of}
 use Rattle.gate_model.specs.Escaping.{escaped}
 use Rattle.gate_model.specs.State.{is_problem}
 use Rattle.gate_model.specs.Meaning.{is_same_kind, outcome_of_window}
 use Rattle.status_reading.specs.declared.rows.ShownAcknowledgement.{ShownAcknowledgement}
 use Rattle.status_reading.specs.declared.rows.ShownAcknowledgement.TheVariants.{Missing, Normal, Sticky}
 use Rattle.status_reading.specs.Rows.{ObjectView, CommentView, DowntimeView, PageView}
-use Rattle.page_changes.specs.Names.{shown_names, is_nameless, is_service, is_service_of, row_with}
+use Rattle.page_changes.specs.Names.{shown_names, is_nameless, is_service_of, kind_of_field, row_with}
 
 -- ---- an object
 
@@ -42,19 +45,7 @@ abbrev pub outcome_for : PageView → List ℕ → Option (List ℕ) → (Object
 outcome_for page host service judge =
     if is_some (row_for page host None) then outcome_of_row judge (row_for page host service) else NoSuchHost
 
--- there must be a problem
-abbrev pub outcome_of_problem : ObjectView → Outcome
-outcome_of_problem row = if is_problem row.state then Accepted else NoProblem
-
--- there must be an acknowledgement
-abbrev pub outcome_of_acknowledged : ObjectView → Outcome
-outcome_of_acknowledged row = if is_acknowledged row.acknowledgement then Accepted else NotAcknowledged
-
 -- ---- a comment or an entry by its id
-
--- the kind of the object whose field of the service this is
-abbrev pub kind_of_field : List ℕ → Kind
-kind_of_field field = if is_service field then Service else Host
 
 -- the outcome where the row of the id has this field of the service, if there is a row
 abbrev pub outcome_of_field : Kind → Outcome → Option (List ℕ) → Outcome
@@ -77,10 +68,10 @@ downtime_field id rows =
 abbrev pub is_entry : List DowntimeView → ℕ → Bool
 is_entry rows id = list_any (λ (row : DowntimeView). row.id == id) rows
 
--- the outcome of a downtime with this window and this trigger
-abbrev pub outcome_of_plan : PageView → Moment → Moment → ℕ → Outcome
-outcome_of_plan page starts ends trigger =
-    outcome_of_window (is_entry page.downtimes) (record { 0 = page.moment }) starts ends trigger
+-- the outcome of such a downtime
+abbrev pub outcome_of_span : PageView → Span → Outcome
+outcome_of_span page span =
+    outcome_of_window (is_entry page.downtimes) (record { 0 = page.moment }) span.starts span.ends span.trigger
 
 -- the page has a service of this host
 abbrev pub has_services : PageView → List ℕ → Bool
@@ -89,23 +80,25 @@ has_services page host =
 
 -- ---- commands
 
+-- the outcome of a deed on the object of this row
+abbrev pub outcome_of_deed : PageView → Deed → ObjectView → Outcome
+outcome_of_deed page (deeds.Acknowledge sticky persistent) row = if is_problem row.state then Accepted else NoProblem
+outcome_of_deed page deeds.RemoveAck row = if is_acknowledged row.acknowledgement then Accepted else NotAcknowledged
+outcome_of_deed page (deeds.Schedule span) row = outcome_of_span page span
+outcome_of_deed page _ row = Accepted
+
+-- the outcome of an act
+abbrev pub outcome_of_act : PageView → Act → Outcome
+outcome_of_act page (acts.On host service deed) = outcome_for page host service (outcome_of_deed page deed)
+outcome_of_act page (acts.ScheduleServices host span) =
+    outcome_for page host None (λ row. if has_services page host then outcome_of_span page span else NoServices)
+outcome_of_act page (acts.DelComment kind id) = outcome_of_field kind NoSuchComment (comment_field id page.comments)
+outcome_of_act page (acts.DelDowntime kind id) = outcome_of_field kind NoSuchDowntime (downtime_field id page.downtimes)
+outcome_of_act page acts.Shutdown = Accepted
+
 -- the outcome of a command that is applied to what the page shows, at the page's moment
 abbrev pub outcome_on : PageView → Body → Outcome
-outcome_on page (Result host service code output) = outcome_for page host service (λ row. Accepted)
-outcome_on page (AddComment host service persistent author text) = outcome_for page host service (λ row. Accepted)
-outcome_on page (DelComment kind id) = outcome_of_field kind NoSuchComment (comment_field id page.comments)
-outcome_on page (DelAllComments host service) = outcome_for page host service (λ row. Accepted)
-outcome_on page (Acknowledge host service sticky notify persistent author text) =
-    outcome_for page host service outcome_of_problem
-outcome_on page (RemoveAck host service) = outcome_for page host service outcome_of_acknowledged
-outcome_on page (Schedule host service starts ends fixed trigger lasts author text) =
-    outcome_for page host service (λ row. outcome_of_plan page starts ends trigger)
-outcome_on page (DelDowntime kind id) = outcome_of_field kind NoSuchDowntime (downtime_field id page.downtimes)
-outcome_on page (Passive host service on) = outcome_for page host service (λ row. Accepted)
-outcome_on page (ScheduleServices host starts ends fixed trigger lasts author text) =
-    outcome_for page host None (λ row.
-    if has_services page host then outcome_of_plan page starts ends trigger else NoServices)
-outcome_on page Shutdown = Accepted
+outcome_on page body = outcome_of_act page (act_of body)
 
 -- a page doesn't show that passive checks are disabled
 abbrev pub as_shown : Outcome → Outcome

@@ -1,5 +1,5 @@
 pub mod Names
 pub mod Foreseen
-pub mod Shows
+pub mod Effects
 pub mod Changes
 pub mod inner

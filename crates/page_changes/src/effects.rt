@@ -1,53 +1,86 @@
-//! Whether a status page shows the effect of a command.
+//! What a status page shows of a command's effect.
 
-ghost use Rattle.std.specs.Prelude.{◌≡◌, ◌&&◌, true, map, IfOk};
-ghost use Rattle.std.specs.Option.{option_map};
-ghost use Rattle.gate_model.specs.Table.{greatest, object_kind};
+ghost use Rattle.std.specs.Prelude.{◌≡◌, not, Some, map, option_map, IfOk};
+ghost use Rattle.gate_model.specs.declared.submission.Body.{Body as Given};
+ghost use Rattle.gate_model.specs.Table.{greatest};
+ghost use Rattle.gate_model.specs.Act.{output_of, words_of};
 ghost use Rattle.gate_model.specs.Escaping.{escaped};
-ghost use Rattle.gate_model.specs.State.{is_same_state, state_of_code};
-ghost use Rattle.gate_model.specs.Act.{is_persistent, is_sticky, span_of};
-ghost use Rattle.gate_model.specs.Meaning.{plan_of};
-ghost use Rattle.status_reading.specs.Rows.{CommentView, DowntimeView, object_view, comment_view, downtime_view, page_view};
-ghost use Rattle.page_changes.specs.Names.{row_with, shown_names};
-ghost use Rattle.page_changes.specs.Shows.{is_same, is_from, is_missing, is_made, last_comment, last_entry, shown_words, has_words, is_comment, has_comment, is_planned, has_entry, has_entries, has_no_comment, has_no_entry, has_none_of, is_since, has_result, is_row, shows};
+ghost use Rattle.gate_model.specs.State.{is_same_state};
+ghost use Rattle.status_reading.specs.Rows.{CommentView, DowntimeView, PageView, object_view, comment_view, downtime_view, page_view};
+ghost use Rattle.status_reading.specs.RowFaults.{IsSound};
+ghost use Rattle.page_changes.specs.Foreseen.{is_acknowledged};
+ghost use Rattle.page_changes.specs.declared.effects.Made.{Made as Making};
+ghost use Rattle.page_changes.specs.Effects.{is_same, is_from, is_made, shown_words, has_words, comment_of, has_span, entry_of, has_entries, has_none_of, is_since, has_output, has_result, is_row, shown_if, shown_by, acknowledged_by, OfComment, OfEntry, new_with, mark_of, effect_of_deed, effect_of, made_in, id_of_made};
 
-use crate::names::{Names, row_of, shown};
-use gate_model::{Body, Kind, Moment, Plan, State, Text};
+use crate::foreseen::{comment_field, downtime_field, is_acknowledged};
+use crate::names::{Names, kind_of_field, row_of, shown};
+use gate_model::{Act, Body, Deed, Span, State, Text};
 use status_reading::{
     ShownAcknowledgement, ShownComment, ShownDowntime, ShownObject, ShownSource, StatusPage,
 };
 use std::alloc::{AllocError, Global};
-use std::marker::Model;
+
+/// What a page shows of a command.
+#[derive(Clone, Copy)]
+pub struct Effect {
+    /// The state of the object that it acknowledged.
+    pub state: Option<State>,
+    /// What it made, unless that is downtime of each service of a host.
+    pub made: Option<Made>,
+}
+
+/// The id of what a command made.
+#[derive(Clone, Copy)]
+pub enum Made {
+    Comment(u32),
+    Downtime(u32),
+}
+
+impl Made {
+    /// The id.
+    pub fn id(self) -> u32
+        ensures { result ≡ id_of_made self }
+    {
+        match self {
+            Made::Comment(id) | Made::Downtime(id) => id,
+        }
+    }
+}
 
 /// The author and the text of a comment or of downtime, as a page shows them.
 #[derive(Drop)]
-struct Words {
-    author: Vec<u8>,
-    text: Vec<u8>,
+pub struct Written {
+    pub author: Text,
+    pub text: Text,
 }
 
-impl Model for Words {
-    ghost use Rattle.page_changes.specs.Shows.{WordsView};
-
-    ghost Value = { WordsView };
-
-    ghost view = { λ words. record { author = words.author.items; text = words.text.items } };
-}
-
-impl Words {
-    fn of(alloc: Global, author: &Text, text: &Text) -> Result<Words, AllocError>
-        ensures { IfOk result (λ words. words ≡ shown_words author.now text.now) }
-    {
-        Ok(Words {
-            author: shown(alloc, author)?,
-            text: shown(alloc, text)?,
-        })
+fn shown_words(alloc: Global, body: &Body) -> Result<Option<Written>, AllocError>
+    ensures { IfOk result (λ words. words ≡ shown_words (words_of body.now)) }
+{
+    match body.words() {
+        Some(words) => Ok(Some(Written {
+            author: shown(alloc, words.author())?,
+            text: shown(alloc, words.text())?,
+        })),
+        None => Ok(None),
     }
+}
 
-    fn are(&self, author: &[u8], text: &[u8]) -> bool
-        ensures { result ≡ has_words self.now author.now text.now }
-    {
-        author == self.author.as_slice() && text == self.text.as_slice()
+fn shown_output(alloc: Global, body: &Body) -> Result<Option<Text>, AllocError>
+    ensures { IfOk result (λ output. output ≡ option_map escaped (output_of body.now)) }
+{
+    match body.output() {
+        Some(output) => Ok(Some(shown(alloc, output)?)),
+        None => Ok(None),
+    }
+}
+
+fn has_words(words: &Option<Written>, author: &[u8], text: &[u8]) -> bool
+    ensures { result ≡ has_words words.now author.now text.now }
+{
+    match words {
+        Some(words) => author == words.author.bytes() && text == words.text.bytes(),
+        None => false,
     }
 }
 
@@ -69,7 +102,7 @@ fn is_from(acknowledgement: bool, source: ShownSource) -> bool
 }
 
 /// The greatest id of the comments, and 0 where there are none.
-pub fn last_comment(rows: &[ShownComment<'_>]) -> u32
+fn last_comment(rows: &[ShownComment<'_>]) -> u32
     ensures { result ≡ greatest (map (λ (row : CommentView). row.id) (map comment_view rows.now)) }
 {
     let mut last = 0;
@@ -80,7 +113,7 @@ pub fn last_comment(rows: &[ShownComment<'_>]) -> u32
 }
 
 /// The greatest id of the downtime entries, and 0 where there are none.
-pub fn last_entry(rows: &[ShownDowntime<'_>]) -> u32
+fn last_entry(rows: &[ShownDowntime<'_>]) -> u32
     ensures { result
         ≡ greatest (map (λ (row : DowntimeView). row.id) (map downtime_view rows.now)) }
 {
@@ -91,17 +124,17 @@ pub fn last_entry(rows: &[ShownDowntime<'_>]) -> u32
     last
 }
 
-/// Whether there is a comment with an id above this one, of this object and from there, with this
+/// The id of the first comment with an id above this one, of this object and from there, with this
 /// persistence and these words.
-fn has_comment(
+fn comment_of(
     rows: &[ShownComment<'_>],
     last: u32,
     names: &Names,
     acknowledgement: bool,
     persistent: bool,
-    words: &Words,
-) -> bool
-    ensures { result ≡ has_comment last names.now acknowledgement persistent words.now
+    words: &Option<Written>,
+) -> Option<u32>
+    ensures { result ≡ comment_of last names.now acknowledgement persistent words.now
         (map comment_view rows.now) }
 {
     for row in rows {
@@ -109,42 +142,49 @@ fn has_comment(
             && names.are(row.host, row.service)
             && is_from(acknowledgement, row.source)
             && is_same(persistent, row.persistent)
-            && words.are(row.author, row.text)
+            && has_words(words, row.author, row.text)
         {
-            return true;
+            return Some(row.id);
         }
     }
-    false
+    None
 }
 
-/// Whether there is a downtime entry with an id above this one, of this object, as it was asked for
+/// Whether the entry is as it was asked for.
+fn has_span(span: Span, row: &ShownDowntime<'_>) -> bool
+    ensures { result ≡ has_span span (downtime_view row.now) }
+{
+    row.start == span.starts.0
+        && row.end == span.ends.0
+        && is_same(span.fixed, row.fixed)
+        && row.trigger == span.trigger
+        && row.duration == span.lasts
+}
+
+/// The id of the first downtime entry with an id above this one, of this object, as it was asked for
 /// and with these words.
-fn has_entry(
+fn entry_of(
     rows: &[ShownDowntime<'_>],
     last: u32,
     host: &[u8],
     service: &[u8],
-    plan: Plan,
-    words: &Words,
-) -> bool
-    ensures { result ≡ has_entry last (record { host = host.now; service = service.now }) plan
-        words.now (map downtime_view rows.now) }
+    span: Span,
+    words: &Option<Written>,
+) -> Option<u32>
+    ensures { result ≡ entry_of last host.now service.now span words.now
+        (map downtime_view rows.now) }
 {
     for row in rows {
         if last < row.id
             && row.host == host
             && row.service == service
-            && row.start == plan.starts.0
-            && row.end == plan.ends.0
-            && is_same(plan.fixed, row.fixed)
-            && row.trigger == plan.trigger
-            && row.duration == plan.lasts
-            && words.are(row.author, row.text)
+            && has_span(span, row)
+            && has_words(words, row.author, row.text)
         {
-            return true;
+            return Some(row.id);
         }
     }
-    false
+    None
 }
 
 /// Whether there is such an entry for each of these rows that is of a service of the host.
@@ -153,38 +193,16 @@ fn has_entries(
     entries: &[ShownDowntime<'_>],
     last: u32,
     names: &Names,
-    plan: Plan,
-    words: &Words,
+    span: Span,
+    words: &Option<Written>,
 ) -> bool
-    ensures { result ≡ has_entries last names.now.host plan words.now
+    ensures { result ≡ has_entries last names.now.host span words.now
         (map object_view rows.now) (map downtime_view entries.now) }
 {
     for row in rows {
         if names.is_host_of(row.host, row.service)
-            && !has_entry(entries, last, row.host, row.service, plan, words)
+            && entry_of(entries, last, row.host, row.service, span, words).is_none()
         {
-            return false;
-        }
-    }
-    true
-}
-
-fn has_no_comment(rows: &[ShownComment<'_>], id: u32) -> bool
-    ensures { result ≡ has_no_comment id (map comment_view rows.now) }
-{
-    for row in rows {
-        if row.id == id {
-            return false;
-        }
-    }
-    true
-}
-
-fn has_no_entry(rows: &[ShownDowntime<'_>], id: u32) -> bool
-    ensures { result ≡ has_no_entry id (map downtime_view rows.now) }
-{
-    for row in rows {
-        if row.id == id {
             return false;
         }
     }
@@ -219,296 +237,222 @@ fn is_since(moment: u32, last: Option<u32>) -> bool
     }
 }
 
+fn has_output(output: &Option<Text>, field: &[u8]) -> bool
+    ensures { result ≡ has_output output.now field.now }
+{
+    match output {
+        Some(output) => field == output.bytes(),
+        None => false,
+    }
+}
+
 /// Whether the row has the state and the output of a result, and its last result is of this moment
 /// or a later one.
-fn has_result(row: Option<ShownObject<'_>>, moment: u32, state: State, output: &[u8]) -> bool
+fn has_result(
+    row: Option<ShownObject<'_>>,
+    moment: u32,
+    state: State,
+    output: &Option<Text>,
+) -> bool
     ensures { result
         ≡ is_row (has_result moment state output.now) (option_map object_view row.entry) }
 {
     match row {
         Some(row) => {
-            is_same_state(row.state, state) && row.output == output && is_since(moment, row.last)
+            is_same_state(row.state, state)
+                && has_output(output, row.output)
+                && is_since(moment, row.last)
         }
         None => false,
     }
 }
 
-fn is_made(row: Option<ShownObject<'_>>, sticky: bool) -> bool
-    ensures { result
-        ≡ is_row (λ row. is_made sticky row.acknowledgement) (option_map object_view row.entry) }
+fn is_made(sticky: bool, shown: ShownAcknowledgement) -> bool
+    ensures { result ≡ is_made sticky shown }
+{
+    match shown {
+        ShownAcknowledgement::Missing => false,
+        ShownAcknowledgement::Normal => !sticky,
+        ShownAcknowledgement::Sticky => sticky,
+    }
+}
+
+fn is_unacknowledged(row: Option<ShownObject<'_>>) -> bool
+    ensures { result ≡ is_row (λ row. not (is_acknowledged row.acknowledgement))
+        (option_map object_view row.entry) }
 {
     match row {
-        Some(row) => match row.acknowledgement {
-            ShownAcknowledgement::Missing => false,
-            ShownAcknowledgement::Normal => !sticky,
-            ShownAcknowledgement::Sticky => sticky,
-        },
+        Some(row) => !is_acknowledged(row.acknowledgement),
         None => false,
     }
 }
 
-fn is_missing(row: Option<ShownObject<'_>>) -> bool
-    ensures { result
-        ≡ is_row (λ row. is_missing row.acknowledgement) (option_map object_view row.entry) }
+fn shown_if(shown: bool) -> Option<Effect>
+    ensures { result ≡ shown_if shown }
+{
+    if shown {
+        Some(Effect {
+            state: None,
+            made: None,
+        })
+    } else {
+        None
+    }
+}
+
+fn shown_by(state: Option<State>, made: Option<Made>) -> Option<Effect>
+    ensures { result ≡ shown_by state made }
+{
+    match made {
+        Some(_) => Some(Effect { state, made }),
+        None => None,
+    }
+}
+
+fn acknowledged_by(sticky: bool, made: Option<Made>, row: Option<ShownObject<'_>>) -> Option<Effect>
+    ensures { result ≡ acknowledged_by sticky made (option_map object_view row.entry) }
 {
     match row {
-        Some(row) => matches!(row.acknowledgement, ShownAcknowledgement::Missing),
-        None => false,
-    }
-}
-
-fn kind_of(service: &Option<Text>) -> Kind
-    ensures { result ≡ object_kind service.now }
-{
-    match service {
-        Some(_) => Kind::Service,
-        None => Kind::Host,
-    }
-}
-
-/// What a downtime command asks for; no page shows its log index.
-fn plan_of(starts: Moment, ends: Moment, fixed: u32, trigger: u32, lasts: u32) -> Plan
-    ensures { result ≡ plan_of (span_of starts ends fixed trigger lasts) 0 }
-{
-    Plan {
-        starts,
-        ends,
-        fixed: fixed == 1,
-        trigger,
-        lasts,
-        log_index: 0,
+        Some(row) if is_made(sticky, row.acknowledgement) => shown_by(Some(row.state), made),
+        _ => None,
     }
 }
 
 // Of the two pages the first was read before the command was sent, and the second after it.
 
-/// Whether the page shows a result of an object.
-fn shows_result(
-    alloc: Global,
-    pages: (&StatusPage<'_>, &StatusPage<'_>),
-    object: (&Text, &Option<Text>),
-    code: i16,
-    output: &Text,
-) -> Result<bool, AllocError>
-    ensures { IfOk result (λ shown. shown
-        ≡ is_row (has_result (page_view pages.entry.0.now).moment
-        (state_of_code (object_kind object.entry.1.now) code) (escaped output.now))
-        (row_with (shown_names object.entry.0.now object.entry.1.now) (page_view pages.entry.1.now).objects)) }
-{
-    let names = Names::of(alloc, object.0, object.1)?;
-    let row = row_of(pages.1.objects.as_slice(), &names);
-    drop(names);
-    let output = shown(alloc, output)?;
-    let state = State::of_code(kind_of(object.1), code);
-    Ok(has_result(row, pages.0.moment, state, &output))
-}
-
-/// Whether the page shows the comment of a command that was made after the page before it was read.
-fn shows_comment(
-    alloc: Global,
-    pages: (&StatusPage<'_>, &StatusPage<'_>),
-    object: (&Text, &Option<Text>),
+/// The comment that was made of the object, with these words.
+fn new_comment(
+    before: &StatusPage<'_>,
+    after: &StatusPage<'_>,
+    names: &Names,
+    words: &Option<Written>,
     acknowledgement: bool,
-    persistent: u32,
-    said: (&Text, &Text),
-) -> Result<bool, AllocError>
-    ensures { IfOk result (λ shown. shown
-        ≡ has_comment (last_comment (page_view pages.entry.0.now))
-        (shown_names object.entry.0.now object.entry.1.now) acknowledgement (is_persistent persistent)
-        (shown_words said.entry.0.now said.entry.1.now) (page_view pages.entry.1.now).comments) }
+    persistent: bool,
+) -> Option<Made>
+    ensures { result ≡ new_with (page_view before.now) (page_view after.now)
+        (OfComment names.now acknowledgement persistent words.now) }
 {
-    let names = Names::of(alloc, object.0, object.1)?;
-    let words = Words::of(alloc, said.0, said.1)?;
-    let last = last_comment(pages.0.comments.as_slice());
-    let rows = pages.1.comments.as_slice();
-    Ok(has_comment(rows, last, &names, acknowledgement, persistent != 0, &words))
-}
-
-/// Whether the page has no comment of the object that the page before had.
-fn shows_none_of(
-    alloc: Global,
-    pages: (&StatusPage<'_>, &StatusPage<'_>),
-    object: (&Text, &Option<Text>),
-) -> Result<bool, AllocError>
-    ensures { IfOk result (λ shown. shown
-        ≡ has_none_of (last_comment (page_view pages.entry.0.now))
-        (shown_names object.entry.0.now object.entry.1.now) (page_view pages.entry.1.now).comments) }
-{
-    let names = Names::of(alloc, object.0, object.1)?;
-    let last = last_comment(pages.0.comments.as_slice());
-    Ok(has_none_of(pages.1.comments.as_slice(), last, &names))
-}
-
-/// Whether the page shows an acknowledgement, with its comment.
-fn shows_acknowledgement(
-    alloc: Global,
-    pages: (&StatusPage<'_>, &StatusPage<'_>),
-    object: (&Text, &Option<Text>),
-    sticky: u32,
-    persistent: u32,
-    said: (&Text, &Text),
-) -> Result<bool, AllocError>
-    ensures { IfOk result (λ shown. shown
-        ≡ (is_row (λ row. is_made (is_sticky sticky) row.acknowledgement)
-        (row_with (shown_names object.entry.0.now object.entry.1.now) (page_view pages.entry.1.now).objects)
-        && has_comment (last_comment (page_view pages.entry.0.now))
-        (shown_names object.entry.0.now object.entry.1.now) true (is_persistent persistent)
-        (shown_words said.entry.0.now said.entry.1.now) (page_view pages.entry.1.now).comments)) }
-{
-    let names = Names::of(alloc, object.0, object.1)?;
-    let row = row_of(pages.1.objects.as_slice(), &names);
-    drop(names);
-    if is_made(row, sticky == 2) {
-        shows_comment(alloc, pages, object, true, persistent, said)
-    } else {
-        Ok(false)
+    let last = last_comment(before.comments.as_slice());
+    let rows = after.comments.as_slice();
+    match comment_of(rows, last, names, acknowledgement, persistent, words) {
+        Some(id) => Some(Made::Comment(id)),
+        None => None,
     }
 }
 
-/// Whether the page shows the object without an acknowledgement.
-fn shows_no_acknowledgement(
-    alloc: Global,
-    page: &StatusPage<'_>,
-    object: (&Text, &Option<Text>),
-) -> Result<bool, AllocError>
-    ensures { IfOk result (λ shown. shown
-        ≡ is_row (λ row. is_missing row.acknowledgement)
-        (row_with (shown_names object.entry.0.now object.entry.1.now) (page_view page.now).objects)) }
+/// The downtime entry that was made of the object, with these words.
+fn new_entry(
+    before: &StatusPage<'_>,
+    after: &StatusPage<'_>,
+    names: &Names,
+    words: &Option<Written>,
+    span: Span,
+) -> Option<Made>
+    ensures { result ≡ new_with (page_view before.now) (page_view after.now)
+        (OfEntry names.now span words.now) }
 {
-    let names = Names::of(alloc, object.0, object.1)?;
-    Ok(is_missing(row_of(page.objects.as_slice(), &names)))
+    let last = last_entry(before.downtimes.as_slice());
+    let rows = after.downtimes.as_slice();
+    let (host, service) = (names.host.bytes(), names.service.bytes());
+    match entry_of(rows, last, host, service, span, words) {
+        Some(id) => Some(Made::Downtime(id)),
+        None => None,
+    }
 }
 
-/// Whether the page shows the entry of a command that was made after the page before it was read.
-fn shows_entry(
-    alloc: Global,
-    pages: (&StatusPage<'_>, &StatusPage<'_>),
-    object: (&Text, &Option<Text>),
-    plan: Plan,
-    said: (&Text, &Text),
-) -> Result<bool, AllocError>
-    ensures { IfOk result (λ shown. shown
-        ≡ has_entry (last_entry (page_view pages.entry.0.now))
-        (shown_names object.entry.0.now object.entry.1.now) plan (shown_words said.entry.0.now said.entry.1.now)
-        (page_view pages.entry.1.now).downtimes) }
+/// What the page shows of a deed on the object of these names, with these words or this output.
+fn effect_of_deed(
+    before: &StatusPage<'_>,
+    after: &StatusPage<'_>,
+    names: &Names,
+    words: &Option<Written>,
+    output: &Option<Text>,
+    deed: Deed,
+) -> Option<Effect>
+    ensures { result ≡ effect_of_deed (page_view before.now) (page_view after.now) names.now
+        words.now output.now deed }
 {
-    let names = Names::of(alloc, object.0, object.1)?;
-    let words = Words::of(alloc, said.0, said.1)?;
-    let last = last_entry(pages.0.downtimes.as_slice());
-    let entries = pages.1.downtimes.as_slice();
-    Ok(has_entry(entries, last, names.host(), names.service(), plan, &words))
+    let row = row_of(after.objects.as_slice(), names);
+    match deed {
+        Deed::Result { code } => {
+            let state = State::of_code(kind_of_field(names.service.bytes()), code);
+            shown_if(has_result(row, before.moment, state, output))
+        }
+        Deed::AddComment { persistent } => {
+            let made = new_comment(before, after, names, words, false, persistent);
+            shown_by(None, made)
+        }
+        Deed::DelAllComments => {
+            let last = last_comment(before.comments.as_slice());
+            shown_if(has_none_of(after.comments.as_slice(), last, names))
+        }
+        Deed::Acknowledge { sticky, persistent } => {
+            let made = new_comment(before, after, names, words, true, persistent);
+            acknowledged_by(sticky, made, row)
+        }
+        Deed::RemoveAck => shown_if(is_unacknowledged(row)),
+        Deed::Schedule { span } => shown_by(None, new_entry(before, after, names, words, span)),
+        Deed::Passive { .. } => None,
+    }
 }
 
-/// Whether the page shows such an entry of each service of a host.
-fn shows_entries(
-    alloc: Global,
-    pages: (&StatusPage<'_>, &StatusPage<'_>),
-    host: &Text,
-    plan: Plan,
-    said: (&Text, &Text),
-) -> Result<bool, AllocError>
-    ensures { IfOk result (λ shown. shown
-        ≡ has_entries (last_entry (page_view pages.entry.0.now)) (escaped host.now) plan
-        (shown_words said.entry.0.now said.entry.1.now) (page_view pages.entry.0.now).objects
-        (page_view pages.entry.1.now).downtimes) }
-{
-    let names = Names::of(alloc, host, &None)?;
-    let words = Words::of(alloc, said.0, said.1)?;
-    let last = last_entry(pages.0.downtimes.as_slice());
-    let rows = pages.0.objects.as_slice();
-    Ok(has_entries(
-        rows,
-        pages.1.downtimes.as_slice(),
-        last,
-        &names,
-        plan,
-        &words,
-    ))
-}
-
-/// Whether the page `after` shows the effect of a command, where the page `before` was read before
-/// the command was sent.
-///
-/// A result is shown by its state, its output and its moment; a comment, an acknowledgement and
-/// downtime by a row that the page before had not; a deletion by the row that is missing. No page
-/// shows whether passive checks are enabled. The only error is out of memory. Own rule.
-pub fn shows(
+fn effect_between(
     alloc: Global,
     body: &Body,
     before: &StatusPage<'_>,
     after: &StatusPage<'_>,
-) -> Result<bool, AllocError>
-    ensures { IfOk result (λ shown.
-        shown ≡ shows body.now (page_view before.now) (page_view after.now)) }
+) -> Result<Option<Effect>, AllocError>
+    ensures { IfOk result (λ effect.
+        effect ≡ effect_of body.now (page_view before.now) (page_view after.now)) }
 {
-    let pages = (before, after);
-    match body {
-        Body::Result {
+    let words = shown_words(alloc, body)?;
+    match body.act() {
+        Act::On {
             host,
             service,
-            code,
-            output,
-        } => shows_result(alloc, pages, (host, service), *code, output),
-        Body::AddComment {
-            host,
-            service,
-            persistent,
-            author,
-            text,
-        } => shows_comment(
-            alloc,
-            pages,
-            (host, service),
-            false,
-            *persistent,
-            (author, text),
-        ),
-        Body::DelComment { id, .. } => Ok(has_no_comment(after.comments.as_slice(), *id)),
-        Body::DelAllComments { host, service } => shows_none_of(alloc, pages, (host, service)),
-        Body::Acknowledge {
-            host,
-            service,
-            sticky,
-            persistent,
-            author,
-            text,
-            ..
+            deed,
         } => {
-            let said = (author, text);
-            shows_acknowledgement(alloc, pages, (host, service), *sticky, *persistent, said)
+            let names = Names::of(alloc, &host, &service)?;
+            let output = shown_output(alloc, body)?;
+            Ok(effect_of_deed(before, after, &names, &words, &output, deed))
         }
-        Body::RemoveAck { host, service } => {
-            shows_no_acknowledgement(alloc, after, (host, service))
+        Act::ScheduleServices { host, span } => {
+            let names = Names::of(alloc, &host, &None)?;
+            let rows = before.objects.as_slice();
+            let entries = after.downtimes.as_slice();
+            let last = last_entry(before.downtimes.as_slice());
+            Ok(shown_if(has_entries(rows, entries, last, &names, span, &words)))
         }
-        Body::Schedule {
-            host,
-            service,
-            starts,
-            ends,
-            fixed,
-            trigger,
-            lasts,
-            author,
-            text,
-        } => {
-            let plan = plan_of(*starts, *ends, *fixed, *trigger, *lasts);
-            shows_entry(alloc, pages, (host, service), plan, (author, text))
+        Act::DelComment { id, .. } => {
+            Ok(shown_if(comment_field(after.comments.as_slice(), id).is_none()))
         }
-        Body::DelDowntime { id, .. } => Ok(has_no_entry(after.downtimes.as_slice(), *id)),
-        Body::Passive { .. } => Ok(false),
-        Body::ScheduleServices {
-            host,
-            starts,
-            ends,
-            fixed,
-            trigger,
-            lasts,
-            author,
-            text,
-        } => {
-            let plan = plan_of(*starts, *ends, *fixed, *trigger, *lasts);
-            shows_entries(alloc, pages, host, plan, (author, text))
+        Act::DelDowntime { id, .. } => {
+            Ok(shown_if(downtime_field(after.downtimes.as_slice(), id).is_none()))
         }
-        Body::Shutdown => Ok(after.closing.is_some()),
+        Act::Shutdown => Ok(shown_if(after.closing.is_some())),
     }
+}
+
+/// What the page `after` shows of a command, where the page `before` was read before the command was
+/// sent; None where it doesn't show its effect.
+///
+/// A result is shown by its state, its output and its moment; a comment, an acknowledgement and
+/// downtime by a row that the page before had not; a deletion by the row that is missing. No page
+/// shows whether passive checks are enabled. The only error is out of memory. Own rule.
+pub fn effect_of(
+    alloc: Global,
+    body: &Body,
+    before: &StatusPage<'_>,
+    after: &StatusPage<'_>,
+) -> Result<Option<Effect>, AllocError>
+    ensures effect { IfOk result (λ effect.
+        effect ≡ effect_of body.now (page_view before.now) (page_view after.now)) }
+
+    // By this page only a command with this mark made what this one made, whichever page was read
+    // before that one.
+    ensures own { IsSound (page_view after.now) → (earlier : PageView) (other : Given) (made : Making)
+        → made_in (effect_of other earlier (page_view after.now)) ≡ Some made
+        → IfOk result (λ effect. made_in effect ≡ Some made → mark_of body.now ≡ mark_of other) }
+{
+    effect_between(alloc, body, before, after)
 }

@@ -8,15 +8,15 @@ ghost use Rattle.gate_model.specs.Meaning.{outcome_after};
 ghost use Rattle.status_reading.specs.Board.{shown_board};
 ghost use Rattle.status_reading.specs.Gateway.{GatewayView, IsGateway, published_board};
 ghost use Rattle.page_changes.specs.Names.{is_nameless, is_service_of};
-ghost use Rattle.page_changes.specs.Foreseen.{is_acknowledged, outcome_of_problem, outcome_of_acknowledged, outcome_for, outcome_of_field, comment_field, downtime_field, is_entry, outcome_of_plan, has_services, outcome_on, as_shown, refusal_text};
+ghost use Rattle.page_changes.specs.Foreseen.{is_acknowledged, outcome_for, outcome_of_field, comment_field, downtime_field, is_entry, outcome_of_span, has_services, outcome_of_deed, outcome_on, as_shown, refusal_text};
 ghost use Rattle.page_changes.specs.inner.Judged.{judged};
 
-use crate::names::{Names, row_of};
-use gate_model::{Body, Kind, Moment, Outcome, Text};
+use crate::names::{Names, kind_of_field, row_of};
+use gate_model::{Act, Body, Deed, Kind, Name, Outcome, Span};
 use status_reading::{ShownAcknowledgement, ShownComment, ShownDowntime, ShownObject, StatusPage};
 use std::alloc::{AllocError, Global};
 
-fn is_nameless(service: &Option<Text>) -> bool
+fn is_nameless(service: &Option<Name<'_>>) -> bool
     ensures { result ≡ is_nameless service.now }
 {
     match service {
@@ -29,8 +29,8 @@ fn is_nameless(service: &Option<Text>) -> bool
 fn object_row<'a>(
     alloc: Global,
     page: &StatusPage<'a>,
-    host: &Text,
-    service: &Option<Text>,
+    host: &Name<'_>,
+    service: &Option<Name<'_>>,
 ) -> Result<Result<ShownObject<'a>, Outcome>, AllocError>
     ensures { IfOk result (λ found. (judge : ObjectView → Outcome)
         → judged judge found ≡ outcome_for (page_view page.now) host.now service.now judge) }
@@ -49,43 +49,8 @@ fn object_row<'a>(
     }
 }
 
-/// The outcome of a command that names an object, where this is its outcome on any object.
-fn object_outcome(
-    alloc: Global,
-    page: &StatusPage<'_>,
-    host: &Text,
-    service: &Option<Text>,
-    outcome: Outcome,
-) -> Result<Outcome, AllocError>
-    ensures { IfOk result (λ found.
-        found ≡ outcome_for (page_view page.now) host.now service.now (λ row. outcome)) }
-{
-    match object_row(alloc, page, host, service)? {
-        Ok(_) => Ok(outcome),
-        Err(refusal) => Ok(refusal),
-    }
-}
-
-fn problem_outcome(
-    alloc: Global,
-    page: &StatusPage<'_>,
-    host: &Text,
-    service: &Option<Text>,
-) -> Result<Outcome, AllocError>
-    ensures { IfOk result (λ outcome.
-        outcome ≡ outcome_for (page_view page.now) host.now service.now outcome_of_problem) }
-{
-    match object_row(alloc, page, host, service)? {
-        Ok(row) => Ok(if row.state.is_problem() {
-            Outcome::Accepted
-        } else {
-            Outcome::NoProblem
-        }),
-        Err(outcome) => Ok(outcome),
-    }
-}
-
-fn is_acknowledged(shown: ShownAcknowledgement) -> bool
+/// Whether the problem is acknowledged.
+pub fn is_acknowledged(shown: ShownAcknowledgement) -> bool
     ensures { result ≡ is_acknowledged shown }
 {
     match shown {
@@ -94,26 +59,8 @@ fn is_acknowledged(shown: ShownAcknowledgement) -> bool
     }
 }
 
-fn acknowledged_outcome(
-    alloc: Global,
-    page: &StatusPage<'_>,
-    host: &Text,
-    service: &Option<Text>,
-) -> Result<Outcome, AllocError>
-    ensures { IfOk result (λ outcome.
-        outcome ≡ outcome_for (page_view page.now) host.now service.now outcome_of_acknowledged) }
-{
-    match object_row(alloc, page, host, service)? {
-        Ok(row) => Ok(if is_acknowledged(row.acknowledgement) {
-            Outcome::Accepted
-        } else {
-            Outcome::NotAcknowledged
-        }),
-        Err(outcome) => Ok(outcome),
-    }
-}
-
-fn comment_field<'a>(rows: &[ShownComment<'a>], id: u32) -> Option<&'a [u8]>
+/// The service's field of the comment of this id.
+pub fn comment_field<'a>(rows: &[ShownComment<'a>], id: u32) -> Option<&'a [u8]>
     ensures { option_map (λ field. field.now) result
         ≡ comment_field id (map comment_view rows.now) }
 {
@@ -125,7 +72,8 @@ fn comment_field<'a>(rows: &[ShownComment<'a>], id: u32) -> Option<&'a [u8]>
     None
 }
 
-fn downtime_field<'a>(rows: &[ShownDowntime<'a>], id: u32) -> Option<&'a [u8]>
+/// The service's field of the downtime entry of this id.
+pub fn downtime_field<'a>(rows: &[ShownDowntime<'a>], id: u32) -> Option<&'a [u8]>
     ensures { option_map (λ field. field.now) result
         ≡ downtime_field id (map downtime_view rows.now) }
 {
@@ -145,14 +93,9 @@ fn outcome_of_field(kind: Kind, missing: Outcome, field: Option<&[u8]>) -> Outco
     let Some(field) = field else {
         return missing;
     };
-    let is_named = match kind {
-        Kind::Host => field.is_empty(),
-        Kind::Service => !field.is_empty(),
-    };
-    if is_named {
-        Outcome::Accepted
-    } else {
-        Outcome::WrongKind
+    match (kind, kind_of_field(field)) {
+        (Kind::Host, Kind::Host) | (Kind::Service, Kind::Service) => Outcome::Accepted,
+        (Kind::Host, Kind::Service) | (Kind::Service, Kind::Host) => Outcome::WrongKind,
     }
 }
 
@@ -167,18 +110,47 @@ fn is_entry(rows: &[ShownDowntime<'_>], id: u32) -> bool
     false
 }
 
-/// The outcome of a downtime with this window and this trigger.
-fn outcome_of_plan(page: &StatusPage<'_>, starts: Moment, ends: Moment, trigger: u32) -> Outcome
-    ensures { result ≡ outcome_of_plan (page_view page.now) starts ends trigger }
+/// The outcome of such a downtime.
+fn outcome_of_span(page: &StatusPage<'_>, span: Span) -> Outcome
+    ensures { result ≡ outcome_of_span (page_view page.now) span }
 {
-    if ends.0 <= starts.0 {
+    if span.ends.0 <= span.starts.0 {
         Outcome::BadWindow
-    } else if ends.0 <= page.moment {
+    } else if span.ends.0 <= page.moment {
         Outcome::WindowPast
-    } else if trigger == 0 || is_entry(page.downtimes.as_slice(), trigger) {
+    } else if span.trigger == 0 || is_entry(page.downtimes.as_slice(), span.trigger) {
         Outcome::Accepted
     } else {
         Outcome::NoSuchTrigger
+    }
+}
+
+/// The outcome of a deed on the object of this row.
+fn outcome_of_deed(page: &StatusPage<'_>, deed: Deed, row: ShownObject<'_>) -> Outcome
+    ensures { result ≡ outcome_of_deed (page_view page.now) deed (object_view row.entry) }
+{
+    match deed {
+        Deed::Acknowledge { .. } if !row.state.is_problem() => Outcome::NoProblem,
+        Deed::RemoveAck if !is_acknowledged(row.acknowledgement) => Outcome::NotAcknowledged,
+        Deed::Schedule { span } => outcome_of_span(page, span),
+        _ => Outcome::Accepted,
+    }
+}
+
+/// The outcome of a deed on the object of these names.
+fn outcome_on_object(
+    alloc: Global,
+    page: &StatusPage<'_>,
+    host: &Name<'_>,
+    service: &Option<Name<'_>>,
+    deed: Deed,
+) -> Result<Outcome, AllocError>
+    ensures { IfOk result (λ outcome. outcome ≡ outcome_for (page_view page.now) host.now
+        service.now (outcome_of_deed (page_view page.now) deed)) }
+{
+    match object_row(alloc, page, host, service)? {
+        Ok(row) => Ok(outcome_of_deed(page, deed, row)),
+        Err(refusal) => Ok(refusal),
     }
 }
 
@@ -196,22 +168,22 @@ fn has_services(rows: &[ShownObject<'_>], names: &Names) -> bool
 }
 
 /// The outcome of a downtime for each service of a host.
-fn services_outcome(
+fn outcome_on_services(
     alloc: Global,
     page: &StatusPage<'_>,
-    host: &Text,
-    plan: Outcome,
+    host: &Name<'_>,
+    span: Span,
 ) -> Result<Outcome, AllocError>
     ensures { IfOk result (λ outcome. outcome ≡ outcome_for (page_view page.now) host.now None
-        (λ row. if has_services (page_view page.now) host.now then plan
-        else Outcome.NoServices)) }
+        (λ row. if has_services (page_view page.now) host.now
+        then outcome_of_span (page_view page.now) span else Outcome.NoServices)) }
 {
     if let Err(outcome) = object_row(alloc, page, host, &None)? {
         return Ok(outcome);
     }
     let names = Names::of(alloc, host, &None)?;
     if has_services(page.objects.as_slice(), &names) {
-        Ok(plan)
+        Ok(outcome_of_span(page, span))
     } else {
         Ok(Outcome::NoServices)
     }
@@ -221,47 +193,22 @@ fn services_outcome(
 fn outcome_on(alloc: Global, page: &StatusPage<'_>, body: &Body) -> Result<Outcome, AllocError>
     ensures { IfOk result (λ outcome. outcome ≡ outcome_on (page_view page.now) body.now) }
 {
-    match body {
-        Body::Result { host, service, .. }
-        | Body::AddComment { host, service, .. }
-        | Body::DelAllComments { host, service }
-        | Body::Passive { host, service, .. } => {
-            object_outcome(alloc, page, host, service, Outcome::Accepted)
-        }
-        Body::DelComment { kind, id } => Ok(outcome_of_field(
-            *kind,
-            Outcome::NoSuchComment,
-            comment_field(page.comments.as_slice(), *id),
-        )),
-        Body::Acknowledge { host, service, .. } => problem_outcome(alloc, page, host, service),
-        Body::RemoveAck { host, service } => acknowledged_outcome(alloc, page, host, service),
-        Body::Schedule {
+    match body.act() {
+        Act::On {
             host,
             service,
-            starts,
-            ends,
-            trigger,
-            ..
-        } => {
-            let plan = outcome_of_plan(page, *starts, *ends, *trigger);
-            object_outcome(alloc, page, host, service, plan)
+            deed,
+        } => outcome_on_object(alloc, page, &host, &service, deed),
+        Act::ScheduleServices { host, span } => outcome_on_services(alloc, page, &host, span),
+        Act::DelComment { kind, id } => {
+            let field = comment_field(page.comments.as_slice(), id);
+            Ok(outcome_of_field(kind, Outcome::NoSuchComment, field))
         }
-        Body::DelDowntime { kind, id } => Ok(outcome_of_field(
-            *kind,
-            Outcome::NoSuchDowntime,
-            downtime_field(page.downtimes.as_slice(), *id),
-        )),
-        Body::ScheduleServices {
-            host,
-            starts,
-            ends,
-            trigger,
-            ..
-        } => {
-            let plan = outcome_of_plan(page, *starts, *ends, *trigger);
-            services_outcome(alloc, page, host, plan)
+        Act::DelDowntime { kind, id } => {
+            let field = downtime_field(page.downtimes.as_slice(), id);
+            Ok(outcome_of_field(kind, Outcome::NoSuchDowntime, field))
         }
-        Body::Shutdown => Ok(Outcome::Accepted),
+        Act::Shutdown => Ok(Outcome::Accepted),
     }
 }
 

@@ -1,5 +1,5 @@
-//! What status pages say of a command: what the gateway would answer to it, and whether a later page
-//! shows its effect; and what is other on one page than on another.
+//! What status pages say of a command: what the gateway would answer to it, and what a later page
+//! shows of its effect; and what is other on one page than on another.
 #![tactic(auto)]
 
 mod comparing;
@@ -8,6 +8,5 @@ mod foreseen;
 mod names;
 
 pub use comparing::{Change, changes};
-pub use effects::{last_comment, last_entry, shows};
-pub use foreseen::{foreseen_outcome, refusal_text};
-pub use names::shown;
+pub use effects::{Effect, Made, effect_of};
+pub use foreseen::{comment_field, downtime_field, foreseen_outcome, refusal_text};

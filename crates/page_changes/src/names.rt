@@ -4,76 +4,68 @@ ghost use Rattle.std.specs.Prelude.{◌≡◌, map, IfOk};
 ghost use Rattle.std.specs.Option.{option_map};
 ghost use Rattle.gate_model.specs.Escaping.{escaped};
 ghost use Rattle.status_reading.specs.Rows.{object_view};
-ghost use Rattle.page_changes.specs.Names.{shown_names, has_names, is_service_of, row_with};
+ghost use Rattle.page_changes.specs.Names.{shown_names, has_names, kind_of_field, is_service_of, row_with};
 
-use gate_model::{Text, push_escaped};
+use gate_model::{Kind, Name, Text, push_escaped};
 use status_reading::ShownObject;
 use std::alloc::{AllocError, Global};
-use std::marker::Model;
 
 /// The fields of an object: the host's name, and that of the service, which is empty for a host.
 #[derive(Drop)]
 pub struct Names {
-    host: Vec<u8>,
-    service: Vec<u8>,
-}
-
-impl Model for Names {
-    ghost use Rattle.page_changes.specs.Names.{NamesView};
-
-    ghost Value = { NamesView };
-
-    ghost view = { λ names. record { host = names.host.items; service = names.service.items } };
+    pub host: Text,
+    pub service: Text,
 }
 
 /// A text as a page shows it: escaped. The only error is out of memory.
-pub fn shown(alloc: Global, text: &Text) -> Result<Vec<u8>, AllocError>
-    ensures { IfOk result (λ field. field.items ≡ escaped text.now) }
+pub fn shown(alloc: Global, text: &[u8]) -> Result<Text, AllocError>
+    ensures { IfOk result (λ field. field ≡ escaped text.now) }
 {
-    let mut field = Vec::with_capacity(alloc, text.bytes().len())?;
-    push_escaped(&mut field, text.bytes())?;
-    Ok(field)
+    let mut field = Vec::with_capacity(alloc, text.len())?;
+    push_escaped(&mut field, text)?;
+    Ok(Text::new(field))
 }
 
 impl Names {
     /// The fields of the object of these names.
-    pub fn of(alloc: Global, host: &Text, service: &Option<Text>) -> Result<Names, AllocError>
+    pub fn of(
+        alloc: Global,
+        host: &Name<'_>,
+        service: &Option<Name<'_>>,
+    ) -> Result<Names, AllocError>
         ensures { IfOk result (λ names. names ≡ shown_names host.now service.now) }
     {
-        let host = shown(alloc, host)?;
+        let host = shown(alloc, host.bytes())?;
         let service = match service {
-            Some(name) => shown(alloc, name)?,
-            None => Vec::new(alloc),
+            Some(name) => shown(alloc, name.bytes())?,
+            None => Text::new(Vec::new(alloc)),
         };
         Ok(Names { host, service })
-    }
-
-    /// The host's name.
-    pub fn host(&self) -> &[u8]
-        ensures { result.now ≡ self.now.host }
-    {
-        self.host.as_slice()
-    }
-
-    /// The service's name, which is empty for a host.
-    pub fn service(&self) -> &[u8]
-        ensures { result.now ≡ self.now.service }
-    {
-        self.service.as_slice()
     }
 
     /// Whether these are the fields of the object.
     pub fn are(&self, host: &[u8], service: &[u8]) -> bool
         ensures { result ≡ has_names self.now host.now service.now }
     {
-        host == self.host.as_slice() && service == self.service.as_slice()
+        host == self.host.bytes() && service == self.service.bytes()
     }
 
     /// Whether these are the fields of a service of the host.
     pub fn is_host_of(&self, host: &[u8], service: &[u8]) -> bool
         ensures { result ≡ is_service_of self.now.host host.now service.now }
     {
-        host == self.host.as_slice() && !service.is_empty()
+        host == self.host.bytes() && !service.is_empty()
+    }
+}
+
+/// The kind of the object whose field of the service this is.
+pub fn kind_of_field(field: &[u8]) -> Kind
+    ensures { result ≡ kind_of_field field.now }
+{
+    if field.is_empty() {
+        Kind::Host
+    } else {
+        Kind::Service
     }
 }
 

@@ -1,8 +1,0 @@
-use Rattle.std.proofs.Common.{◌≡◌, drop, map}
-use Rattle.status_reading.specs.Rows.{comment_view}
-use Rattle.page_changes.specs.Shows.{has_no_comment}
-use Rattle.page_changes.proofs.effects.has_no_comment.Given as goal
-
-abbrev pub invariant-loop-row : goal.invariant-loop-row
-invariant-loop-row l =
-    has_no_comment l.id (map comment_view (drop l.row-index l.rows)) ≡ has_no_comment l.id (map comment_view l.rows)
