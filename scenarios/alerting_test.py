@@ -162,7 +162,6 @@ def quick_files(example, folder, ports):
     rules = read(example, "nscagate.rules.yml")
     rules = re.sub(r"for: \d+m", "for: 1s", rules)
     rules = replaced(rules, "interval: 15s", "interval: 1s", 1)
-    rules = replaced(rules, r"> 60\b", "> 5", 1)
     rules = replaced(rules, r"> 300\b", "> 4", 1)
     rules = replaced(rules, r"\[1h\]", "[6s]", 1)
     write(folder, "nscagate.rules.yml", rules)
@@ -248,7 +247,7 @@ def play(programs, example):
     east.daemon.process.send_signal(signal.SIGSTOP)
     comes("GatewayDown", "east", summary="gateway east shows no page")
     comes("PageOld", "east", summary="what is shown of gateway east is ")
-    comes("PageStandsStill", "west", summary="the page of gateway west is of another time, by ")
+    comes("PageStandsStill", "west", summary="the page of gateway west is of another time (stands still)")
     east.daemon.process.send_signal(signal.SIGCONT)
     west.restart(WEST)
     for name, gateway in (("GatewayDown", "east"), ("PageOld", "east"), ("PageStandsStill", "west")):
@@ -257,6 +256,12 @@ def play(programs, example):
     east.restart(EAST.split("[[host.service]]", maxsplit=1)[0])
     comes("FewerObjects", "east", to="/operators", summary="fewer objects than an hour ago: 1")
     goes("FewerObjects", "east")
+    west.restart(WEST.replace("db1", "lon1"))
+    comes("OtherObjects", "west", summary="gateway west shows other objects than before")
+    # It lasts an hour; a statusweb that has just begun knows of no page before.
+    end(programs.statusweb)
+    programs.start_statusweb()
+    goes("OtherObjects", "west")
 
 
 def play_objects(programs, east, comes, goes):

@@ -1,4 +1,5 @@
 """Tests of the program statusweb over gateways that this file plays."""
+import calendar
 import concurrent.futures
 import email.utils
 import hashlib
@@ -185,6 +186,8 @@ def east(now):
 
 
 PAGES = 'scenarios/status_pages/'
+# The moment of the pages there, which are played as if it were now.
+MOMENT = 4000000000
 
 
 def data(file):
@@ -192,10 +195,29 @@ def data(file):
         return opened.read()
 
 
+def moved(text, now):
+    """A page with its moments near `MOMENT` as near this one."""
+    return re.sub(rb'(?<![0-9])(?:399|400)[0-9]{7}(?![0-9])', lambda found: b'%d' % (int(found[0]) - MOMENT + now), text)
+
+
+def moved_back(answer, now):
+    """An answer with its moments near this one as near `MOMENT`."""
+    def back(moment):
+        return moment - now + MOMENT if abs(moment - now) < 9000000 else moment
+
+    def instant(found):
+        moment = calendar.timegm(time.strptime(found[0].decode(), '%Y-%m-%d %H:%M:%SZ'))
+        return time.strftime('%Y-%m-%d %H:%M:%SZ', time.gmtime(back(moment))).encode()
+    answer = re.sub(rb'(?<![0-9])[0-9]{10}(?![0-9])', lambda found: b'%010d' % back(int(found[0])), answer)
+    return re.sub(rb'[0-9]{4}-[0-9]{2}-[0-9]{2} [0-9:]{8}Z', instant, answer)
+
+
 def run_pages(name, files):
     """Whether the files of a name are what is shown of its pages, which are those of the gateways."""
     pages = sorted((file for file in files if file.endswith('.page')), key=lambda file: (file != name + '.page', file))
-    gateways = [('east' if file == name + '.page' else file.split('.')[1], shows(data(file)).port) for file in pages]
+    now = int(time.time())
+    gateways = [('east' if file == name + '.page' else file.split('.')[1], shows(moved(data(file), now)).port)
+                for file in pages]
     query = '?' + data(name + '.query').decode().strip() if name + '.query' in files else ''
     kinds = [file.rpartition('.')[2] for file in files if file not in pages and file != name + '.query']
     test(f'{name} has pages and what they show',
@@ -203,17 +225,17 @@ def run_pages(name, files):
     with Web(*gateways) as web:
         if 'json' in kinds:
             expected = json.dumps(json.loads(data(name + '.json')), ensure_ascii=False, separators=(',', ':')).encode()
-            answer = web.text('/status.json' + query)
+            answer = moved_back(web.text('/status.json' + query), now)
             test(f'{name}.json', answer == expected, answer)
         if 'metrics' in kinds:
-            answer = web.text('/metrics' + query)
+            answer = moved_back(web.text('/metrics' + query), now)
             test(f'{name}.metrics', answer == data(name + '.metrics'), answer)
         if 'text' in kinds:
-            text = Tags(web.text('/' + query)).text
+            text = Tags(moved_back(web.text('/' + query), now)).text
             test(f'{name}.text', text.encode() == data(name + '.text'), text)
         for kind, path in [('html', '/'), ('object', '/object')]:
             if kind in kinds:
-                answer = web.text(path + query)
+                answer = moved_back(web.text(path + query), now)
                 test(f'{name}.{kind}', answer == data(f'{name}.{kind}'), answer)
 
 
@@ -256,7 +278,12 @@ def test_faults(now):
         reachable = {row['name']: row['reachable'] for row in read['gateways']}
         test('JSON names who can be read', reachable == {
             'good': True, 'down': False, 'mute': False, 'endless': False, 'dripping': False, 'cut': False,
-            'http': False, 'empty': False, 'still': True, 'closing': True}, reachable)
+            'http': False, 'empty': False, 'still': False, 'closing': True}, reachable)
+        alarms = {row['name']: row['alarms'] for row in read['gateways']}
+        test('JSON names the alarms', alarms == {
+            **dict.fromkeys(alarms, ['no page']), 'good': [], 'still': ['stands still'], 'closing': ['closing']}, alarms)
+        named = sorted(tuple(value for _, value in labels) for name, labels in samples_of(metrics) if name == 'nscagate_alarm')
+        test('metrics name the same', named == sorted((name, alarm) for name in alarms for alarm in alarms[name]), named)
         up = [line for line in metrics.decode().split('\n') if line.startswith('nscagate_up')]
         test('metrics name who can be read', 'nscagate_up{gateway="cut"} 0' in up
              and 'nscagate_up{gateway="good"} 1' in up, up)
@@ -301,14 +328,16 @@ def test_old(now):
     gateway = shows(lambda: text[0])
     with Web(('east', gateway.port)) as web:
         fresh = web.json()
-        test('a new page', fresh['gateways'] == [dict(name='east', reachable=True, moment=now, closing=None)]
+        test('a new page', fresh['gateways'] == [dict(
+            name='east', reachable=True, moment=now, closing=None, alarms=[])]
              and not any(row['stale'] for row in fresh['objects']), fresh)
         before = samples_of(web.text('/metrics'))
         text[0] = b'HTTP/1.1 400 Bad Request\r\n\r\n'
         old = soon(lambda: (read := web.json())['gateways'][0].get('age') and read)
         test('JSON names the age of an old page and why there is no newer one', old and {
             **old['gateways'][0], 'age': 1} == dict(
-                name='east', reachable=False, fault='it does not show a status page', moment=now, closing=None, age=1), old)
+                name='east', reachable=False, fault='it does not show a status page', moment=now, closing=None, age=1,
+                alarms=['no new page']), old)
         test('the objects of an old page stay, and are stale', old and sorted(old['objects'], key=str) == sorted(
             ({**row, 'stale': True} for row in fresh['objects']), key=str), old)
         samples = samples_of(web.text('/metrics'))
@@ -338,6 +367,51 @@ def test_old(now):
              and len(gone['objects']) == 2, gone)
 
 
+def host(moment, state, age, name=b'web1'):
+    """A page of this moment with one host, whose result is so many seconds old by it."""
+    last = b'-' if age is None else b'%d' % (moment - age)
+    return b'status %d\nobject;%s;;%s;%s;fresh;-;0;x\n' % (moment, name, state, last)
+
+
+def test_clocks(now):
+    """A page of another time is an alarm and old, and its rows hide none of another gateway."""
+    def shown(*pages):
+        """The gateways, the row, the samples and the text of these pages, each of a gateway with its index as its name."""
+        with Web(*[(str(index), shows(page).port) for index, page in enumerate(pages)]) as web:
+            read = web.json()
+            return read['gateways'], read['objects'][0], samples_of(web.text('/metrics')), Tags(web.text('/')).text
+    for page, words, alarm, fault, age in [
+            (host(now + 7200, b'UP', 600), 'has a clock that is (2 h|119 min) ahead: one of the two clocks is wrong. '
+             'Its objects are stale.', 'clock ahead', 'its clock is ahead', 0),
+            (host(now - 259200, b'UP', 5), 'stands still: its page is 3 d old, and its objects are stale. Its log may be full.',
+             'stands still', 'it stands still', 259200)]:
+        gateways, row, samples, text = shown(page, host(now, b'DOWN', 20))
+        test(f'a host that is DOWN is not hidden: {alarm}', row['gateway'] == '1' and row['state'] == 'DOWN'
+             and not row['stale'] and samples['nscagate_problems_unhandled', ()] == 1, row)
+        test(f'an alarm on the page: {alarm}', re.search(f'\nGateway 0 {words}\n', text), text)
+        gateway = gateways[0]
+        test(f'an alarm in JSON: {alarm}', (gateway['reachable'], gateway['fault'], gateway['alarms'])
+             == (False, fault, [alarm]) and age <= gateway['age'] < age + 60, gateway)
+        label = ('gateway', '0')
+        test(f'an alarm in the metrics: {alarm}', samples['nscagate_alarm', (label, ('alarm', alarm))] == 1
+             and samples['nscagate_up', (label,)] == 0
+             and age <= samples['nscagate_page_age_seconds', (label,)] < age + 60, samples)
+        gateways, row, samples, text = shown(page)
+        test(f'its rows are stale, where no other gateway has them: {alarm}', row['stale']
+             and samples['nscagate_objects_stale', ()] == 1 and text.startswith('(1) '), (row, text))
+        ago = {'clock ahead': '10 min ago', 'stands still': '3 d ago'}[alarm]
+        test(f'and of their age: {alarm}', re.search(f'\nUP .* stale .* {ago} ', text), text)
+        _, row, _, _ = shown(page, host(now, b'PENDING', None))
+        test(f'PENDING is shown where no gateway has a result alone: {alarm}', row['gateway'] == '0', row)
+    for moment, alarms in [(now + 50, []), (now + 90, ['clock ahead']), (now - 30, []), (now - 61, ['stands still'])]:
+        gateways, _, _, _ = shown(host(moment, b'UP', 5))
+        test(f'the alarms of a page of {moment - now} s', gateways[0]['alarms'] == alarms, gateways)
+    _, row, _, _ = shown(host(now + 30, b'UP', 20), host(now, b'DOWN', 10))
+    test('ages are compared, and not moments', row['gateway'] == '1', row)
+    _, row, _, _ = shown(host(now, b'UP', 10), host(now, b'DOWN', 10))
+    test('of equal ages the first', row['gateway'] == '0', row)
+
+
 def test_since(now):
     """Since when each object has its state, and the changes of states, of all pages that were fetched."""
     def page(moment, *states):
@@ -358,6 +432,18 @@ def test_since(now):
             soon(lambda: gateway.count >= count + 2)
             found = {row['service'] or '': row['since'] for row in web.json()['objects']}
             test(f'since when, of page {number + 1}', found == since, (found, since))
+            least = {row['service'] or '': row['since_at_least'] for row in web.json()['objects']}
+            test(f'at least since then, of page {number + 1}', least == {
+                service: moment == now for service, moment in since.items()}, least)
+        rows = {row[1]: row[3] for row in Tags(web.text('/')).rows if row}
+        test('a state of the first page is older than that', rows == {
+            'web1': '0 s ago', 'web1 / HTTP': '3 s ago', 'web1 / SSH': '0 s ago'}, rows)
+        text[0] = page(now + 5, (b'', b'DOWN'), (b'HTTP', b'CRITICAL'), (b'SSH', b'OK'))
+        with Web(('east', gateway.port)) as again:
+            rows = {row[1]: row[3] for row in Tags(again.text('/')).rows if row}
+            test('so is each after a restart', {*rows.values()} == {'over 0 s'} and len(rows) == 3, rows)
+        text[0] = pages[-1]
+        soon(lambda: web.json()['gateways'][0]['moment'] == now + 4)
         found = shown_in(web.text('/?sort=since'))
         test('the latest first', found == ['web1', 'web1/SSH', 'web1/HTTP'], found)
 
@@ -369,7 +455,8 @@ CHANGES = '''\
 <meta http-equiv="refresh" content="30"><link rel="stylesheet" href="/style.css">\
 <link rel="alternate" type="application/atom+xml" href="/changes.atom"><title>nscagate</title></head>
 <body><header><h1><a href="/">nscagate</a></h1><nav aria-label="Pages"><a href="/">Status</a> \
-<a href="/changes">Changes</a></nav></header>
+<a href="/changes">Changes</a></nav><p><bdi>east</bdi> at <time datetime="AT">AT</time></p>\
+<p><bdi>west</bdi> at <time datetime="WEST">WEST</time></p></header>
 <main>
 <table><caption><h2>Changes of states</h2>1 shown, the newest first: of each gateway the last 1,000 since this program started</caption>
 <thead><tr><th scope="col">Time</th><th scope="col">Object</th><th scope="col">From</th><th scope="col">To</th>\
@@ -415,9 +502,13 @@ def test_changes(now):
         for path, between, text in [('/changes', ' ', CHANGES), ('/changes.atom', 'T', FEED)]:
             answer = web.text(path).decode()
             test(f'{path} of one change',
-                 answer == text.replace('AT', moment(now + 1, between)).replace('SECONDS', str(now + 1)), answer)
+                 answer == text.replace('AT', moment(now + 1, between)).replace('SECONDS', str(now + 1))
+                 .replace('WEST', moment(now, between)), answer)
         show('west', page(now + 2, odd[:-1].encode() + b'\xff', (b'', b'UP'), (b'a/b c', b'OK')))
         show('east', b'HTTP/1.1 400 Bad Request\r\n\r\n')
+        text = Tags(web.text('/changes')).text
+        test('the page of changes has the alarms', 'Gateway east shows no new page: it does not show a status page. The one of '
+             in text and 'Gateway west' not in text, text)
         show('east', page(now + 4, b'web/1', (b'', b'DOWN'), (b'HTTP', b'CRITICAL')))
         wanted = [(now + 4, 'east', 'web/1', None, 'UP', 'DOWN'), (now + 2, 'west', odd, 'a/b c', 'WARNING', 'OK'),
                   (now + 1, 'east', 'web/1', 'HTTP', 'OK', 'CRITICAL')]
@@ -444,6 +535,37 @@ def test_changes(now):
              and urllib.parse.parse_qs(urllib.parse.urlsplit(read.findall(atom + 'entry')[0].find(
                  atom + 'link').get('href')).query) == {'host': ['web/1']}, feed)
         test('each page links to them', b'<a href="/changes">' in web.text('/') and b'href="/changes.atom"' in web.text('/'))
+
+
+def test_other_objects(now):
+    """Gateways whose addresses are swapped are alarms, and each new object that is a problem is a change."""
+    def page(moment, state, *names):
+        return b'status %d\n' % moment + b''.join(b'object;%s;;%s;%d;fresh;-;0;x\n' % (name, state, moment) for name in names)
+    a, b = ([b'%c%d' % (letter, number) for number in range(10)] for letter in b'ab')
+    texts = {'east': page(now, b'UP', *a), 'west': page(now, b'DOWN', *b), 'half': page(now, b'UP', *a), 'less': page(now, b'UP', *a)}
+    gateways = {name: shows(lambda name=name: texts[name]) for name in texts}
+    with Web(*[(name, gateway.port) for name, gateway in gateways.items()]) as web:
+        test('a first page has no changes', web.text('/changes.json') == b'')
+        texts.update(east=page(now + 1, b'DOWN', *b), west=page(now + 1, b'UP', *a),
+                     half=page(now + 1, b'UP', *a[:5], *b[:5]), less=page(now + 1, b'UP', *a[:4], *b[:6]))
+        counts = {name: gateway.count for name, gateway in gateways.items()}
+        soon(lambda: all(gateways[name].count >= counts[name] + 2 for name in gateways))
+        alarms = {row['name']: row['alarms'] for row in web.json()['gateways']}
+        test('less than half of the names is an alarm', alarms == {
+            'east': ['other objects'], 'west': ['other objects'], 'half': [], 'less': ['other objects']}, alarms)
+        samples = samples_of(web.text('/metrics'))
+        test('in the metrics', [samples.get(('nscagate_alarm', (('gateway', name), ('alarm', 'other objects'))))
+                                for name in texts] == [1, 1, None, 1], samples)
+        text = Tags(web.text('/')).text
+        test('on the page', "Gateway east shows other objects than within the hour before: its address may be another "
+             "gateway's.\n" in text, text)
+        changes = [json.loads(line) for line in web.text('/changes.json').splitlines()]
+        test('each new object that is a problem is a change', sorted(
+            (row['gateway'], row['host'], row['from'], row['to']) for row in changes)
+            == [('east', name.decode(), None, 'DOWN') for name in b], changes)
+        rows = [row[1:] for row in Tags(web.text('/changes')).rows if row]
+        test('from -', rows[-1] == ['b0', '-', 'DOWN', 'east'] and len(rows) == 10, rows)
+        test('in the feed too', b'<title>b0: - to DOWN at east</title>' in web.text('/changes.atom'))
 
 
 def test_idle_browsers(now):
@@ -925,13 +1047,14 @@ def scraped(port, folder):
 
 def test_names():
     """The JSON and the metrics of a gateway whose name has what both escape, and of one that is down."""
-    page = data('three_gateways_one_of_them_cut_off.page')
+    now = int(time.time())
+    page = moved(data('three_gateways_one_of_them_cut_off.page'), now)
     with Web((GATEWAY, shows(page).port), ('down', free_port())) as web:
         response, answer = web.ask('/status.json')
         read = json.loads(answer)
         test('JSON of gateways', read['gateways'] == [
-            dict(name=GATEWAY, reachable=True, moment=4000000000, closing=None),
-            dict(name='down', reachable=False, fault="it can't be reached")], read)
+            dict(name=GATEWAY, reachable=True, moment=now, closing=None, alarms=[]),
+            dict(name='down', reachable=False, fault="it can't be reached", alarms=['no page'])], read)
         test('JSON as another program writes it', answer == json.dumps(
             read, ensure_ascii=False, separators=(',', ':')).encode(), answer)
         test('the type of JSON', response.getheader('content-type') == 'application/json', response.headers)
@@ -985,10 +1108,9 @@ def main():
             check(*arguments)
         except Exception as error:
             test(check.__name__, False, repr(error))
-    now = int(time.time())
     at_once(*[lambda check=check: run(check) for check in [test_words, test_pages, test_names]], *[
-        lambda check=check: run(check, now) for check in [
-            test_texts, test_faults, test_places, test_old, test_since, test_changes, test_tiles, test_filters, test_rows, test_sharing,
+        lambda check=check: run(check, int(time.time())) for check in [
+            test_texts, test_faults, test_places, test_old, test_clocks, test_since, test_changes, test_other_objects, test_tiles, test_filters, test_rows, test_sharing,
             test_descriptors, test_ends, test_requests, test_style, test_missing_objects, test_browser]])
     # What takes the processors for itself.
     run(test_idle_browsers, int(time.time()))

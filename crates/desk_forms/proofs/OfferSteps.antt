@@ -17,7 +17,8 @@ use Rattle.operator_commands.specs.declared.bodies.RequestFault.TheVariants.{Bad
 use Rattle.operator_commands.specs.Bodies.{author_of, schedule}
 use Rattle.operator_commands.specs.Names.{setting_of}
 use Rattle.operator_commands.specs.Times.{times_of}
-use Rattle.operator_effects.specs.Commands.{kind_of, comment_service, downtime_service, commands_of}
+use Rattle.operator_effects.specs.declared.commands.Deleted.TheVariants as deleted
+use Rattle.operator_effects.specs.Commands.{deletion_of, commands_of}
 use Rattle.desk_forms.specs.Offers.{IsOn, IsOffered, IsAllowed}
 
 -- what is found is in the list
@@ -83,13 +84,13 @@ module _ (page : PageView) (user : List ℕ) where
   allowed now (request.Comment object remark persistent) list offered is =
       one_body _ list is (λ body made. made_is _ body made (offered.0, by_user remark offered.1))
   allowed now (request.Uncomment (word ∷ []) false) list offered is =
-      let delete : ℕ → Body = λ id. bodies.DelComment (kind_of (comment_service id page.comments)) id in
+      let delete = deletion_of deleted.Comment page in
       one_body _ list is (λ body made.
       made_is (delete offered.0) body (sym (ap (option_map delete) offered.1) ∙ made) offered.2)
   allowed now (request.Downtime object remark window services) list offered is =
       one_body _ list is (λ body made. in_window (times_of now window) object remark services body offered.0 offered.1 made)
   allowed now (request.Cancel (word ∷ [])) list offered is =
-      let delete : ℕ → Body = λ id. bodies.DelDowntime (kind_of (downtime_service id page.downtimes)) id in
+      let delete = deletion_of deleted.Downtime page in
       one_body _ list is (λ body made.
       made_is (delete offered.0) body (sym (ap (option_map delete) offered.1) ∙ made) offered.2)
   allowed now (request.Passive setting object) list offered is =

@@ -14,10 +14,11 @@ use Rattle.status_merge.specs.declared.query.Sort.TheVariants as sort
 use Rattle.status_merge.specs.Asking.{state_word, choice_word, mark_word, sort_word}
 use Rattle.status_view.specs.declared.layout.AskedText.{AskedText}
 use Rattle.status_view.specs.declared.layout.AskedText.TheVariants as asked
-use Rattle.status_view.specs.declared.shape.GatewayShape.{GatewayShape}
+use Rattle.status_memory.specs.declared.alarm.Alarm.{Alarm}
+use Rattle.status_memory.specs.declared.alarm.Alarm.TheVariants.{NoPage, NoNewPage, StandsStill, ClockAhead, Closing, FewerObjects, OtherObjects}
 use Rattle.status_view.specs.Layout.{nodes_if}
-use Rattle.status_view.specs.Shapes.{PageShapeView}
-use Rattle.status_view.specs.HeadLayout.{refresh_nodes, unhandled_nodes, document_nodes, page_moment_nodes, gateway_nodes, title_nodes, alarm_begin, missing_nodes, closing_nodes, still_nodes, old_nodes, fewer_nodes, page_alarms, age_alarms, alarms_of, alarms_nodes}
+use Rattle.status_view.specs.Shapes.{GatewayShapeView, PageShapeView}
+use Rattle.status_view.specs.HeadLayout.{refresh_nodes, unhandled_nodes, document_nodes, page_moment_nodes, gateway_nodes, title_nodes, alarm_begin, missing_nodes, closing_nodes, still_nodes, ahead_nodes, old_nodes, fewer_nodes, other_nodes, alarm_nodes, alarms_of, alarms_nodes}
 use Rattle.status_view.specs.SummaryLayout.{kept_nodes, TileView, tile_nodes, group_nodes, all_tiles, host_tiles, service_tiles, summary_nodes, option_nodes, mark_option_nodes, mark_nodes, text_nodes, filters_nodes, form_choices, form_nodes}
 use Rattle.page_tags.specs.Tags.{InText, InDouble}
 use Rattle.page_tags.proofs.Placing.{run, place_after, plain, joined, run_if, same, each}
@@ -74,11 +75,11 @@ gateway_moment : (index : ℕ) (moment : Option ℕ) → run InText (elim moment
 gateway_moment index (Some moment) = page_moment index moment
 gateway_moment index None = refl
 
-gateway : (index : ℕ) (shape : GatewayShape) → run InText (gateway_nodes index shape) ≡ Some InText
+gateway : (index : ℕ) (shape : GatewayShapeView) → run InText (gateway_nodes index shape) ≡ Some InText
 unfolding gateway_nodes
 gateway index shape = gateway_moment index shape.moment
 
-pub title : (gateways : List GatewayShape) → run InText (title_nodes gateways) ≡ Some InText
+pub title : (gateways : List GatewayShapeView) → run InText (title_nodes gateways) ≡ Some InText
 unfolding title_nodes
 title gateways = simp (joined, each (λ item. gateway_nodes item.0 item.1) InText (λ item. gateway item.0 item.1) (enumerate_from 0 gateways))
 
@@ -108,32 +109,29 @@ fewer : (index objects most : ℕ) → run InText (fewer_nodes index objects mos
 unfolding fewer_nodes
 fewer index objects most = simp (joined, begin index)
 
-page_alarm : (index : ℕ) (is_closing : Bool) (age : ℕ) → run InText (page_alarms index is_closing age) ≡ Some InText
-unfolding page_alarms
-page_alarm index is_closing age = simp (joined, run_if, same, closing index, still index age)
+ahead : (index seconds : ℕ) → run InText (ahead_nodes index seconds) ≡ Some InText
+unfolding ahead_nodes
+ahead index seconds = simp (joined, begin index, span InText seconds)
 
-age_alarm : (index : ℕ) (is_closing : Bool) (seconds : ℕ) (age : Option ℕ) → run InText (age_alarms index is_closing seconds age) ≡ Some InText
-unfolding age_alarms
-age_alarm index is_closing seconds (Some age) = old index age
-age_alarm index is_closing seconds None = page_alarm index is_closing seconds
+other : (index : ℕ) → run InText (other_nodes index) ≡ Some InText
+unfolding other_nodes
+other index = simp (joined, begin index)
 
-alarm_at : (clock index : ℕ) (shape : GatewayShape) (moment : Option ℕ)
-    → run InText (elim moment [
-      | Some moment ↦
-          nodes_if (nat_lt shape.objects shape.most) (fewer_nodes index shape.objects shape.most)
-          ++ age_alarms index shape.is_closing (clock - moment) shape.age
-      | None ↦ missing_nodes index
-    ])
-    ≡ Some InText
-alarm_at clock index shape (Some moment) = simp (joined, run_if, same, fewer index shape.objects shape.most, age_alarm index shape.is_closing (clock - moment) shape.age)
-alarm_at clock index shape None = missing index
+alarm : (index : ℕ) (one : Alarm) → run InText (alarm_nodes index one) ≡ Some InText
+unfolding alarm_nodes
+alarm index NoPage = missing index
+alarm index (NoNewPage age) = old index age
+alarm index (StandsStill age) = still index age
+alarm index (ClockAhead seconds) = ahead index seconds
+alarm index Closing = closing index
+alarm index (FewerObjects objects most) = fewer index objects most
+alarm index OtherObjects = other index
 
-alarm : (clock index : ℕ) (shape : GatewayShape) → run InText (alarms_of clock index shape) ≡ Some InText
-unfolding alarms_of
-alarm clock index shape = alarm_at clock index shape shape.moment
+gateway_alarms : (index : ℕ) (shape : GatewayShapeView) → run InText (alarms_of index shape) ≡ Some InText
+gateway_alarms index shape = each (alarm_nodes index) InText (alarm index) shape.alarms
 
-pub alarms : (clock : ℕ) (gateways : List GatewayShape) → run InText (alarms_nodes clock gateways) ≡ Some InText
-alarms clock gateways = each (λ item. alarms_of clock item.0 item.1) InText (λ item. alarm clock item.0 item.1) (enumerate_from 0 gateways)
+pub alarms : (gateways : List GatewayShapeView) → run InText (alarms_nodes gateways) ≡ Some InText
+alarms gateways = each (λ item. alarms_of item.0 item.1) InText (λ item. gateway_alarms item.0 item.1) (enumerate_from 0 gateways)
 
 -- ---- counts
 

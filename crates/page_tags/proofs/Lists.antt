@@ -2,6 +2,7 @@
 use Rattle.std.proofs.Common.{◌≡◌, ℕ, ◌+◌, ◌-◌, ◌/◌, Bool, true, false, not, List, [], ◌∷◌, length, Option, Some, None, refl}
 use Rattle.std.specs.Prelude.{nat_lt, codes}
 use Rattle.std.specs.List.{list_any, enumerate_from, range_with_len}
+use Rattle.gate_model.specs.declared.state.State.{State}
 use Rattle.gate_lines.specs.Lines.{state_name, plan_name}
 use Rattle.html_text.specs.Escaping.{is_markup}
 use Rattle.status_reading.specs.declared.rows.ShownAcknowledgement.{ShownAcknowledgement}
@@ -23,15 +24,16 @@ use Rattle.status_view.specs.declared.shape.EntryMarks.TheVariants.{Comment, Dow
 use Rattle.status_view.specs.declared.changes.ChangeShape.{ChangeShape}
 use Rattle.status_view.specs.declared.layout.Slot.TheVariants.{Change}
 use Rattle.status_view.specs.declared.layout.ChangeText.TheVariants as change_text
+use Rattle.status_memory.specs.declared.history.Since.{Since as SinceWhen}
 use Rattle.status_view.specs.declared.view.View.{View}
 use Rattle.status_view.specs.Filling.{filled}
 use Rattle.status_view.specs.Layout.{Markup, Text, nodes_if}
-use Rattle.status_view.specs.Shapes.{EntryShapeView, PageShapeView}
-use Rattle.status_view.specs.ObjectsLayout.{object_name_nodes, acknowledgement_nodes, reason_nodes, marks_nodes, ago_nodes, since_nodes, age_nodes, output_nodes, object_nodes, direction, column_nodes, objects_table, number_nodes, numbers_nodes, pages_nodes, to_marks_nodes, objects_nodes}
+use Rattle.status_view.specs.Shapes.{GatewayShapeView, EntryShapeView, PageShapeView}
+use Rattle.status_view.specs.ObjectsLayout.{object_name_nodes, acknowledgement_nodes, reason_nodes, marks_nodes, ago_nodes, over_nodes, since_nodes, age_nodes, output_nodes, object_nodes, direction, column_nodes, objects_table, number_nodes, numbers_nodes, pages_nodes, to_marks_nodes, objects_nodes}
 use Rattle.status_view.specs.ListsLayout.{comment_nodes, duration_nodes, window_nodes, began_nodes, entry_marks_nodes, entry_name_nodes, words_nodes, origin_nodes, entry_nodes, list_head, entries_table, entries_nodes}
 use Rattle.status_view.specs.ListsLayout as lists
 use Rattle.status_view.specs.Page.{head_nodes, end_nodes, page_nodes}
-use Rattle.status_view.specs.ChangesLayout.{change_nodes, changes_table, changes_nodes, feed_id_nodes, feed_title_nodes, feed_entry_nodes, updated_at, feed_nodes}
+use Rattle.status_view.specs.ChangesLayout.{from_name, change_nodes, changes_table, changes_nodes, feed_id_nodes, feed_title_nodes, feed_entry_nodes, updated_at, feed_nodes}
 use Rattle.status_view.specs.OneObject.{name_nodes, rows_nodes, object_head_nodes, object_page_nodes}
 use Rattle.page_tags.specs.Tags.{InText, InDouble, HasOwnTags}
 use Rattle.page_tags.proofs.Placing.{run, place_after, plain, joined, run_if, same, each, own_tags}
@@ -64,9 +66,18 @@ ago : (begin : List ℕ) (moment past : ℕ) → place_after InText begin ≡ In
 unfolding ago_nodes
 ago begin moment past is = simp (joined, is, instant InDouble (codes " ") past refl, span InText (moment - past))
 
-since : (moment past : ℕ) → run InText (since_nodes moment past) ≡ Some InText
+over : (begin : List ℕ) (moment past : ℕ) → place_after InText begin ≡ InDouble → run InText (over_nodes begin moment past) ≡ Some InText
+unfolding over_nodes
+over begin moment past is = simp (joined, is, instant InDouble (codes " ") past refl, span InText (moment - past))
+
+since_as : (moment past : ℕ) (at_least : Bool)
+    → run InText (since_nodes moment (record { moment = past; at_least = at_least })) ≡ Some InText
 unfolding since_nodes
-since moment past = ago (codes "<td class=\"num cell\" data-name=\"since\" title=\"") moment past refl
+since_as moment past true = over (codes "<td class=\"num cell\" data-name=\"since\" title=\"") moment past refl
+since_as moment past false = ago (codes "<td class=\"num cell\" data-name=\"since\" title=\"") moment past refl
+
+since : (moment : ℕ) (past : SinceWhen) → run InText (since_nodes moment past) ≡ Some InText
+since moment past = since_as moment past.moment past.at_least
 
 age : (moment : ℕ) (last : Option ℕ) → run InText (age_nodes moment last) ≡ Some InText
 unfolding age_nodes
@@ -193,7 +204,7 @@ end = refl
 
 head : (shape : PageShapeView) → run InText (head_nodes shape) ≡ Some InText
 unfolding head_nodes
-head shape = simp (joined, document shape.refresh shape.urgent, title shape.gateways, alarms shape.clock shape.gateways, summary shape, form shape)
+head shape = simp (joined, document shape.refresh shape.urgent, title shape.gateways, alarms shape.gateways, summary shape, form shape)
 
 page : (shape : PageShapeView) → run InText (page_nodes shape) ≡ Some InText
 unfolding page_nodes
@@ -204,26 +215,33 @@ page_tags view shape = own_tags (page_nodes shape) (page shape) view
 
 -- ---- changes
 
+from_plain : (from : Option State) → list_any is_markup (from_name from) ≡ false
+from_plain None = refl
+from_plain (Some state) = state_plain state
+
 change : (index : ℕ) (row : ChangeShape) → run InText (change_nodes index row) ≡ Some InText
 unfolding change_nodes
-change index row = simp (joined, run_if, same, time row.moment, plain InDouble (choice_word (In row.to)) (choice_plain (In row.to)), plain InText (state_name row.from) (state_plain row.from), plain InText (state_name row.to) (state_plain row.to))
+change index row = simp (joined, run_if, same, time row.moment, plain InDouble (choice_word (In row.to)) (choice_plain (In row.to)), plain InText (from_name row.from) (from_plain row.from), plain InText (state_name row.to) (state_plain row.to))
 
 changed : (rows : List ChangeShape) → run InText (changes_table rows) ≡ Some InText
 unfolding changes_table
 changed rows = simp (joined, each (λ item. change_nodes item.0 item.1) InText (λ item. change item.0 item.1) (enumerate_from 0 rows))
 
-changes : (refresh : ℕ) (rows : List ChangeShape) → run InText (changes_nodes refresh rows) ≡ Some InText
+changes : (refresh : ℕ) (gateways : List GatewayShapeView) (rows : List ChangeShape)
+    → run InText (changes_nodes refresh gateways rows) ≡ Some InText
 unfolding changes_nodes
-changes refresh rows = simp (joined, document refresh 0, title [], changed rows)
+changes refresh gateways rows = simp (joined, document refresh 0, title gateways, alarms gateways, changed rows)
 
-pub changes_tags : (view : View) (refresh : ℕ) (rows : List ChangeShape) → HasOwnTags (filled view (changes_nodes refresh rows))
-changes_tags view refresh rows = own_tags (changes_nodes refresh rows) (changes refresh rows) view
+pub changes_tags : (view : View) (refresh : ℕ) (gateways : List GatewayShapeView) (rows : List ChangeShape)
+    → HasOwnTags (filled view (changes_nodes refresh gateways rows))
+changes_tags view refresh gateways rows =
+    own_tags (changes_nodes refresh gateways rows) (changes refresh gateways rows) view
 
 -- ---- the feed
 
 feed_id : (index : ℕ) (row : ChangeShape) → run InText (feed_id_nodes index row) ≡ Some InText
 unfolding feed_id_nodes
-feed_id index row = simp (plain InText (state_name row.from) (state_plain row.from), plain InText (state_name row.to) (state_plain row.to))
+feed_id index row = simp (plain InText (from_name row.from) (from_plain row.from), plain InText (state_name row.to) (state_plain row.to))
 
 service_title : (index : ℕ) (is_host : Bool) → run InText (nodes_if (not is_host) (Markup (codes " / ") ∷ Text (Change index change_text.Service) ∷ [])) ≡ Some InText
 service_title index true = refl
@@ -232,7 +250,7 @@ service_title index false = refl
 feed_title : (index : ℕ) (row : ChangeShape) → run InText (feed_title_nodes index row) ≡ Some InText
 unfolding feed_title_nodes
 feed_title index row =
-    simp (joined, service_title index row.is_host, plain InText (state_name row.from) (state_plain row.from), plain InText (state_name row.to) (state_plain row.to))
+    simp (joined, service_title index row.is_host, plain InText (from_name row.from) (from_plain row.from), plain InText (state_name row.to) (state_plain row.to))
 
 feed_entry : (index : ℕ) (row : ChangeShape) → run InText (feed_entry_nodes index row) ≡ Some InText
 unfolding feed_entry_nodes
@@ -259,7 +277,7 @@ rows_of (row ∷ rows) = simp (joined, named row.is_host, table None true (row �
 
 object_head : (shape : PageShapeView) → run InText (object_head_nodes shape) ≡ Some InText
 unfolding object_head_nodes
-object_head shape = simp (joined, document shape.refresh 0, title shape.gateways, alarms shape.clock shape.gateways, rows_of shape.objects)
+object_head shape = simp (joined, document shape.refresh 0, title shape.gateways, alarms shape.gateways, rows_of shape.objects)
 
 object_page : (shape : PageShapeView) (rows : List ChangeShape) → run InText (object_page_nodes shape rows) ≡ Some InText
 unfolding object_page_nodes

@@ -1,7 +1,7 @@
 ghost use Rattle.std.specs.Prelude.{ℕ, List};
 ghost use Rattle.status_view.specs.declared.view.View.{View};
 ghost use Rattle.status_view.specs.declared.changes.ChangeShape.{ChangeShape};
-ghost use Rattle.status_view.specs.Shapes.{PageShapeView};
+ghost use Rattle.status_view.specs.Shapes.{GatewayShapeView, PageShapeView};
 ghost use Rattle.status_view.specs.Page.{page_nodes};
 ghost use Rattle.status_view.specs.OneObject.{object_page_nodes};
 ghost use Rattle.status_view.specs.ChangesLayout.{changes_nodes, feed_nodes};
@@ -19,8 +19,9 @@ pub fn tag_laws()
         → HasOwnTags (filled view (page_nodes shape)) }
     ensures object { (view : View) (shape : PageShapeView) (changes : List ChangeShape)
         → HasOwnTags (filled view (object_page_nodes shape changes)) }
-    ensures changes { (view : View) (refresh : ℕ) (rows : List ChangeShape)
-        → HasOwnTags (filled view (changes_nodes refresh rows)) }
+    ensures changes { (view : View) (refresh : ℕ) (gateways : List GatewayShapeView)
+        (rows : List ChangeShape)
+        → HasOwnTags (filled view (changes_nodes refresh gateways rows)) }
     ensures feed { (view : View) (clock : ℕ) (rows : List ChangeShape)
         → HasOwnTags (filled view (feed_nodes clock rows)) }
     // Of the pages with forms: that of an object, and that of many.

@@ -1,4 +1,5 @@
--- Why a gateway shows no new page, in the words of its alarm: `cause_of`. Own words.
+-- Why a gateway shows no new page, in the words of its alarm: `cause_of`; and why its page is old: `old_cause`. Own
+-- words.
 use Rattle.std.specs.Prelude.{ℕ, List, ◌++◌, Option, Some, None, codes}
 use Rattle.std.specs.Fmt.{decimal}
 use Rattle.status_reading.specs.declared.page.ReadFault.{ReadFault}
@@ -6,6 +7,8 @@ use Rattle.status_reading.specs.declared.page.ReadFault.TheVariants as text
 use Rattle.status_reading.specs.RowFaults.{row_fault_words}
 use Rattle.page_fetching.specs.declared.fetching.FetchFault.{FetchFault}
 use Rattle.page_fetching.specs.declared.fetching.FetchFault.TheVariants.{Unreachable, TooSlow, TooLong, Broken, OutOfMemory}
+use Rattle.status_memory.specs.declared.alarm.Alarm.{Alarm}
+use Rattle.status_memory.specs.declared.alarm.Alarm.TheVariants as alarm
 use Rattle.page_watching.specs.declared.causes.NoPage.{NoPage}
 use Rattle.page_watching.specs.declared.causes.NoPage.TheVariants.{Fetch, Read}
 
@@ -30,3 +33,9 @@ abbrev pub cause_of : Option NoPage → List ℕ
 cause_of None = codes "its page was not fetched in time"
 cause_of (Some (Fetch fault)) = fetch_cause fault
 cause_of (Some (Read fault)) = read_cause fault
+
+-- the words why a page is old, by the alarm that says so
+abbrev pub old_cause : Alarm → Option NoPage → List ℕ
+old_cause (alarm.StandsStill age) fault = codes "it stands still"
+old_cause (alarm.ClockAhead seconds) fault = codes "its clock is ahead"
+old_cause other fault = cause_of fault

@@ -1,6 +1,6 @@
 -- What is kept of each gateway: what a fetch gave, as it is kept (`IsFetchOf`), and what a memory holds, whoever else
 -- reads its page (`memory_view`).
-use Rattle.std.specs.Prelude.{◌≡◌, ℕ, ◌⊎◌, List, ◌∷◌, length, map, Option, Some, None, Result, Ok, Err, Vec}
+use Rattle.std.specs.Prelude.{◌≡◌, ℕ, ◌⊎◌, List, ◌∷◌, length, map, is_some, Option, Some, None, Result, Ok, Err, Vec}
 use Rattle.std.specs.declared.alloc.Global.{Global}
 use Rattle.std.specs.declared.sync.Arc.{Arc}
 use Rattle.std.specs.Arc.{arc_value}
@@ -12,7 +12,7 @@ use Rattle.status_memory.specs.declared.memory.Page.{Page}
 use Rattle.status_memory.specs.declared.memory.Fetch.{Fetch}
 use Rattle.status_memory.specs.declared.memory.Kept.{Kept}
 use Rattle.status_memory.specs.declared.memory.Memory.{Memory}
-use Rattle.status_memory.specs.History.{HistoryView, since_of, changes_of, change_view, IsHistoryOf}
+use Rattle.status_memory.specs.History.{HistoryView, since_of, changes_of, change_view, is_other_in, IsHistoryOf}
 use Rattle.page_watching.specs.declared.places.Place.{Place}
 use Rattle.page_fetching.specs.declared.fetching.FetchFault.{FetchFault}
 use Rattle.page_watching.specs.declared.causes.NoPage.{NoPage}
@@ -36,13 +36,15 @@ abbrev pub text_of : Result (Vec ℕ Global) FetchFault → Result (List ℕ) Fe
 text_of (Ok text) = Ok text.items
 text_of (Err fault) = Err fault
 
--- the text is that of a page of so many objects
-abbrev pub HasObjects : List ℕ → ℕ → Type 0
-HasObjects text objects = (page : PageView) × IsTextOf text page × (objects ≡ length page.objects)
+-- a page is kept with its moment, with the number of its objects, and with whether its gateway is closing
+pub record HasFactsOf (page : PageView) (kept : Page Shared) : Type 0 where
+  pub moment : kept.moment ≡ page.moment
+  pub objects : kept.objects ≡ length page.objects
+  pub closing : kept.closing ≡ is_some page.closing
 
--- the text is that of a page, and is kept with the number of its objects
+-- the text is that of a page, and is kept with those
 abbrev pub IsPageIn : List ℕ → Page Shared → Type 0
-IsPageIn text kept = (bytes_of kept.text ≡ text) × HasObjects text kept.objects
+IsPageIn text kept = (bytes_of kept.text ≡ text) × ((page : PageView) × IsTextOf text page × HasFactsOf page kept)
 
 -- a fetch gave this text, or this fault, and this page is kept of it, or this cause why there is none
 abbrev pub IsTaken : Result (List ℕ) FetchFault → Result (Page Shared) NoPage → Type 0
@@ -67,11 +69,13 @@ pub record Notes (before : List PageView) (page : PageView) (contents : Contents
 abbrev pub TakesIn : List PageView → List ℕ → HistoryView → PageView → Type 0
 TakesIn before text history page = IsTextOf text page × IsHistoryOf (page ∷ before) history
 
--- a text was read after these pages: its page is in the history, and its notes are kept; where memory ran out after
+-- a text was read after these pages: its page is in the history, and its notes are kept, and whether it has other
+-- objects; where memory ran out after
 -- that, it is in the history; and otherwise the history has these pages alone
 abbrev pub IsObserved : {F : Type 0} → List PageView → List ℕ → HistoryView → Result (Page Shared) F → Type 0
 IsObserved before text history (Ok kept) =
     (page : PageView) × TakesIn before text history page × Notes before page (arc_value kept.text)
+    × (kept.is_other ≡ is_other_in (page ∷ before))
 IsObserved before text history (Err fault) =
     IsHistoryOf before history ⊎ ((page : PageView) × TakesIn before text history page)
 
@@ -92,12 +96,20 @@ seen_place seen = seen.place
 
 -- a page with what is shared of it
 abbrev pub kept_view : Kept Shared → Kept Contents
-kept_view kept =
-    record { page = record { text = arc_value kept.page.text; objects = kept.page.objects }; moment = kept.moment }
+kept_view kept = record {
+  page = record {
+    text = arc_value kept.page.text;
+    moment = kept.page.moment;
+    objects = kept.page.objects;
+    closing = kept.page.closing;
+    is_other = kept.page.is_other;
+  };
+  moment = kept.moment;
+}
 
 abbrev pub last_view : Option (Kept Shared) → Option (Kept Contents)
 last_view None = None
 last_view (Some kept) = Some (kept_view kept)
 
 abbrev pub memory_view : Memory Shared NoPage → Memory Contents NoPage
-memory_view memory = record { last = last_view memory.last; fault = memory.fault; most = memory.most }
+memory_view memory = record { last = last_view memory.last; fault = memory.fault; most = memory.most; agreed = memory.agreed; other = memory.other }

@@ -2,9 +2,10 @@
 
 ghost use Rattle.std.specs.Prelude.{◌≡◌, ◌++◌, IfOk, codes, string_bytes};
 ghost use Rattle.std.specs.Fmt.{decimal};
-ghost use Rattle.page_watching.specs.Causes.{fetch_cause, read_cause, cause_of};
+ghost use Rattle.page_watching.specs.Causes.{fetch_cause, read_cause, cause_of, old_cause};
 
 use page_fetching::FetchFault;
+use status_memory::Alarm;
 use status_reading::{ReadFault, row_fault_words};
 use std::alloc::{AllocError, Global};
 
@@ -66,5 +67,20 @@ pub fn cause_of(alloc: Global, fault: Option<NoPage>) -> Result<String, AllocErr
         Some(NoPage::Fetch(fault)) => String::from_str(alloc, fetch_words(fault)),
         Some(NoPage::Read(fault)) => read_cause(alloc, fault),
         None => String::from_str(alloc, "its page was not fetched in time"),
+    }
+}
+
+/// The cause why a page is old, by the alarm that says so. The only error is out of memory.
+pub fn old_cause(alloc: Global, alarm: Alarm, fault: Option<NoPage>) -> Result<String, AllocError>
+    ensures { IfOk result (λ cause. string_bytes cause ≡ old_cause alarm fault) }
+{
+    match alarm {
+        Alarm::StandsStill(_) => String::from_str(alloc, "it stands still"),
+        Alarm::ClockAhead(_) => String::from_str(alloc, "its clock is ahead"),
+        Alarm::NoPage
+        | Alarm::NoNewPage(_)
+        | Alarm::Closing
+        | Alarm::FewerObjects(_, _)
+        | Alarm::OtherObjects => cause_of(alloc, fault),
     }
 }

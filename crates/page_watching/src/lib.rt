@@ -6,6 +6,6 @@ mod causes;
 mod places;
 mod watching;
 
-pub use causes::{NoPage, cause_of, read_cause};
+pub use causes::{NoPage, cause_of, old_cause};
 pub use places::{Place, PlacesFault, address_in, every_in, places_in};
 pub use watching::{Contents, Seen, Shared, Watch, Watched, clock};

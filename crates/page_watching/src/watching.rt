@@ -9,7 +9,7 @@ ghost use Rattle.page_watching.specs.Watching.{IsObserved, LeavesHistory, text_o
 use crate::causes::NoPage;
 use crate::places::Place;
 use page_fetching::{Fetched, fetch};
-use status_memory::{Fetch, History, Kept, Memory, Page, StateChange};
+use status_memory::{Fetch, History, Kept, Memory, Page, Since, StateChange};
 use status_reading::{PageText, ReadFault, read_status_page};
 use std::alloc::{AllocError, Global};
 use std::net::{Net, TcpListener, TcpStream};
@@ -23,7 +23,7 @@ use std::time::{Clock, Duration, SystemTime};
 pub struct Contents {
     pub text: PageText,
     /// Since when each of its objects has its state, in the order of its rows.
-    pub since: Vec<u32>,
+    pub since: Vec<Since>,
     /// The last changes of states, the oldest first.
     pub changes: Vec<StateChange>,
 }
@@ -74,8 +74,11 @@ fn page_in(alloc: Global, history: &mut History, text: Vec<u8>) -> Result<Page<S
 {
     let page = read_status_page(alloc, text.as_slice())?;
     history.observe(alloc, &page)?;
+    let moment = page.moment;
     let objects = page.objects.len();
+    let closing = page.closing.is_some();
     drop(page);
+    let is_other = history.is_other();
     let since = history.since(alloc)?;
     let changes = history.changes(alloc)?;
     let contents = Contents {
@@ -84,7 +87,13 @@ fn page_in(alloc: Global, history: &mut History, text: Vec<u8>) -> Result<Page<S
         changes,
     };
     match Arc::new(alloc, contents) {
-        Ok(text) => Ok(Page { text, objects }),
+        Ok(text) => Ok(Page {
+            text,
+            moment,
+            objects,
+            closing,
+            is_other,
+        }),
         Err(_) => Err(ReadFault::OutOfMemory),
     }
 }
@@ -125,10 +134,16 @@ fn last_again(last: &Option<Kept<Shared>>) -> Result<Option<Kept<Shared>>, Alloc
     let Some(kept) = last else {
         return Ok(None);
     };
-    let text = Arc::try_clone(&kept.page.text)?;
-    let objects = kept.page.objects;
+    let page = &kept.page;
+    let text = Arc::try_clone(&page.text)?;
     Ok(Some(Kept {
-        page: Page { text, objects },
+        page: Page {
+            text,
+            moment: page.moment,
+            objects: page.objects,
+            closing: page.closing,
+            is_other: page.is_other,
+        },
         moment: kept.moment,
     }))
 }
@@ -141,6 +156,8 @@ fn memory_again(memory: &Memory<Shared, NoPage>) -> Result<Memory<Shared, NoPage
         last: last_again(&memory.last)?,
         fault: memory.fault,
         most: memory.most,
+        agreed: memory.agreed,
+        other: memory.other,
     })
 }
 

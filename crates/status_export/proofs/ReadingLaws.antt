@@ -8,12 +8,13 @@ use Rattle.json.proofs.Printed.Trees.{value-json_tokens}
 use Rattle.status_reading.specs.declared.rows.ShownComment.{ShownComment}
 use Rattle.status_reading.specs.declared.rows.ShownDowntime.{ShownDowntime}
 use Rattle.status_reading.specs.declared.page.StatusPage.{StatusPage}
+use Rattle.status_memory.specs.declared.alarm.Alarm.{Alarm}
 use Rattle.status_merge.specs.declared.gateway.Gateway.{Gateway}
 use Rattle.status_merge.specs.declared.gateway.Old.{Old}
 use Rattle.status_merge.specs.declared.gateway.MergedObject.{MergedObject}
 use Rattle.status_merge.specs.declared.entries.Entry.{Entry}
 use Rattle.status_merge.specs.Entries.{comments_on, downtimes_on}
-use Rattle.status_export.specs.Document.{optional_json, service_json, items_of, reachable_json, unreachable_json, old_json, page_json, gateway_json, object_json, comment_json, downtime_json, status_document}
+use Rattle.status_export.specs.Document.{optional_json, service_json, alarm_json, alarms_json, items_of, reachable_json, unreachable_json, old_json, page_json, gateway_json, object_json, comment_json, downtime_json, status_document}
 
 -- the text of these tokens is read as their value
 pub read_tokens : (j : Json) (text : List ℕ) → tokens text ≡ json_tokens j → depth j ≤ max_depth → document text ≡ Some j
@@ -31,24 +32,33 @@ flat_service (byte ∷ rest) = refl
 
 -- ---- rows are objects of flat members
 
-shallow_page : (name : List ℕ) (page : StatusPage) → depth (reachable_json name page) ≤ 1
-shallow_page name page = rw (flat_optional page.closing) (lit≤ tt)
+flat_alarms : (alarms : List Alarm) → items_depth (items_of (map alarm_json alarms)) ≡ 0
+flat_alarms [] = refl
+flat_alarms (alarm ∷ alarms) = rw (flat_alarms alarms) refl
 
-shallow_old : (name : List ℕ) (page : StatusPage) (cause : List ℕ) (age : ℕ) → depth (old_json name page cause age) ≤ 1
-shallow_old name page cause age = rw (flat_optional page.closing) (lit≤ tt)
+shallow_page : (name : List ℕ) (page : StatusPage) (alarms : List Alarm) → depth (reachable_json name page alarms) ≤ 2
+shallow_page name page alarms = rw (flat_optional page.closing, flat_alarms alarms) (lit≤ tt)
 
-shallow_shown : (name : List ℕ) (page : StatusPage) (old : Option Old) → depth (page_json name page old) ≤ 1
-shallow_shown name page None = shallow_page name page
-shallow_shown name page (Some old) = shallow_old name page (string_bytes old.cause) old.age
+shallow_old : (name : List ℕ) (page : StatusPage) (cause : List ℕ) (age : ℕ) (alarms : List Alarm)
+    → depth (old_json name page cause age alarms) ≤ 2
+shallow_old name page cause age alarms = rw (flat_optional page.closing, flat_alarms alarms) (lit≤ tt)
 
-shallow_gateway : (gateway : Gateway) → depth (gateway_json gateway) ≤ 1
+shallow_none : (name cause : List ℕ) (alarms : List Alarm) → depth (unreachable_json name cause alarms) ≤ 2
+shallow_none name cause alarms = rw (flat_alarms alarms) (lit≤ tt)
+
+shallow_shown : (name : List ℕ) (page : StatusPage) (old : Option Old) (alarms : List Alarm)
+    → depth (page_json name page old alarms) ≤ 2
+shallow_shown name page None alarms = shallow_page name page alarms
+shallow_shown name page (Some old) alarms = shallow_old name page (string_bytes old.cause) old.age alarms
+
+shallow_gateway : (gateway : Gateway) → depth (gateway_json gateway) ≤ 2
 shallow_gateway gateway =
     elim gateway.page as (λ page. depth (elim page [
-      | Ok page ↦ page_json gateway.name.now page gateway.old
-      | Err cause ↦ unreachable_json gateway.name.now (string_bytes cause)
-    ]) ≤ 1) [
-      | Ok page ↦ shallow_shown gateway.name.now page gateway.old
-      | Err fault ↦ lit≤ tt
+      | Ok page ↦ page_json gateway.name.now page gateway.old gateway.alarms.items
+      | Err cause ↦ unreachable_json gateway.name.now (string_bytes cause) gateway.alarms.items
+    ]) ≤ 2) [
+      | Ok page ↦ shallow_shown gateway.name.now page gateway.old gateway.alarms.items
+      | Err cause ↦ shallow_none gateway.name.now (string_bytes cause) gateway.alarms.items
     ]
 
 shallow_object : (shown : MergedObject) → depth (object_json shown) ≤ 1
@@ -65,16 +75,16 @@ shallow_downtime entry = rw (flat_service entry.row.service.now, flat_optional e
 
 -- ---- lists of them
 
-shallow_map : {X : Type 0} (f : X → Json) → ((x : X) → depth (f x) ≤ 1) → (xs : List X) → items_depth (items_of (map f xs)) ≤ 1
-shallow_map f each [] = lit≤ tt
-shallow_map f each (x ∷ xs) = omega (arith, each x, shallow_map f each xs)
+shallow_map : {X : Type 0} (most : ℕ) (f : X → Json) → ((x : X) → depth (f x) ≤ most) → (xs : List X) → items_depth (items_of (map f xs)) ≤ most
+shallow_map most f each [] = omega arith
+shallow_map most f each (x ∷ xs) = omega (arith, each x, shallow_map most f each xs)
 
 -- ---- the document
 
 pub shallow : (gateways : List Gateway) (objects : List MergedObject) (part : List ℕ) → depth (status_document gateways objects part) ≤ max_depth
 shallow gateways objects part =
-    let ones = shallow_map gateway_json shallow_gateway gateways in
-    let twos = shallow_map object_json shallow_object objects in
-    let threes = shallow_map comment_json shallow_comment (flat_map (comments_on part) gateways) in
-    let fours = shallow_map downtime_json shallow_downtime (flat_map (downtimes_on part) gateways) in
+    let ones = shallow_map 2 gateway_json shallow_gateway gateways in
+    let twos = shallow_map 1 object_json shallow_object objects in
+    let threes = shallow_map 1 comment_json shallow_comment (flat_map (comments_on part) gateways) in
+    let fours = shallow_map 1 downtime_json shallow_downtime (flat_map (downtimes_on part) gateways) in
     omega arith

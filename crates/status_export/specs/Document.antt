@@ -15,6 +15,8 @@ use Rattle.status_reading.specs.declared.rows.ShownDowntime.{ShownDowntime}
 use Rattle.status_reading.specs.declared.page.StatusPage.{StatusPage}
 use Rattle.status_reading.specs.Page.{shown_source}
 use Rattle.status_reading.specs.Plain.{plain_bytes}
+use Rattle.status_memory.specs.declared.alarm.Alarm.{Alarm}
+use Rattle.status_memory.specs.Alarm.{alarm_name}
 use Rattle.status_merge.specs.declared.gateway.Gateway.{Gateway}
 use Rattle.status_merge.specs.declared.gateway.Old.{Old}
 use Rattle.status_merge.specs.declared.gateway.MergedObject.{MergedObject}
@@ -70,30 +72,39 @@ acknowledgement_word Sticky = codes "sticky"
 
 -- ---- rows
 
+-- the names of the alarms about a gateway
+abbrev pub alarm_json : Alarm → Json
+alarm_json alarm = string (alarm_name alarm)
+
+abbrev pub alarms_json : List Alarm → Json
+alarms_json alarms = array (items_of (map alarm_json alarms))
+
 -- a gateway whose page is new
-abbrev pub reachable_json : List ℕ → StatusPage → Json
-reachable_json name page =
+abbrev pub reachable_json : List ℕ → StatusPage → List Alarm → Json
+reachable_json name page alarms =
     object (members_of (
     (codes "name", string name)
     ∷ (codes "reachable", boolean true)
     ∷ (codes "moment", number_json page.moment)
     ∷ (codes "closing", optional_json page.closing)
+    ∷ (codes "alarms", alarms_json alarms)
     ∷ []
     ))
 
 -- a gateway that shows no page, for this cause
-abbrev pub unreachable_json : List ℕ → List ℕ → Json
-unreachable_json name cause =
+abbrev pub unreachable_json : List ℕ → List ℕ → List Alarm → Json
+unreachable_json name cause alarms =
     object (members_of (
     (codes "name", string name)
     ∷ (codes "reachable", boolean false)
     ∷ (codes "fault", string cause)
+    ∷ (codes "alarms", alarms_json alarms)
     ∷ []
     ))
 
--- a gateway whose page is old, and for this cause there is no newer one
-abbrev pub old_json : List ℕ → StatusPage → List ℕ → ℕ → Json
-old_json name page cause age =
+-- a gateway whose page is old, for this cause
+abbrev pub old_json : List ℕ → StatusPage → List ℕ → ℕ → List Alarm → Json
+old_json name page cause age alarms =
     object (members_of (
     (codes "name", string name)
     ∷ (codes "reachable", boolean false)
@@ -101,18 +112,19 @@ old_json name page cause age =
     ∷ (codes "moment", number_json page.moment)
     ∷ (codes "closing", optional_json page.closing)
     ∷ (codes "age", number_json age)
+    ∷ (codes "alarms", alarms_json alarms)
     ∷ []
     ))
 
 -- a gateway with a page, which may be old
-abbrev pub page_json : List ℕ → StatusPage → Option Old → Json
-page_json name page None = reachable_json name page
-page_json name page (Some old) = old_json name page (string_bytes old.cause) old.age
+abbrev pub page_json : List ℕ → StatusPage → Option Old → List Alarm → Json
+page_json name page None alarms = reachable_json name page alarms
+page_json name page (Some old) alarms = old_json name page (string_bytes old.cause) old.age alarms
 
 abbrev pub gateway_json : Gateway → Json
 gateway_json gateway = elim gateway.page [
-  | Ok page ↦ page_json gateway.name.now page gateway.old
-  | Err cause ↦ unreachable_json gateway.name.now (string_bytes cause)
+  | Ok page ↦ page_json gateway.name.now page gateway.old gateway.alarms.items
+  | Err cause ↦ unreachable_json gateway.name.now (string_bytes cause) gateway.alarms.items
 ]
 
 unfoldable pub object_json : MergedObject → Json
@@ -122,7 +134,8 @@ object_json shown =
     ∷ (codes "host", field_json shown.row.host.now)
     ∷ (codes "service", service_json shown.row.service.now)
     ∷ (codes "state", string (state_name shown.row.state))
-    ∷ (codes "since", number_json shown.since)
+    ∷ (codes "since", number_json shown.since.moment)
+    ∷ (codes "since_at_least", boolean shown.since.at_least)
     ∷ (codes "last", optional_json shown.row.last)
     ∷ (codes "stale", boolean shown.row.stale)
     ∷ (codes "acknowledgement", string (acknowledgement_word shown.row.acknowledgement))

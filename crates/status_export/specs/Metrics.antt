@@ -8,6 +8,8 @@ use Rattle.gate_model.specs.declared.state.State.TheVariants as state
 use Rattle.gate_model.specs.State.{is_problem}
 use Rattle.gate_lines.specs.Lines.{state_name}
 use Rattle.status_reading.specs.declared.page.StatusPage.{StatusPage}
+use Rattle.status_memory.specs.declared.alarm.Alarm.{Alarm}
+use Rattle.status_memory.specs.Alarm.{alarm_name}
 use Rattle.status_merge.specs.declared.gateway.Gateway.{Gateway}
 use Rattle.status_merge.specs.declared.gateway.MergedObject.{MergedObject}
 use Rattle.status_merge.specs.declared.counts.Counts.{Counts}
@@ -30,7 +32,7 @@ is_up gateway = is_ok gateway.page && is_none gateway.old
 abbrev pub up_sample : Gateway → Sample
 up_sample gateway = gateway_sample gateway.name.now (from_bool (is_up gateway))
 
--- how many seconds ago the gateway's page was fetched, 0 where it is new; none where there is no page
+-- how many seconds old the gateway's page is, 0 where it is new; none where there is no page
 abbrev pub age_samples : Gateway → List Sample
 age_samples gateway = elim gateway.page [
   | Ok page ↦ gateway_sample gateway.name.now (age_of gateway) ∷ []
@@ -40,7 +42,7 @@ age_samples gateway = elim gateway.page [
 abbrev pub age_gauge : List Gateway → Gauge
 age_gauge gateways = record {
   name = codes "nscagate_page_age_seconds";
-  help = codes "How long ago the gateway's page was fetched, where it is old.";
+  help = codes "How old the gateway's page is, where it is old.";
   samples = flat_map age_samples gateways;
 }
 
@@ -62,14 +64,33 @@ page_gauge name help number gateways = record {
 abbrev pub up_gauge : List Gateway → Gauge
 up_gauge gateways = record {
   name = codes "nscagate_up";
-  help = codes "Whether the gateway's status page was read.";
+  help = codes "Whether the gateway's status page was read, and is not old.";
   samples = map up_sample gateways;
+}
+
+-- an alarm about the gateway of this name
+abbrev pub alarm_sample : List ℕ → Alarm → Sample
+alarm_sample name alarm = record {
+  labels = (codes "gateway", name) ∷ (codes "alarm", alarm_name alarm) ∷ [];
+  number = 1;
+}
+
+-- all alarms about it
+abbrev pub alarm_samples : Gateway → List Sample
+alarm_samples gateway = map (alarm_sample gateway.name.now) gateway.alarms.items
+
+abbrev pub alarm_gauge : List Gateway → Gauge
+alarm_gauge gateways = record {
+  name = codes "nscagate_alarm";
+  help = codes "Alarms about the gateway.";
+  samples = flat_map alarm_samples gateways;
 }
 
 -- the gauges of gateways
 abbrev pub gateway_gauges : List Gateway → List Gauge
 gateway_gauges gateways =
     up_gauge gateways
+    ∷ alarm_gauge gateways
     ∷ age_gauge gateways
     ∷ page_gauge (codes "nscagate_page_seconds") (codes "The moment of the gateway's page.")
     (λ page. page.moment) gateways

@@ -5,12 +5,13 @@ ghost use Rattle.std.specs.Str.{IsUtf8};
 ghost use Rattle.json.specs.Json.{array, document};
 ghost use Rattle.json.specs.Tree.{json_tokens};
 ghost use Rattle.gate_model.specs.Escaping.{escaped};
-ghost use Rattle.status_export.specs.Document.{plain_text, acknowledgement_word, reachable_json, unreachable_json, old_json, page_json, gateway_json, object_json, items_of, compact_text, status_document};
+ghost use Rattle.status_export.specs.Document.{plain_text, acknowledgement_word, reachable_json, unreachable_json, old_json, alarms_json, page_json, gateway_json, object_json, items_of, compact_text, status_document};
 ghost use Rattle.status_export.specs.inner.Writing.{Adds, member_tokens};
 
 use crate::entries::{push_comments, push_downtimes};
 use crate::members;
 use json::Writer;
+use status_memory::{Alarm, alarm_name};
 use status_merge::{Gateway, MergedObject, Old, Query, is_unhandled};
 use status_reading::{ShownAcknowledgement, StatusPage, state_name};
 use std::alloc::{AllocError, Global};
@@ -25,26 +26,51 @@ fn acknowledgement_word(acknowledgement: ShownAcknowledgement) -> &'static str
     }
 }
 
-fn push_reachable(writer: &mut Writer, name: &str, page: &StatusPage<'_>) -> Result<(), AllocError>
-    ensures { OnOk result
-        (Adds writer.old writer.new (json_tokens (reachable_json name.now page.now))) }
+// The names of alarms, as a member.
+fn push_alarms(writer: &mut Writer, alarms: &[Alarm]) -> Result<(), AllocError>
+    ensures { OnOk result (Adds writer.old writer.new
+        (member_tokens (codes "alarms") (alarms_json alarms.now))) }
+{
+    writer.key("alarms")?;
+    writer.begin_array()?;
+    for alarm in alarms {
+        writer.string(alarm_name(*alarm))?;
+    }
+    writer.end_array()
+}
+
+fn push_reachable(
+    writer: &mut Writer,
+    name: &str,
+    page: &StatusPage<'_>,
+    alarms: &[Alarm],
+) -> Result<(), AllocError>
+    ensures { OnOk result (Adds writer.old writer.new
+        (json_tokens (reachable_json name.now page.now alarms.now))) }
 {
     writer.begin_object()?;
     members::text(writer, "name", name)?;
     members::flag(writer, "reachable", true)?;
     members::number(writer, "moment", page.moment)?;
     members::optional(writer, "closing", page.closing)?;
+    push_alarms(writer, alarms)?;
     writer.end_object()
 }
 
-fn push_unreachable(writer: &mut Writer, name: &str, cause: &str) -> Result<(), AllocError>
-    ensures { OnOk result
-        (Adds writer.old writer.new (json_tokens (unreachable_json name.now cause.now))) }
+fn push_unreachable(
+    writer: &mut Writer,
+    name: &str,
+    cause: &str,
+    alarms: &[Alarm],
+) -> Result<(), AllocError>
+    ensures { OnOk result (Adds writer.old writer.new
+        (json_tokens (unreachable_json name.now cause.now alarms.now))) }
 {
     writer.begin_object()?;
     members::text(writer, "name", name)?;
     members::flag(writer, "reachable", false)?;
     members::text(writer, "fault", cause)?;
+    push_alarms(writer, alarms)?;
     writer.end_object()
 }
 
@@ -52,19 +78,20 @@ fn push_old(
     writer: &mut Writer,
     name: &str,
     page: &StatusPage<'_>,
-    cause: &str,
-    age: u32,
+    old: &Old,
+    alarms: &[Alarm],
 ) -> Result<(), AllocError>
-    ensures { OnOk result
-        (Adds writer.old writer.new (json_tokens (old_json name.now page.now cause.now age))) }
+    ensures { OnOk result (Adds writer.old writer.new
+        (json_tokens (old_json name.now page.now (string_bytes old.now.cause) old.now.age alarms.now))) }
 {
     writer.begin_object()?;
     members::text(writer, "name", name)?;
     members::flag(writer, "reachable", false)?;
-    members::text(writer, "fault", cause)?;
+    members::text(writer, "fault", old.cause.as_str())?;
     members::number(writer, "moment", page.moment)?;
     members::optional(writer, "closing", page.closing)?;
-    members::number(writer, "age", age)?;
+    members::number(writer, "age", old.age)?;
+    push_alarms(writer, alarms)?;
     writer.end_object()
 }
 
@@ -73,13 +100,14 @@ fn push_page(
     name: &str,
     page: &StatusPage<'_>,
     old: &Option<Old>,
+    alarms: &[Alarm],
 ) -> Result<(), AllocError>
-    ensures { OnOk result
-        (Adds writer.old writer.new (json_tokens (page_json name.now page.now old.now))) }
+    ensures { OnOk result (Adds writer.old writer.new
+        (json_tokens (page_json name.now page.now old.now alarms.now))) }
 {
     match old {
-        Some(old) => push_old(writer, name, page, old.cause.as_str(), old.age),
-        None => push_reachable(writer, name, page),
+        Some(old) => push_old(writer, name, page, old, alarms),
+        None => push_reachable(writer, name, page, alarms),
     }
 }
 
@@ -87,9 +115,10 @@ fn push_gateway(writer: &mut Writer, gateway: &Gateway<'_>) -> Result<(), AllocE
     ensures { OnOk result
         (Adds writer.old writer.new (json_tokens (gateway_json gateway.now))) }
 {
+    let alarms = gateway.alarms.as_slice();
     match &gateway.page {
-        Ok(page) => push_page(writer, gateway.name, page, &gateway.old),
-        Err(cause) => push_unreachable(writer, gateway.name, cause.as_str()),
+        Ok(page) => push_page(writer, gateway.name, page, &gateway.old, alarms),
+        Err(cause) => push_unreachable(writer, gateway.name, cause.as_str(), alarms),
     }
 }
 
@@ -106,7 +135,8 @@ fn push_object(
     members::field(alloc, writer, "host", row.host)?;
     members::service(alloc, writer, "service", row.service)?;
     members::text(writer, "state", state_name(row.state))?;
-    members::number(writer, "since", shown.since)?;
+    members::number(writer, "since", shown.since.moment)?;
+    members::flag(writer, "since_at_least", shown.since.at_least)?;
     members::optional(writer, "last", row.last)?;
     members::flag(writer, "stale", row.stale)?;
     members::text(

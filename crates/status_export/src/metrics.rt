@@ -4,12 +4,13 @@ ghost use Rattle.std.specs.Prelude.{◌≡◌, ◌∷◌, ◌++◌, ℕ, List, S
 ghost use Rattle.std.specs.List.{flat_map, list_any};
 ghost use Rattle.status_merge.specs.Ranks.{counts_of};
 ghost use Rattle.status_export.specs.Gauges.{sample_text, gauge_text, value_text, read_value};
-ghost use Rattle.status_export.specs.Metrics.{gateway_sample, is_up, page_samples, age_samples, up_gauge, age_gauge, page_gauge, gateway_gauges, state_sample, state_gauge, number_gauge, object_gauges, flag_word, labelled, object_sample, problem_samples, problem_gauge, stale_samples, stale_gauge, metrics_page};
+ghost use Rattle.status_export.specs.Metrics.{gateway_sample, is_up, page_samples, age_samples, alarm_sample, alarm_samples, up_gauge, alarm_gauge, age_gauge, page_gauge, gateway_gauges, state_sample, state_gauge, number_gauge, object_gauges, flag_word, labelled, object_sample, problem_samples, problem_gauge, stale_samples, stale_gauge, metrics_page};
 ghost use Rattle.status_export.specs.inner.Labels.{page_number};
 ghost use Rattle.status_export.specs.inner.Writing.{Appends};
 
 use crate::gauges::{push_head, push_sample};
 use crate::members::plain_text;
+use status_memory::{Alarm, alarm_name};
 use status_merge::{Counts, Gateway, MergedObject, age_of, count, is_made};
 use status_reading::{State, StatusPage, state_name};
 use std::alloc::{AllocError, Global};
@@ -63,10 +64,39 @@ fn push_up_gauge(out: &mut Vec<u8>, gateways: &[Gateway<'_>]) -> Result<(), Allo
     push_head(
         out,
         "nscagate_up",
-        "Whether the gateway's status page was read.",
+        "Whether the gateway's status page was read, and is not old.",
     )?;
     for gateway in gateways {
         push_gateway_sample(out, "nscagate_up", gateway.name, u64::from(is_up(gateway)))?;
+    }
+    Ok(())
+}
+
+fn push_alarm_sample(out: &mut Vec<u8>, gateway: &str, alarm: Alarm) -> Result<(), AllocError>
+    ensures { OnOk result (Appends out.old.items out.new.items
+        (sample_text (codes "nscagate_alarm") (alarm_sample gateway.now alarm))) }
+{
+    let labels = [("gateway", gateway), ("alarm", alarm_name(alarm))];
+    push_sample(out, "nscagate_alarm", &labels, 1)
+}
+
+fn push_alarm_samples(out: &mut Vec<u8>, gateway: &Gateway<'_>) -> Result<(), AllocError>
+    ensures { OnOk result (Appends out.old.items out.new.items
+        (flat_map (sample_text (codes "nscagate_alarm")) (alarm_samples gateway.now))) }
+{
+    for alarm in gateway.alarms.as_slice() {
+        push_alarm_sample(out, gateway.name, *alarm)?;
+    }
+    Ok(())
+}
+
+fn push_alarm_gauge(out: &mut Vec<u8>, gateways: &[Gateway<'_>]) -> Result<(), AllocError>
+    ensures { OnOk result
+        (Appends out.old.items out.new.items (gauge_text (alarm_gauge gateways.now))) }
+{
+    push_head(out, "nscagate_alarm", "Alarms about the gateway.")?;
+    for gateway in gateways {
+        push_alarm_samples(out, gateway)?;
     }
     Ok(())
 }
@@ -93,7 +123,7 @@ fn push_age_gauge(out: &mut Vec<u8>, gateways: &[Gateway<'_>]) -> Result<(), All
     push_head(
         out,
         "nscagate_page_age_seconds",
-        "How long ago the gateway's page was fetched, where it is old.",
+        "How old the gateway's page is, where it is old.",
     )?;
     for gateway in gateways {
         push_age_samples(out, gateway)?;
@@ -140,6 +170,7 @@ fn push_gateway_gauges(out: &mut Vec<u8>, gateways: &[Gateway<'_>]) -> Result<()
         (flat_map gauge_text (gateway_gauges gateways.now))) }
 {
     push_up_gauge(out, gateways)?;
+    push_alarm_gauge(out, gateways)?;
     push_age_gauge(out, gateways)?;
     push_page_gauge(
         out,

@@ -1,7 +1,7 @@
 -- What is known after one page more: `history_more`.
 use Rattle.std.proofs.Common.{◌≡◌, ℕ, ◌+◌, ◌-◌, ◌<◌, ◌≤◌, suc, Bool, true, false, ◌&&◌, cond, List, [], ◌∷◌, ◌++◌, length, map, drop, get_or, find, ◌==◌, Option, Some, None, unwrap_or, refl, sym, ap, ◌∙◌, subst, arith, inl, inr, append_assoc, length-append, length-drop, drop-drop, drop-cons}
-use Rattle.std.specs.Prelude.{if◌then◌else◌}
-use Rattle.std.specs.List.{flat_map, last_or}
+use Rattle.std.specs.Prelude.{if◌then◌else◌, nat_lt, count_by, is_some}
+use Rattle.std.specs.List.{flat_map, last_or, list_all}
 use Rattle.std.specs.Option.{option_map, option_map_or}
 use Rattle.std.specs.Str.{bytes_eq}
 use Rattle.std.specs.HashMap.{HashMap, get}
@@ -16,11 +16,13 @@ use Rattle.gate_model.specs.State.{number_of_state, is_same_state}
 use Rattle.status_reading.specs.declared.rows.ShownObject.{ShownObject}
 use Rattle.status_reading.specs.declared.page.StatusPage.{StatusPage}
 use Rattle.status_reading.specs.Rows.{ObjectView, PageView, object_view, page_view}
+use Rattle.status_reading.proofs.DepthSteps.{count_map}
 use Rattle.status_memory.specs.declared.history.Known.{Known}
 use Rattle.status_memory.specs.declared.history.Standing.{Standing}
+use Rattle.status_memory.specs.declared.history.Since.{Since}
 use Rattle.status_memory.specs.declared.history.StateChange.{StateChange}
-use Rattle.status_memory.specs.History.{KnownView, ChangeView, HistoryView, change_view, is_of, state_on, shows, run_of, since_of, known_on, known_of, change_from, changes_of, IsHistoryOf}
-use Rattle.status_memory.specs.inner.Known.{Key, same_key, known_view, standing_of, standing_in, since_after, state_of, known_with, known_at, change_at, all_known, all_changes}
+use Rattle.status_memory.specs.History.{KnownView, ChangeView, HistoryView, change_view, is_of, state_on, shows, run_of, since_of, known_on, known_of, change_from, changes_of, shared, is_other, is_other_in, has_page, IsHistoryOf}
+use Rattle.status_memory.specs.inner.Known.{Key, same_key, known_view, standing_of, standing_in, since_now, since_after, state_of, known_with, known_at, change_at, standing_at, changes_if, shared_with, all_known, all_changes}
 
 -- ---- the last changes
 
@@ -82,12 +84,12 @@ by_name_more known index next one key q before after inside step is host service
     ∙ ap (λ list. standing_in (map known_view list) q.0.now q.1.now) (sym opened)
 
 -- what the map has is what the list has
-pub known_by : {S : Type 0} (found : HashMap Key Standing S) (known : List KnownView) (moment : ℕ) (rows : List ShownObject)
+pub known_by : {S : Type 0} (had : Bool) (found : HashMap Key Standing S) (known : List KnownView) (moment : ℕ) (rows : List ShownObject)
     → ((key : Key) → get same_key found key ≡ standing_in known key.0.now key.1.now)
-    → map (known_at found moment) rows ≡ all_known known moment rows
-known_by found known moment [] is = refl
-known_by found known moment (row ∷ rows) is =
-    λ i. known_with (is (row.host, row.service) i) moment (object_view row) ∷ known_by found known moment rows is i
+    → map (known_at had found moment) rows ≡ all_known had known moment rows
+known_by had found known moment [] is = refl
+known_by had found known moment (row ∷ rows) is =
+    λ i. known_with had (is (row.host, row.service) i) moment (object_view row) ∷ known_by had found known moment rows is i
 
 pub changes_by : {S : Type 0} (found : HashMap Key Standing S) (known : List KnownView) (moment : ℕ) (rows : List ShownObject)
     → ((key : Key) → get same_key found key ≡ standing_in known key.0.now key.1.now)
@@ -158,26 +160,47 @@ last_step first [] default = refl
 last_step first (next ∷ rest) default = always next rest default first
 
 -- the moment of the first page of the run, of these pages
-abbrev since_in_run : List ℕ → List ℕ → State → List PageView → ℕ → ℕ
-since_in_run host service state pages moment =
+abbrev moment_in_run : List ℕ → List ℕ → State → List PageView → ℕ → ℕ
+moment_in_run host service state pages moment =
     unwrap_or (last_or None (map (λ (page : PageView). page.moment) (run_of host service state pages))) moment
 
-run_goes_on : (host service : List ℕ) (state : State) (page : PageView) (before : List PageView) (moment : ℕ)
+-- since when, of these pages
+abbrev since_in_run : List ℕ → List ℕ → State → List PageView → ℕ → Since
+since_in_run host service state pages moment = record {
+  moment = moment_in_run host service state pages moment;
+  at_least = list_all (shows host service state) pages;
+}
+
+moment_goes_on : (host service : List ℕ) (state : State) (page : PageView) (before : List PageView) (moment : ℕ)
     → shows host service state page ≡ true
-    → since_in_run host service state (page ∷ before) moment ≡ since_in_run host service state before page.moment
-run_goes_on host service state page before moment is =
+    → moment_in_run host service state (page ∷ before) moment ≡ moment_in_run host service state before page.moment
+moment_goes_on host service state page before moment is =
     let first : run_of host service state (page ∷ before) ≡ page ∷ run_of host service state before =
     take_while-cons (shows host service state) page before ∙ ap (λ test. cond test (page ∷ run_of host service state before) []) is in
     ap (λ run. unwrap_or (last_or None (map (λ (page : PageView). page.moment) run)) moment) first
     ∙ last_step page.moment (map (λ (page : PageView). page.moment) (run_of host service state before)) moment
 
-run_begins : (host service : List ℕ) (state : State) (page : PageView) (before : List PageView) (moment : ℕ)
+run_goes_on : (host service : List ℕ) (state : State) (page : PageView) (before : List PageView) (moment : ℕ)
+    → shows host service state page ≡ true
+    → since_in_run host service state (page ∷ before) moment ≡ since_in_run host service state before page.moment
+run_goes_on host service state page before moment is =
+    let from = moment_goes_on host service state page before moment is in
+    λ i. record { moment = from i; at_least = is i && list_all (shows host service state) before }
+
+moment_begins : (host service : List ℕ) (state : State) (page : PageView) (before : List PageView) (moment : ℕ)
     → shows host service state page ≡ false
-    → since_in_run host service state (page ∷ before) moment ≡ moment
-run_begins host service state page before moment is =
+    → moment_in_run host service state (page ∷ before) moment ≡ moment
+moment_begins host service state page before moment is =
     let none : run_of host service state (page ∷ before) ≡ [] =
     take_while-cons (shows host service state) page before ∙ ap (λ test. cond test (page ∷ run_of host service state before) []) is in
     ap (λ run. unwrap_or (last_or None (map (λ (page : PageView). page.moment) run)) moment) none
+
+run_begins : (host service : List ℕ) (state : State) (page : PageView) (before : List PageView) (moment : ℕ)
+    → shows host service state page ≡ false
+    → since_in_run host service state (page ∷ before) moment ≡ since_now true moment
+run_begins host service state page before moment is =
+    let from = moment_begins host service state page before moment is in
+    λ i. record { moment = from i; at_least = is i && list_all (shows host service state) before }
 
 standing_on : (page : PageView) (before : List PageView) (host service : List ℕ)
     → standing_in (known_of (page ∷ before)) host service
@@ -187,7 +210,7 @@ standing_on page before host service =
 
 since_found : (page : PageView) (before : List PageView) (host service : List ℕ) (state : State) (moment : ℕ) (found : Option ObjectView)
     → find (is_of host service) page.objects ≡ found
-    → since_after (option_map standing_of (option_map (known_on before page.moment) found)) state moment
+    → since_after true (option_map standing_of (option_map (known_on before page.moment) found)) state moment
     ≡ since_in_run host service state (page ∷ before) moment
 since_found page before host service state moment None is =
     let shown : shows host service state page ≡ false =
@@ -202,25 +225,26 @@ since_found page before host service state moment (Some row) is =
     elim (cases_Bool (is_same_state row.state state)) [
       | inl same ↦
           let alike = same_state row.state state same in
-          let taken : since_after (Some (standing_of (known_on before page.moment row))) state moment ≡ since_in_run row.host row.service row.state before page.moment =
+          let taken : since_after true (Some (standing_of (known_on before page.moment row))) state moment ≡ since_in_run row.host row.service row.state before page.moment =
           rw same refl in
           taken
           ∙ (λ i. since_in_run (here i) (there i) (alike i) before page.moment)
           ∙ sym (run_goes_on host service state page before moment (shown ∙ same))
       | inr other ↦
-          let taken : since_after (Some (standing_of (known_on before page.moment row))) state moment ≡ moment = rw other refl in
+          let taken : since_after true (Some (standing_of (known_on before page.moment row))) state moment ≡ since_now true moment = rw other refl in
           taken ∙ sym (run_begins host service state page before moment (shown ∙ other))
     ]
 
 since_more : (pages : List PageView) (moment : ℕ) (row : ObjectView)
-    → since_after (standing_in (known_of pages) row.host row.service) row.state moment ≡ since_of pages moment row
+    → since_after (has_page pages) (standing_in (known_of pages) row.host row.service) row.state moment
+    ≡ since_of pages moment row
 since_more [] moment row = refl
 since_more (page ∷ before) moment row =
-    ap (λ standing. since_after standing row.state moment) (standing_on page before row.host row.service)
+    ap (λ standing. since_after true standing row.state moment) (standing_on page before row.host row.service)
     ∙ since_found page before row.host row.service row.state moment (find (is_of row.host row.service) page.objects) refl
 
 known_more : (pages : List PageView) (moment : ℕ) (rows : List ShownObject)
-    → all_known (known_of pages) moment rows ≡ map (known_on pages moment) (map object_view rows)
+    → all_known (has_page pages) (known_of pages) moment rows ≡ map (known_on pages moment) (map object_view rows)
 known_more pages moment [] = refl
 known_more pages moment (row ∷ rows) =
     (λ i. (record {
@@ -249,34 +273,73 @@ changed_rows page before moment [] = refl
 changed_rows page before moment (row ∷ rows) =
     λ i. change_from moment (object_view row) (state_more page before row.host.now row.service.now i) ++ changed_rows page before moment rows i
 
-none_changed : (moment : ℕ) (rows : List ShownObject) → all_changes [] moment rows ≡ []
-none_changed moment [] = refl
-none_changed moment (row ∷ rows) = none_changed moment rows
-
 changes_more : (pages : List PageView) (page : StatusPage)
-    → changes_of pages ++ all_changes (known_of pages) page.moment page.objects.items ≡ changes_of (page_view page ∷ pages)
-changes_more [] page = none_changed page.moment page.objects.items
+    → changes_of pages ++ changes_if (has_page pages) (all_changes (known_of pages) page.moment page.objects.items)
+    ≡ changes_of (page_view page ∷ pages)
+changes_more [] page = refl
 changes_more (before ∷ earlier) page =
     ap (λ more. changes_of (before ∷ earlier) ++ more) (changed_rows before earlier page.moment page.objects.items)
+
+-- ---- other objects
+
+-- what the map has is what the list has
+pub shared_by : {S : Type 0} (found : HashMap Key Standing S) (known : List KnownView) (rows : List ShownObject)
+    → ((key : Key) → get same_key found key ≡ standing_in known key.0.now key.1.now)
+    → count_by (λ (row : ShownObject). is_some (standing_at found row)) rows ≡ shared_with known rows
+shared_by found known rows is = λ i. count_by (λ (row : ShownObject). is_some (is (row.host, row.service) i)) rows
+
+some_state : (standing : Option Standing) → is_some standing ≡ is_some (state_of standing)
+some_state None = refl
+some_state (Some known) = refl
+
+shared_rows : (page : PageView) (before : List PageView) (rows : List ShownObject)
+    → shared_with (known_of (page ∷ before)) rows
+    ≡ count_by (λ (row : ObjectView). is_some (state_on row.host row.service page)) (map object_view rows)
+shared_rows page before rows =
+    let same : (row : ShownObject) → is_some (standing_in (known_of (page ∷ before)) row.host.now row.service.now)
+    ≡ is_some (state_on row.host.now row.service.now page) =
+    λ row. some_state (standing_in (known_of (page ∷ before)) row.host.now row.service.now)
+    ∙ ap is_some (state_more page before row.host.now row.service.now) in
+    (λ i. count_by (λ (row : ShownObject). same row i) rows)
+    ∙ sym (count_map (λ (row : ObjectView). is_some (state_on row.host row.service page)) object_view rows)
+
+other_more : (pages : List PageView) (page : StatusPage)
+    → (has_page pages && nat_lt (shared_with (known_of pages) page.objects.items)
+    (length page.objects.items - shared_with (known_of pages) page.objects.items))
+    ≡ is_other_in (page_view page ∷ pages)
+other_more [] page = refl
+other_more (before ∷ earlier) page =
+    let same = shared_rows before earlier page.objects.items in
+    let many = sym (length-map page.objects.items object_view) in
+    λ i. nat_lt (same i) (many i - same i)
 
 -- ---- what is kept
 
 pub history_more : (pages : List PageView) (page : StatusPage) (old new : HistoryView) (items made : List ChangeView)
     → old.changes ≡ keep_last 1000 items
-    → new.known ≡ all_known old.known page.moment page.objects.items
-    → made ≡ all_changes old.known page.moment page.objects.items
+    → new.known ≡ all_known old.has_page old.known page.moment page.objects.items
+    → made ≡ changes_if old.has_page (all_changes old.known page.moment page.objects.items)
+    → new.has_page ≡ true
+    → new.is_other
+    ≡ (old.has_page && nat_lt (shared_with old.known page.objects.items)
+    (length page.objects.items - shared_with old.known page.objects.items))
     → new.changes ≡ keep_last 1000 (items ++ made)
     → IsHistoryOf pages old → IsHistoryOf (page_view page ∷ pages) new
-history_more pages page old new items made kept known changed changes is = record {
+history_more pages page old new items made kept known changed has_page is_other changes is = record {
+  has_page = has_page;
+  is_other = is_other
+      ∙ (λ i. is.has_page i && nat_lt (shared_with (is.known i) page.objects.items)
+      (length page.objects.items - shared_with (is.known i) page.objects.items))
+      ∙ other_more pages page;
   known = known
-      ∙ ap (λ known. all_known known page.moment page.objects.items) is.known
+      ∙ (λ i. all_known (is.has_page i) (is.known i) page.moment page.objects.items)
       ∙ known_more pages page.moment page.objects.items;
   changes = changes
       ∙ sym (keep_again 1000 items made)
       ∙ ap (λ front. keep_last 1000 (front ++ made)) (sym kept ∙ is.changes)
       ∙ keep_again 1000 (changes_of pages) made
       ∙ ap (λ more. keep_last 1000 (changes_of pages ++ more))
-      (changed ∙ ap (λ known. all_changes known page.moment page.objects.items) is.known)
+      (changed ∙ (λ i. changes_if (is.has_page i) (all_changes (is.known i) page.moment page.objects.items)))
       ∙ ap (keep_last 1000) (changes_more pages page);
 }
 

@@ -1,3 +1,4 @@
+pub mod Alarm
 pub mod Memory
 pub mod History
 pub mod inner

@@ -8,7 +8,7 @@ use Rattle.std.proofs.lemmas.Cmp.{nat_list_eq_equiv}
 use Rattle.std.proofs.lemmas.List.Elements.{All-contains, All-contains_itself, All-filter, All-from_recursion, All-map, Contains-append_cases, Contains-append_left, Contains-append_right, Contains-push, Contains-push_cases, filter_agree, filter_passes}
 use Rattle.status_merge.specs.declared.gateway.MergedObject.{MergedObject}
 use Rattle.status_merge.specs.Groups.{firsts}
-use Rattle.status_merge.specs.Objects.{is_later, is_latest, latest, merged, same_name, IsListOf}
+use Rattle.status_merge.specs.Objects.{counted_age, is_younger, is_latest, latest, merged, same_name, IsListOf}
 use Rattle.status_merge.proofs.FirstLaws.{weaker, firsts-distinct, firsts-among, firsts-whole, like, picked-distinct, picked-whole}
 use Rattle.status_merge.proofs.LatestSteps.{kept, kept-latest}
 
@@ -47,7 +47,7 @@ found test (next ∷ rows) row e = elim (cases_Bool (test next)) [
 
 pub kept-some : (known : MergedObject) (rows : List MergedObject) → (row : MergedObject) × (kept (Some known) rows ≡ Some row)
 kept-some known [] = (known, refl)
-kept-some known (row ∷ rows) = kept-some (if is_later row.row.last known.row.last then row else known) rows
+kept-some known (row ∷ rows) = kept-some (if is_younger (counted_age row) (counted_age known) then row else known) rows
 
 latest-found : (rows : List MergedObject) (first : MergedObject) → Contains rows first → (is_latest rows (latest (first, rows)) ≡ true) × Contains rows (latest (first, rows))
 latest-found [] first is = absurd (let no = is.1 in omega arith)

@@ -1,5 +1,5 @@
 -- The objects of several gateways' pages as one list: `merged`.
-use Rattle.std.specs.Prelude.{◌≡◌, ℕ, ◌+◌, Bool, false, true, ◌&&◌, ◌||◌, ◌==◌, not, nat_lt, length, min, is_some, List, [], map, filter, find, slice_get, Option, Some, None, Ok, Err, unwrap_or}
+use Rattle.std.specs.Prelude.{◌≡◌, ℕ, ◌+◌, ◌-◌, Bool, false, true, ◌&&◌, ◌||◌, ◌==◌, not, nat_lt, if◌then◌else◌, length, min, is_some, List, [], map, filter, find, slice_get, Option, Some, None, Ok, Err, unwrap_or}
 use Rattle.std.specs.List.{All, AllPass, Contains, IsDistinct, list_all, list_any, enumerate_from}
 use Rattle.std.specs.Str.{bytes_eq}
 use Rattle.gate_model.specs.State.{is_problem}
@@ -15,17 +15,25 @@ use Rattle.status_merge.specs.Groups.{groups}
 abbrev pub same_name : MergedObject → MergedObject → Bool
 same_name one other = bytes_eq one.row.host.now other.row.host.now && bytes_eq one.row.service.now other.row.service.now
 
--- whether a last result is later than another. No result is earliest.
-abbrev pub is_later : Option ℕ → Option ℕ → Bool
-is_later None other = false
-is_later (Some moment) None = true
-is_later (Some moment) (Some other) = nat_lt other moment
+-- how old a row's last result is, by the moment of its page. A result on an old page counts as 2 ^ 32 seconds older, so that
+-- each on a page that isn't old is younger.
+abbrev pub counted_age : MergedObject → Option ℕ
+counted_age object = elim object.row.last [
+  | None ↦ None
+  | Some last ↦ Some ((object.moment - last) + (if object.is_old then 4294967296 else 0))
+]
 
--- whether none of the rows has a later result than this one
+-- whether a result of an age is younger than one of another. No result is the oldest.
+abbrev pub is_younger : Option ℕ → Option ℕ → Bool
+is_younger None other = false
+is_younger (Some age) None = true
+is_younger (Some age) (Some other) = nat_lt age other
+
+-- whether none of the rows has a younger result than this one
 abbrev pub is_latest : List MergedObject → MergedObject → Bool
-is_latest rows row = list_all (λ other. not (is_later other.row.last row.row.last)) rows
+is_latest rows row = list_all (λ other. not (is_younger (counted_age other) (counted_age row))) rows
 
--- of the rows of a name the latest, of equals the first
+-- of the rows of a name the one with the youngest result, of equals the first
 abbrev pub latest : MergedObject × List MergedObject → MergedObject
 latest group = unwrap_or (find (is_latest group.1) group.1) group.0
 
@@ -51,7 +59,7 @@ with_hosts objects = map (λ (object : MergedObject). record object { host_is_ou
 abbrev pub unmarked : MergedObject → MergedObject
 unmarked object = record object { host_is_out = false }
 
--- each name of the rows stands once, by a row of that name than which none is later
+-- each name of the rows stands once, by a row of that name than which none has a younger result
 pub record IsListOf (rows shown : List MergedObject) : Type 0 where
   pub once : IsDistinct same_name shown
   pub whole : AllPass (λ row. list_any (same_name row) shown) rows
@@ -59,17 +67,18 @@ pub record IsListOf (rows shown : List MergedObject) : Type 0 where
       (λ object. Contains rows object × (is_latest (filter (λ row. same_name row object) rows) object ≡ true))
       shown
 
--- how many seconds ago a gateway's page was fetched, where it is old
+-- how many seconds old a gateway's page is, where it is old
 abbrev pub age_of : Gateway → ℕ
 age_of gateway = elim gateway.old [ Some old ↦ old.age | None ↦ 0 ]
 
 -- the row of this index on a page of this moment, with its gateway's name, the page's moment and age, and since when it
--- has its state, which is the page's moment where that isn't known; where the page is old, it is stale
+-- has its state, which is at least the page's moment where that isn't known; where the page is old, it is stale
 abbrev pub shown_by : Gateway → ℕ → ℕ → ShownObject → MergedObject
 shown_by gateway moment index row = record {
   gateway = gateway.name;
   moment = min (moment + age_of gateway) 4294967295;
-  since = unwrap_or (slice_get gateway.since.now index) moment;
+  is_old = is_some gateway.old;
+  since = unwrap_or (slice_get gateway.since.now index) (record { moment = moment; at_least = true });
   host_is_out = false;
   row = record row { stale = row.stale || is_some gateway.old };
 }

@@ -26,5 +26,5 @@ later_first one other = nat_cmp other one
 abbrev pub IsInOrder : Sort → List MergedObject → List MergedObject → Type 0
 IsInOrder Worst rows shown = shown ≡ rows
 IsInOrder Host rows shown = IsSortOf (λ object. object.row.host.now) (slice_cmp nat_cmp) rows shown
-IsInOrder Since rows shown = IsSortOf (λ object. object.since) later_first rows shown
+IsInOrder Since rows shown = IsSortOf (λ object. object.since.moment) later_first rows shown
 IsInOrder Last rows shown = IsSortOf (λ object. object.row.last) (option_cmp nat_cmp) rows shown

@@ -1,3 +1,4 @@
+use status_memory::{Alarm, Since};
 use status_reading::{ShownObject, StatusPage};
 
 /// A gateway: its name, and its last status page, or the cause why there is none, in words.
@@ -7,19 +8,18 @@ pub struct Gateway<'a> {
     pub page: Result<StatusPage<'a>, String>,
     /// Where that page is old.
     pub old: Option<Old>,
-    /// The most objects that a page of it has shown.
-    pub most: usize,
-    /// Since when each object of the page has its state, in the order of the page's objects, in
-    /// seconds since 1970.
-    pub since: &'a [u32],
+    /// The alarms about it.
+    pub alarms: Vec<Alarm>,
+    /// Since when each object of the page has its state, in the order of the page's objects.
+    pub since: &'a [Since],
 }
 
-/// An old page: it is still shown, since a later fetch gave none, and its objects are stale.
+/// An old page: it is still shown, and its objects are stale.
 #[derive(Drop)]
 pub struct Old {
-    /// How many seconds ago it was fetched.
+    /// How many seconds before the clock it was fetched, or its moment is, whichever is more.
     pub age: u32,
-    /// Why there is no newer one, in words.
+    /// Why it is old, in words.
     pub cause: String,
 }
 
@@ -30,8 +30,10 @@ pub struct MergedObject<'a> {
     /// The moment of that gateway's page, and of an old page that moment and its age, at most
     /// 4,294,967,295.
     pub moment: u32,
-    /// Since when that gateway's pages show the state, in seconds since 1970.
-    pub since: u32,
+    /// Whether that page is old.
+    pub is_old: bool,
+    /// Since when that gateway's pages show the state.
+    pub since: Since,
     /// Whether it is a service whose host is DOWN, UNREACHABLE or in downtime.
     pub host_is_out: bool,
     pub row: ShownObject<'a>,

@@ -1,12 +1,13 @@
 ghost use Rattle.std.specs.Prelude.{◌≡◌, ◌<◌, ◌++◌, OnOk, IfOk, length, map, not, false};
 ghost use Rattle.std.specs.List.{All, flat_map, list_any, position_or_len};
 ghost use Rattle.indexmap.specs.IndexSet.{insert_key};
-ghost use Rattle.status_merge.specs.Objects.{is_later, age_of, shown_by, objects_on, merged, is_host_out, with_hosts, unmarked, IsListOf, HasSoundPage, HasOwnState};
+ghost use Rattle.status_merge.specs.Objects.{counted_age, is_younger, age_of, shown_by, objects_on, merged, is_host_out, with_hosts, unmarked, IsListOf, HasSoundPage, HasOwnState};
 ghost use Rattle.status_merge.specs.inner.Hosts.{AreHostsOut, is_of};
 ghost use Rattle.status_merge.specs.inner.Names.{key_of, same_key, newer, with_row};
 
 use crate::gateway::{Gateway, MergedObject};
 use indexmap::IndexSet;
+use status_memory::Since;
 use status_reading::ShownObject;
 use std::alloc::{AllocError, Global};
 use std::collections::HashSet;
@@ -14,17 +15,34 @@ use std::collections::HashSet;
 /// The names of an object's host and service, which a host has empty.
 type Name<'a> = (&'a [u8], &'a [u8]);
 
-fn is_later(one: Option<u32>, other: Option<u32>) -> bool
-    ensures { result ≡ is_later one other }
+// How old the last result is on its page. On an old page 2 to the power of 32 seconds are added.
+fn counted_age(object: &MergedObject<'_>) -> Option<u64>
+    ensures { result ≡ counted_age object.now }
+{
+    match object.row.last {
+        Some(last) => {
+            let age = u64::from(object.moment.saturating_sub(last));
+            if object.is_old {
+                Some(age + 4_294_967_296)
+            } else {
+                Some(age)
+            }
+        }
+        None => None,
+    }
+}
+
+fn is_younger(one: Option<u64>, other: Option<u64>) -> bool
+    ensures { result ≡ is_younger one other }
 {
     match (one, other) {
-        (Some(one), Some(other)) => one > other,
+        (Some(one), Some(other)) => one < other,
         (Some(_), None) => true,
         (None, _) => false,
     }
 }
 
-/// How many seconds ago a page was fetched, where it is old; 0 where it is new.
+/// How many seconds old a page is, where it is old; 0 where it is new.
 pub fn age_of(gateway: &Gateway<'_>) -> u32
     ensures { result ≡ age_of gateway.now }
 {
@@ -47,7 +65,11 @@ fn shown_by<'a>(
     MergedObject {
         gateway: gateway.name,
         moment: moment.saturating_add(age_of(gateway)),
-        since: since.unwrap_or(moment),
+        is_old: gateway.old.is_some(),
+        since: since.unwrap_or(Since {
+            moment,
+            at_least: true,
+        }),
         host_is_out: false,
         row: ShownObject {
             stale: row.stale || gateway.old.is_some(),
@@ -103,11 +125,11 @@ fn add_name<'a>(
     Ok(names.insert_full((row.row.host, row.row.service))?)
 }
 
-// A row, or the one that is known, where the row is no later.
+// A row, or the one that is known, where the row's last result is no younger.
 fn newer<'a>(row: &MergedObject<'a>, known: &MergedObject<'a>) -> MergedObject<'a>
     ensures { result ≡ newer row.now known.now }
 {
-    if is_later(row.row.last, known.row.last) {
+    if is_younger(counted_age(row), counted_age(known)) {
         *row
     } else {
         *known
@@ -132,7 +154,7 @@ fn take_in<'a>(
     Ok(())
 }
 
-// Each name of the rows once, by the latest of its rows.
+// Each name of the rows once, by the row with the youngest result.
 fn latest_rows<'a>(
     alloc: Global,
     rows: &[MergedObject<'a>],
@@ -198,8 +220,10 @@ fn with_hosts<'a>(
 /// The objects of all pages, each once, in the order in which the pages name them first, each with
 /// whether its host is DOWN, UNREACHABLE or in downtime. Those of an old page are stale.
 ///
-/// Where several rows are of one name, the one with the greatest moment of the last result is
-/// shown; of equals the first. The only error is out of memory.
+/// Where several rows are of one name, one without a result is shown only where none has one. Of those
+/// with a result one of a page that isn't old goes before one of an old page, and then the one whose
+/// result is the youngest by its own page's moment; of equals the first. The only error is out of
+/// memory.
 pub fn merge<'a>(
     alloc: Global,
     gateways: &[Gateway<'a>],

@@ -17,7 +17,7 @@ fn sort_by_host(rows: &mut Vec<MergedObject<'_>>) -> Result<(), AllocError>
 fn sort_by_since(rows: &mut Vec<MergedObject<'_>>) -> Result<(), AllocError>
     ensures { OnOk result (IsInOrder Since rows.old.items rows.new.items) }
 {
-    rows.sort_by_key(|object| Reverse(object.since))?;
+    rows.sort_by_key(|object| Reverse(object.since.moment))?;
     Ok(())
 }
 

@@ -32,12 +32,14 @@ pub no_status : (whole : Bool) (heading : Heading) (clock : ℕ) (seen : List Se
 no_status true heading clock seen query form body is none = absurd (true≢false is)
 no_status false heading clock seen query form body is none = none
 
-pub changes_made : (whole : Bool) (heading : Heading) (clock : ℕ) (seen : List Seen) (found shown : List GatewayChange)
-    (form : ChangesForm) (body : List ℕ) → whole ≡ true → AreChanges seen found → shown ≡ found
-    → IsChangesText heading shown clock form body → IsChangesBody whole heading seen clock form body
-changes_made true heading clock seen found shown form body is are same text =
-    (shown, subst (AreChanges seen) (sym same) are, text)
-changes_made false heading clock seen found shown form body is are same text = absurd (true≢false (sym is))
+pub changes_made : (whole : Bool) (heading : Heading) (clock : ℕ) (seen : List Seen) (kept pages : List Gateway)
+    (found shown : List GatewayChange) (form : ChangesForm) (body : List ℕ) → whole ≡ true
+    → AllZip (IsShown clock) seen kept → pages ≡ kept → AreChanges seen found → shown ≡ found
+    → IsChangesText heading pages shown clock form body → IsChangesBody whole heading seen clock form body
+changes_made true heading clock seen kept pages found shown form body is all alike are same text =
+    (pages, subst (AllZip (IsShown clock) seen) (sym alike) all, (shown, subst (AreChanges seen) (sym same) are, text))
+changes_made false heading clock seen kept pages found shown form body is all alike are same text =
+    absurd (true≢false (sym is))
 
 pub no_changes : (whole : Bool) (heading : Heading) (clock : ℕ) (seen : List Seen) (form : ChangesForm) (body : List ℕ)
     → whole ≡ false → body ≡ [] → IsChangesBody whole heading seen clock form body

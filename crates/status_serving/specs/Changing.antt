@@ -2,16 +2,19 @@
 -- (`IsChangesBody`). Own rules.
 use Rattle.std.specs.Prelude.{◌≡◌, ℕ, Bool, true, false, List, [], ◌∷◌, ◌++◌, map, reverse, Option, Some, None, codes}
 use Rattle.std.specs.Arc.{arc_value}
-use Rattle.std.specs.List.{flat_map}
+use Rattle.std.specs.List.{AllZip, flat_map}
 use Rattle.std.specs.List.Sorted.{IsPermutation, IsNonDecreasingBy}
-use Rattle.json.specs.Json.{Json, string, object}
+use Rattle.json.specs.Json.{Json, null, string, object}
+use Rattle.gate_model.specs.declared.state.State.{State}
 use Rattle.gate_lines.specs.Lines.{state_name}
 use Rattle.status_memory.specs.declared.memory.Kept.{Kept}
 use Rattle.status_memory.specs.declared.history.StateChange.{StateChange}
 use Rattle.status_memory.specs.declared.history.GatewayChange.{GatewayChange}
 use Rattle.status_memory.specs.History.{ChangeView, change_view}
 use Rattle.status_export.specs.Document.{members_of, number_json, field_json, service_json, compact_text}
+use Rattle.status_merge.specs.declared.gateway.Gateway.{Gateway}
 use Rattle.status_view.specs.declared.view.View.{View}
+use Rattle.status_view.specs.Shapes.{gateway_shape}
 use Rattle.status_view.specs.ChangesLayout.{change_shape, changes_nodes, feed_nodes}
 use Rattle.status_view.specs.Filling.{filled, html_bytes}
 use Rattle.status_serving.specs.declared.headings.Heading.{Heading}
@@ -19,6 +22,7 @@ use Rattle.page_watching.specs.declared.watching.Seen.{Seen}
 use Rattle.status_serving.specs.declared.changing.ChangesForm.{ChangesForm}
 use Rattle.status_serving.specs.declared.changing.ChangesForm.TheVariants.{Html, Feed, Lines}
 use Rattle.page_watching.specs.Watching.{Shared}
+use Rattle.status_serving.specs.Pages.{IsShown}
 
 -- ---- the changes
 
@@ -45,6 +49,11 @@ pub record AreChanges (seen : List Seen) (changes : List GatewayChange) : Type 0
 
 -- ---- JSON, an object on each line
 
+-- the state before a change; an object that is new has none
+abbrev pub from_json : Option State → Json
+from_json None = null
+from_json (Some state) = string (state_name state)
+
 abbrev pub change_json : GatewayChange → Json
 change_json shown =
     object (members_of (
@@ -52,7 +61,7 @@ change_json shown =
     ∷ (codes "gateway", string shown.gateway.now)
     ∷ (codes "host", field_json shown.change.now.host.items)
     ∷ (codes "service", service_json shown.change.now.service.items)
-    ∷ (codes "from", string (state_name shown.change.now.from))
+    ∷ (codes "from", from_json shown.change.now.from)
     ∷ (codes "to", string (state_name shown.change.now.to))
     ∷ []
     ))
@@ -66,27 +75,31 @@ change_lines changes = flat_map change_line changes
 
 -- ---- what is shown of them
 
--- a page of these changes at this clock shows this
-pub record ListsChanges (heading : Heading) (shown : List GatewayChange) (now : ℕ) (view : View) : Type 0 where
+-- a page of these gateways and changes at this clock shows this
+pub record ListsChanges (heading : Heading) (gateways : List Gateway) (shown : List GatewayChange) (now : ℕ) (view : View)
+    : Type 0 where
   pub title : view.title.now ≡ heading.title.now
   pub clock : view.clock ≡ now
   pub refresh : view.refresh ≡ heading.refresh
+  pub pages : view.gateways.now ≡ gateways
   pub changes : view.changes.now ≡ shown
 
--- these changes in this form
-abbrev pub IsChangesText : Heading → List GatewayChange → ℕ → ChangesForm → List ℕ → Type 0
-IsChangesText heading changes clock Html body =
-    (view : View) × ListsChanges heading changes clock view
-    × (body ≡ html_bytes (filled view (changes_nodes view.refresh (map change_shape view.changes.now))))
-IsChangesText heading changes clock Feed body =
-    (view : View) × ListsChanges heading changes clock view
+-- these changes in this form; as a page with the alarms about these gateways
+abbrev pub IsChangesText : Heading → List Gateway → List GatewayChange → ℕ → ChangesForm → List ℕ → Type 0
+IsChangesText heading gateways changes clock Html body =
+    (view : View) × ListsChanges heading gateways changes clock view
+    × (body ≡ html_bytes (filled view
+    (changes_nodes view.refresh (map gateway_shape view.gateways.now) (map change_shape view.changes.now))))
+IsChangesText heading gateways changes clock Feed body =
+    (view : View) × ListsChanges heading gateways changes clock view
     × (body ≡ html_bytes (filled view (feed_nodes view.clock (map change_shape view.changes.now))))
-IsChangesText heading changes clock Lines body = body ≡ change_lines changes
+IsChangesText heading gateways changes clock Lines body = body ≡ change_lines changes
 
 -- the changes that are kept of gateways, for an answer that has a body; nothing for another
 abbrev pub IsChangesBody : Bool → Heading → List Seen → ℕ → ChangesForm → List ℕ → Type 0
 IsChangesBody true heading seen clock form body =
-    (changes : List GatewayChange) × AreChanges seen changes × IsChangesText heading changes clock form body
+    (gateways : List Gateway) × AllZip (IsShown clock) seen gateways
+    × ((changes : List GatewayChange) × AreChanges seen changes × IsChangesText heading gateways changes clock form body)
 IsChangesBody false heading seen clock form body = body ≡ []
 
 -- the type of a form

@@ -1,16 +1,17 @@
 -- What is shown of gateways: the page that is kept of each (`IsShown`); and the pages are merged, selected by the query
 -- of a URL, and laid out as HTML (`IsPage`), as JSON (`json_body`) or as metrics (`metrics_body`): `IsStatusBody`.
-use Rattle.std.specs.Prelude.{◌≡◌, ℕ, ◌-◌, min, Bool, true, false, List, [], length, map, Option, Some, None, Result, Ok, Err, String, codes, string_bytes}
+use Rattle.std.specs.Prelude.{◌≡◌, ℕ, Bool, true, false, List, [], length, map, Option, Some, None, Result, Ok, Err, String, codes, string_bytes}
 use Rattle.std.specs.declared.alloc.Global.{Global}
 use Rattle.std.specs.Arc.{arc_value}
 use Rattle.std.specs.List.{AllZip, flat_map}
 use Rattle.form_urlencoded.specs.Form.{raw_pairs}
 use Rattle.status_reading.specs.declared.page.StatusPage.{StatusPage}
-use Rattle.status_reading.specs.declared.page.ReadFault.TheVariants.{OutOfMemory}
 use Rattle.status_reading.specs.Rows.{page_view}
 use Rattle.status_reading.specs.Text.{IsTextOf}
 use Rattle.status_memory.specs.declared.memory.Kept.{Kept}
-use Rattle.status_memory.specs.Memory.{is_old}
+use Rattle.status_memory.specs.declared.alarm.Alarm.{Alarm}
+use Rattle.status_memory.specs.declared.history.Since.{Since}
+use Rattle.status_memory.specs.Memory.{age_of, old_alarm, alarms_of}
 use Rattle.status_merge.specs.declared.gateway.Gateway.{Gateway}
 use Rattle.status_merge.specs.declared.gateway.Old.{Old}
 use Rattle.status_merge.specs.declared.gateway.MergedObject.{MergedObject}
@@ -30,32 +31,26 @@ use Rattle.status_serving.specs.declared.bodies.Form.{Form}
 use Rattle.status_serving.specs.declared.bodies.Form.TheVariants.{Html, Json, Metrics}
 use Rattle.page_watching.specs.declared.causes.NoPage.{NoPage}
 use Rattle.page_watching.specs.declared.watching.Seen.{Seen}
-use Rattle.page_watching.specs.Causes.{read_cause, cause_of}
+use Rattle.page_watching.specs.Causes.{cause_of, old_cause}
 use Rattle.page_watching.specs.Watching.{Shared, bytes_of}
 
 -- ---- what is kept
 
--- a text is read as this page; where memory runs out, that is the cause why there is none
-abbrev pub IsReadAs : List ℕ → Result StatusPage (String Global) → Type 0
-IsReadAs text (Ok page) = IsTextOf text (page_view page)
-IsReadAs text (Err cause) = string_bytes cause ≡ read_cause OutOfMemory
-
 -- the page that is kept, or the cause why there is none
 abbrev pub IsPageOf : Option (Kept Shared) → Option NoPage → Result StatusPage (String Global) → Type 0
-IsPageOf (Some kept) fault page = IsReadAs (bytes_of kept.page.text) page
+IsPageOf (Some kept) fault (Ok page) = IsTextOf (bytes_of kept.page.text) (page_view page)
+IsPageOf (Some kept) fault (Err cause) = ⊥
 IsPageOf None fault (Ok page) = ⊥
 IsPageOf None fault (Err cause) = string_bytes cause ≡ cause_of fault
 
--- whether the page that is kept is old at a moment, how old in seconds, and the cause why there is no newer one
-abbrev pub IsOldOf : Bool → ℕ → Option (Kept Shared) → Option NoPage → Option Old → Type 0
-IsOldOf true now (Some kept) fault (Some old) =
-    (old.age ≡ min (now - kept.moment) 4294967295) × (string_bytes old.cause ≡ cause_of fault)
-IsOldOf true now (Some kept) fault None = ⊥
-IsOldOf true now None fault old = old ≡ None
-IsOldOf false now last fault old = old ≡ None
+-- whether the page that is kept is old, by the alarm that says so, how old in seconds, and the cause
+abbrev pub IsOldOf : Option Alarm → ℕ → Option NoPage → Option Old → Type 0
+IsOldOf (Some alarm) age fault (Some old) = (old.age ≡ age) × (string_bytes old.cause ≡ old_cause alarm fault)
+IsOldOf (Some alarm) age fault None = ⊥
+IsOldOf None age fault old = old ≡ None
 
 -- since when each object of the page that is kept has its state
-abbrev pub since_in : Option (Kept Shared) → List ℕ
+abbrev pub since_in : Option (Kept Shared) → List Since
 since_in None = []
 since_in (Some kept) = (arc_value kept.page.text).since.items
 
@@ -63,8 +58,8 @@ since_in (Some kept) = (arc_value kept.page.text).since.items
 pub record IsShown (now : ℕ) (seen : Seen) (gateway : Gateway) : Type 0 where
   pub name : gateway.name.now ≡ seen.place.name.now
   pub page : IsPageOf seen.memory.last seen.memory.fault gateway.page
-  pub old : IsOldOf (is_old now seen.memory) now seen.memory.last seen.memory.fault gateway.old
-  pub most : gateway.most ≡ seen.memory.most
+  pub old : IsOldOf (old_alarm now seen.memory) (age_of now seen.memory) seen.memory.fault gateway.old
+  pub alarms : gateway.alarms.items ≡ alarms_of now seen.memory
   pub since : gateway.since.now ≡ since_in seen.memory.last
 
 -- ---- what is shown of it

@@ -2,14 +2,14 @@
 //! query, and shown.
 ghost use Rattle.std.specs.Prelude.{◌≡◌, map, IfOk};
 ghost use Rattle.std.specs.List.{AllZip};
-ghost use Rattle.status_memory.specs.Memory.{is_old};
+ghost use Rattle.status_memory.specs.Memory.{age_of, old_alarm};
 ghost use Rattle.status_serving.specs.Pages.{IsPageOf, IsOldOf, since_in, IsShown, IsPage, json_body, metrics_body, IsStatusText, IsStatusBody, status_kind};
 
 use crate::headings::Heading;
 use http::HeaderValue;
-use page_watching::{NoPage, Seen, Shared, cause_of, read_cause};
+use page_watching::{NoPage, Seen, Shared, cause_of, old_cause};
 use status_export::{json_text, metrics_text};
-use status_memory::{Kept, Memory};
+use status_memory::{Kept, Memory, Since};
 use status_merge::{
     Gateway, Old, merge, merge_comments, merge_downtimes, page_rows, read_query, select, sort_rows,
 };
@@ -35,7 +35,8 @@ fn page_of<'t>(
     match &memory.last {
         Some(kept) => match kept.page.text.text.page(alloc) {
             Ok(page) => Ok(Ok(page)),
-            Err(fault) => Ok(Err(read_cause(alloc, fault)?)),
+            // Its text was read before, so memory ran out.
+            Err(_) => Err(AllocError),
         },
         None => Ok(Err(cause_of(alloc, memory.fault)?)),
     }
@@ -47,19 +48,20 @@ fn old_of(
     memory: &Memory<Shared, NoPage>,
     now: u64,
 ) -> Result<Option<Old>, AllocError>
-    ensures { IfOk result (IsOldOf (is_old now memory.now) now memory.now.last memory.now.fault) }
+    ensures { IfOk result
+        (IsOldOf (old_alarm now memory.now) (age_of now memory.now) memory.now.fault) }
 {
-    match &memory.last {
-        Some(kept) if memory.is_old(now) => Ok(Some(Old {
-            age: u32::try_from(now.saturating_sub(kept.moment)).unwrap_or(u32::MAX),
-            cause: cause_of(alloc, memory.fault)?,
+    match memory.old_alarm(now) {
+        Some(alarm) => Ok(Some(Old {
+            age: memory.age(now),
+            cause: old_cause(alloc, alarm, memory.fault)?,
         })),
-        _ => Ok(None),
+        None => Ok(None),
     }
 }
 
 // Since when each object of that page has its state.
-fn since_in(last: &Option<Kept<Shared>>) -> &[u32]
+fn since_in(last: &Option<Kept<Shared>>) -> &[Since]
     ensures { result.now ≡ since_in last.now }
 {
     match last {
@@ -83,7 +85,7 @@ pub fn gateways_of<'t>(
             name: one.place.name,
             page: page_of(alloc, &one.memory)?,
             old: old_of(alloc, &one.memory, now)?,
-            most: one.memory.most,
+            alarms: one.memory.alarms(alloc, now)?,
             since: since_in(&one.memory.last),
         })?;
     }

@@ -5,15 +5,16 @@ ghost use Rattle.std.specs.Prelude.{◌≡◌, ◌++◌, map, IfOk, OnOk};
 ghost use Rattle.std.specs.List.{flat_map};
 ghost use Rattle.status_export.specs.Document.{service_json};
 ghost use Rattle.status_export.specs.Lines.{value_json};
-ghost use Rattle.status_serving.specs.Changing.{changes_in, named, changes_on, AreChanges, change_line, change_lines, IsChangesText, IsChangesBody, kind_of};
+ghost use Rattle.status_serving.specs.Changing.{changes_in, named, from_json, changes_on, AreChanges, change_line, change_lines, IsChangesText, IsChangesBody, kind_of};
 
+use crate::bodies::gateways_of;
 use crate::headings::Heading;
 use http::HeaderValue;
 use page_watching::{NoPage, Seen, Shared};
 use status_export::{Value, json_line};
 use status_memory::{GatewayChange, Memory, StateChange};
-use status_merge::Query;
-use status_reading::state_name;
+use status_merge::{Gateway, Query};
+use status_reading::{State, state_name};
 use status_view::{View, changes_feed, changes_page};
 use std::alloc::{AllocError, Global};
 
@@ -89,6 +90,16 @@ fn service_value(service: &[u8]) -> Value<'_>
     }
 }
 
+// The name of the state before a change, or `null` for an object that is new.
+fn from_value<'a>(from: Option<State>) -> Value<'a>
+    ensures { value_json result ≡ from_json from }
+{
+    match from {
+        Some(state) => Value::Word(state_name(state)),
+        None => Value::Null,
+    }
+}
+
 fn push_line(
     alloc: Global,
     lines: &mut Vec<u8>,
@@ -104,7 +115,7 @@ fn push_line(
             ("gateway", Value::Word(shown.gateway)),
             ("host", Value::Field(change.host.as_slice())),
             ("service", service_value(change.service.as_slice())),
-            ("from", Value::Word(state_name(change.from))),
+            ("from", from_value(change.from)),
             ("to", Value::Word(state_name(change.to))),
         ],
     )?;
@@ -126,12 +137,13 @@ fn change_lines(alloc: Global, changes: &[GatewayChange<'_>]) -> Result<Vec<u8>,
 fn changes_text(
     alloc: Global,
     heading: &Heading<'_>,
+    gateways: &[Gateway<'_>],
     changes: &[GatewayChange<'_>],
     clock: u32,
     form: ChangesForm,
 ) -> Result<Vec<u8>, AllocError>
     ensures { IfOk result (λ body.
-        IsChangesText heading.now changes.now clock form body.items) }
+        IsChangesText heading.now gateways.now changes.now clock form body.items) }
 {
     let query = Query::new(alloc, heading.refresh);
     let view = View {
@@ -140,7 +152,7 @@ fn changes_text(
         refresh: heading.refresh,
         marks: false,
         query: &query,
-        gateways: &[],
+        gateways,
         all: &[],
         selected: 0,
         objects: &[],
@@ -169,8 +181,16 @@ pub fn changes_body<'t>(
         IsChangesBody whole heading.now seen.now clock form body.items) }
 {
     if whole {
+        let gateways = gateways_of(alloc, seen, u64::from(clock))?;
         let changes = changes_of(alloc, seen)?;
-        changes_text(alloc, heading, changes.as_slice(), clock, form)
+        changes_text(
+            alloc,
+            heading,
+            gateways.as_slice(),
+            changes.as_slice(),
+            clock,
+            form,
+        )
     } else {
         Ok(Vec::new(alloc))
     }

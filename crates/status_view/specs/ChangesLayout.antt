@@ -1,6 +1,7 @@
 -- Changes of states: the page of them, `changes_nodes`, and their feed, `feed_nodes`, a document of Atom (RFC 4287).
 -- Own rules, but for the elements of the feed (sections 4.1 and 4.2).
-use Rattle.std.specs.Prelude.{ℕ, not, ◌==◌, List, [], ◌∷◌, ◌++◌, length, codes}
+use Rattle.std.specs.Prelude.{ℕ, not, ◌==◌, List, [], ◌∷◌, ◌++◌, length, Option, Some, None, codes}
+use Rattle.gate_model.specs.declared.state.State.{State}
 use Rattle.gate_lines.specs.Lines.{state_name}
 use Rattle.status_memory.specs.declared.history.GatewayChange.{GatewayChange}
 use Rattle.status_merge.specs.declared.query.Choice.TheVariants.{In}
@@ -10,7 +11,8 @@ use Rattle.status_view.specs.declared.layout.ChangeText.TheVariants as text
 use Rattle.status_view.specs.declared.changes.ChangeShape.{ChangeShape}
 use Rattle.status_view.specs.Layout.{NodeView, Markup, Number, Text, nodes_if, each_indexed}
 use Rattle.status_view.specs.Times.{instant_nodes, time_nodes}
-use Rattle.status_view.specs.HeadLayout.{document_nodes, title_nodes}
+use Rattle.status_view.specs.HeadLayout.{document_nodes, title_nodes, alarms_nodes}
+use Rattle.status_view.specs.Shapes.{GatewayShapeView}
 
 -- what decides the markup of a change
 abbrev pub change_shape : GatewayChange → ChangeShape
@@ -20,6 +22,11 @@ change_shape shown = record {
   from = shown.change.now.from;
   to = shown.change.now.to;
 }
+
+-- the name of the state before a change; an object that is new has none
+abbrev pub from_name : Option State → List ℕ
+from_name None = codes "-"
+from_name (Some state) = state_name state
 
 -- ---- the page
 
@@ -41,7 +48,7 @@ change_nodes index row =
     ∷ Markup (codes "</bdi>")
     ∷ [])
     ++ (Markup (codes "</td><td class=\"cell\" data-name=\"from\">")
-    ∷ Markup (state_name row.from)
+    ∷ Markup (from_name row.from)
     ∷ Markup (codes "</td><td class=\"cell\"><span class=\"badge state\">")
     ∷ Markup (state_name row.to)
     ∷ Markup (codes "</span></td><td class=\"cell soft\" data-name=\"at\">")
@@ -61,11 +68,12 @@ changes_table rows =
     ++ each_indexed change_nodes rows
     ++ (Markup (codes "</tbody></table>\n") ∷ [])
 
--- the page, which a browser asks for again after so many seconds
-unfoldable pub changes_nodes : ℕ → List ChangeShape → List NodeView
-changes_nodes refresh rows =
+-- the page, with the alarms about the gateways, which a browser asks for again after so many seconds
+unfoldable pub changes_nodes : ℕ → List GatewayShapeView → List ChangeShape → List NodeView
+changes_nodes refresh gateways rows =
     document_nodes refresh 0
-    ++ title_nodes []
+    ++ title_nodes gateways
+    ++ alarms_nodes gateways
     ++ changes_table rows
     ++ (Markup (codes "</main><footer><a href=\"/changes.json\">changes.json</a> &middot; ")
     ∷ Markup (codes "<a href=\"/changes.atom\">changes.atom</a></footer>\n</body></html>\n")
@@ -85,7 +93,7 @@ feed_id_nodes index row =
     ∷ Markup (codes "&amp;moment=")
     ∷ Number row.moment
     ∷ Markup (codes "&amp;from=")
-    ∷ Markup (state_name row.from)
+    ∷ Markup (from_name row.from)
     ∷ Markup (codes "&amp;to=")
     ∷ Markup (state_name row.to)
     ∷ Markup (codes "</id>")
@@ -97,7 +105,7 @@ feed_title_nodes index row =
     (Markup (codes "<title>") ∷ Text (slot.Change index text.Host) ∷ [])
     ++ nodes_if (not row.is_host) (Markup (codes " / ") ∷ Text (slot.Change index text.Service) ∷ [])
     ++ (Markup (codes ": ")
-    ∷ Markup (state_name row.from)
+    ∷ Markup (from_name row.from)
     ∷ Markup (codes " to ")
     ∷ Markup (state_name row.to)
     ∷ Markup (codes " at ")

@@ -1,7 +1,10 @@
 -- The head of a page: `document_nodes`, `title_nodes` and `alarms_nodes`. Own rules.
-use Rattle.std.specs.Prelude.{ℕ, ◌-◌, Bool, nat_lt, List, [], ◌∷◌, ◌++◌, Option, Some, None, codes}
+use Rattle.std.specs.Prelude.{ℕ, nat_lt, List, [], ◌∷◌, ◌++◌, Option, Some, None, codes}
+use Rattle.std.specs.List.{flat_map}
 use Rattle.status_view.specs.declared.layout.Slot.TheVariants as slot
-use Rattle.status_view.specs.declared.shape.GatewayShape.{GatewayShape}
+use Rattle.status_memory.specs.declared.alarm.Alarm.{Alarm}
+use Rattle.status_memory.specs.declared.alarm.Alarm.TheVariants.{NoPage, NoNewPage, StandsStill, ClockAhead, Closing, FewerObjects, OtherObjects}
+use Rattle.status_view.specs.Shapes.{GatewayShapeView}
 use Rattle.status_view.specs.Layout.{NodeView, Markup, Number, Text, nodes_if, each_indexed}
 use Rattle.status_view.specs.Times.{span_nodes, time_nodes}
 
@@ -39,14 +42,14 @@ page_moment_nodes index moment =
     ++ (Markup (codes "</p>") ∷ [])
 
 -- nothing where the gateway shows no page
-unfoldable pub gateway_nodes : ℕ → GatewayShape → List NodeView
+unfoldable pub gateway_nodes : ℕ → GatewayShapeView → List NodeView
 gateway_nodes index gateway = elim gateway.moment [
   | Some moment ↦ page_moment_nodes index moment
   | None ↦ []
 ]
 
 -- the header: the title, the links to the pages, and the moments; the main part begins after it
-unfoldable pub title_nodes : List GatewayShape → List NodeView
+unfoldable pub title_nodes : List GatewayShapeView → List NodeView
 title_nodes gateways =
     (Markup (codes "<header><h1><a href=\"/\">")
     ∷ Text slot.Title
@@ -85,9 +88,17 @@ still_nodes index age =
     alarm_begin index
     ++ (Markup (codes "stands still: its page is ") ∷ [])
     ++ span_nodes age
-    ++ (Markup (codes " old. Its log may be full.</p>\n") ∷ [])
+    ++ (Markup (codes " old, and its objects are stale. Its log may be full.</p>\n") ∷ [])
 
--- its page was fetched this many seconds ago, and a later fetch gave none
+-- its page's moment is this many seconds after the clock
+unfoldable pub ahead_nodes : ℕ → ℕ → List NodeView
+ahead_nodes index seconds =
+    alarm_begin index
+    ++ (Markup (codes "has a clock that is ") ∷ [])
+    ++ span_nodes seconds
+    ++ (Markup (codes " ahead: one of the two clocks is wrong. Its objects are stale.</p>\n") ∷ [])
+
+-- its page is this many seconds old, and there is no newer one
 unfoldable pub old_nodes : ℕ → ℕ → List NodeView
 old_nodes index age =
     alarm_begin index
@@ -102,26 +113,25 @@ fewer_nodes index objects most =
     ++ (Markup (codes "shows ") ∷ Number objects ∷ Markup (codes " objects, and has shown ") ∷ Number most
     ∷ Markup (codes ". Its page may be cut off.</p>\n") ∷ [])
 
--- the alarms about a gateway that shows a new page; it stands still where the page is more than 60 seconds old
-unfoldable pub page_alarms : ℕ → Bool → ℕ → List NodeView
-page_alarms index is_closing age =
-    nodes_if is_closing (closing_nodes index) ++ nodes_if (nat_lt 60 age) (still_nodes index age)
+-- one of its pages has other objects than the one before it
+unfoldable pub other_nodes : ℕ → List NodeView
+other_nodes index =
+    alarm_begin index
+    ++ (Markup (codes "shows other objects than within the hour before: its address may be another gateway's.</p>\n") ∷ [])
 
--- the alarms about a gateway whose page is of so many seconds ago; and was fetched as long ago, where it is old
-unfoldable pub age_alarms : ℕ → Bool → ℕ → Option ℕ → List NodeView
-age_alarms index is_closing seconds old = elim old [
-  | Some age ↦ old_nodes index age
-  | None ↦ page_alarms index is_closing seconds
-]
+-- the alarm about the gateway of this index
+unfoldable pub alarm_nodes : ℕ → Alarm → List NodeView
+alarm_nodes index NoPage = missing_nodes index
+alarm_nodes index (NoNewPage age) = old_nodes index age
+alarm_nodes index (StandsStill age) = still_nodes index age
+alarm_nodes index (ClockAhead seconds) = ahead_nodes index seconds
+alarm_nodes index Closing = closing_nodes index
+alarm_nodes index (FewerObjects objects most) = fewer_nodes index objects most
+alarm_nodes index OtherObjects = other_nodes index
 
--- the alarms about a gateway, at this clock
-unfoldable pub alarms_of : ℕ → ℕ → GatewayShape → List NodeView
-alarms_of clock index gateway = elim gateway.moment [
-  | Some moment ↦
-      nodes_if (nat_lt gateway.objects gateway.most) (fewer_nodes index gateway.objects gateway.most)
-      ++ age_alarms index gateway.is_closing (clock - moment) gateway.age
-  | None ↦ missing_nodes index
-]
+-- all alarms about it
+abbrev pub alarms_of : ℕ → GatewayShapeView → List NodeView
+alarms_of index gateway = flat_map (alarm_nodes index) gateway.alarms
 
-abbrev pub alarms_nodes : ℕ → List GatewayShape → List NodeView
-alarms_nodes clock gateways = each_indexed (alarms_of clock) gateways
+abbrev pub alarms_nodes : List GatewayShapeView → List NodeView
+alarms_nodes gateways = each_indexed alarms_of gateways

@@ -4,6 +4,7 @@ use Rattle.std.specs.List.{flat_map, range_with_len}
 use Rattle.gate_lines.specs.Lines.{state_name}
 use Rattle.status_reading.specs.declared.rows.ShownAcknowledgement.{ShownAcknowledgement}
 use Rattle.status_reading.specs.declared.rows.ShownAcknowledgement.TheVariants.{Missing, Normal, Sticky}
+use Rattle.status_memory.specs.declared.history.Since.{Since as SinceWhen}
 use Rattle.status_merge.specs.declared.query.Choice.TheVariants.{In}
 use Rattle.status_merge.specs.declared.query.Sort.{Sort}
 use Rattle.status_merge.specs.declared.query.Sort.TheVariants.{Worst, Host, Since, Last}
@@ -67,9 +68,20 @@ ago_nodes begin moment past =
     ++ span_nodes (moment - past)
     ++ (Markup (codes " ago</td>") ∷ [])
 
--- since when the object has its state
-unfoldable pub since_nodes : ℕ → ℕ → List NodeView
-since_nodes moment since = ago_nodes (codes "<td class=\"num cell\" data-name=\"since\" title=\"") moment since
+-- the same, where it may be longer
+unfoldable pub over_nodes : List ℕ → ℕ → ℕ → List NodeView
+over_nodes begin moment past =
+    (Markup begin ∷ [])
+    ++ moment_nodes past
+    ++ (Markup (codes "\">over ") ∷ [])
+    ++ span_nodes (moment - past)
+    ++ (Markup (codes "</td>") ∷ [])
+
+-- since when the object has its state, or at least has it
+unfoldable pub since_nodes : ℕ → SinceWhen → List NodeView
+since_nodes moment since =
+    let begin = codes "<td class=\"num cell\" data-name=\"since\" title=\"" in
+    if since.at_least then over_nodes begin moment since.moment else ago_nodes begin moment since.moment
 
 -- the age of the last result
 unfoldable pub age_nodes : ℕ → Option ℕ → List NodeView

@@ -86,7 +86,7 @@ unfoldable pub object_head_nodes : PageShapeView → List NodeView
 object_head_nodes shape =
     document_nodes shape.refresh 0
     ++ title_nodes shape.gateways
-    ++ alarms_nodes shape.clock shape.gateways
+    ++ alarms_nodes shape.gateways
     ++ rows_nodes shape.objects
 
 -- the whole page

@@ -13,7 +13,7 @@ unfoldable pub head_nodes : PageShapeView → List NodeView
 head_nodes shape =
     document_nodes shape.refresh shape.urgent
     ++ title_nodes shape.gateways
-    ++ alarms_nodes shape.clock shape.gateways
+    ++ alarms_nodes shape.gateways
     ++ summary_nodes shape
     ++ form_nodes shape
 

@@ -7,8 +7,8 @@ use Rattle.gate_model.specs.State.{is_same_state}
 use Rattle.status_reading.specs.declared.rows.ShownSource.{ShownSource}
 use Rattle.status_reading.specs.declared.rows.ShownSource.TheVariants.{User, Acknowledgement}
 use Rattle.status_reading.specs.declared.rows.ShownSource.TheVariants as source
+use Rattle.status_memory.specs.declared.alarm.Alarm.{Alarm}
 use Rattle.status_merge.specs.declared.gateway.Gateway.{Gateway}
-use Rattle.status_merge.specs.declared.gateway.Old.{Old}
 use Rattle.status_merge.specs.declared.gateway.MergedObject.{MergedObject}
 use Rattle.status_merge.specs.declared.entries.CommentLine.{CommentLine}
 use Rattle.status_merge.specs.declared.entries.DowntimeLine.{DowntimeLine}
@@ -27,6 +27,11 @@ use Rattle.status_view.specs.declared.view.View.{View}
 
 -- ---- shapes as plain values
 
+-- a gateway's, with the alarms about it
+pub record GatewayShapeView : Type 0 where
+  pub moment : Option ℕ
+  pub alarms : List Alarm
+
 -- an entry's, with its id at each gateway that has it
 pub record EntryShapeView : Type 0 where
   pub is_host : Bool
@@ -35,7 +40,6 @@ pub record EntryShapeView : Type 0 where
 
 -- a page's
 pub record PageShapeView : Type 0 where
-  pub clock : ℕ
   pub choice : Choice
   pub filters : Bool
   pub acknowledged : Option Bool
@@ -49,19 +53,21 @@ pub record PageShapeView : Type 0 where
   pub counts : Counts
   pub pending : ℕ
   pub urgent : ℕ
-  pub gateways : List GatewayShape
+  pub gateways : List GatewayShapeView
   pub objects : List ObjectShape
   pub comments : List EntryShapeView
   pub downtimes : List EntryShapeView
 
 -- ---- the values of the program's shapes
 
+abbrev pub gateway_shape_view : GatewayShape → GatewayShapeView
+gateway_shape_view shape = record { moment = shape.moment; alarms = shape.alarms.items }
+
 abbrev pub entry_shape_view : EntryShape → EntryShapeView
 entry_shape_view shape = record { is_host = shape.is_host; marks = shape.marks; ids = shape.ids.items }
 
 abbrev pub shape_view : PageShape → PageShapeView
 shape_view shape = record {
-  clock = shape.clock;
   choice = shape.choice;
   filters = shape.filters;
   acknowledged = shape.acknowledged;
@@ -75,7 +81,7 @@ shape_view shape = record {
   counts = shape.counts;
   pending = shape.pending;
   urgent = shape.urgent;
-  gateways = shape.gateways.items;
+  gateways = map gateway_shape_view shape.gateways.items;
   objects = shape.objects.items;
   comments = map entry_shape_view shape.comments.items;
   downtimes = map entry_shape_view shape.downtimes.items;
@@ -83,23 +89,13 @@ shape_view shape = record {
 
 -- ---- the shape of what is shown
 
--- the age of an old page
-abbrev pub old_age : Option Old → Option ℕ
-old_age None = None
-old_age (Some old) = Some old.age
+-- the moment of a gateway's page, where there is one
+abbrev pub moment_of : Gateway → Option ℕ
+moment_of gateway = elim gateway.page [ Ok page ↦ Some page.moment | Err cause ↦ None ]
 
 -- the shape of a gateway's lines
-abbrev pub gateway_shape : Gateway → GatewayShape
-gateway_shape gateway = elim gateway.page [
-  | Ok page ↦ record {
-    moment = Some page.moment;
-    is_closing = is_some page.closing;
-    age = old_age gateway.old;
-    objects = length page.objects.items;
-    most = gateway.most;
-  }
-  | Err cause ↦ record { moment = None; is_closing = false; age = None; objects = 0; most = 0 }
-]
+abbrev pub gateway_shape : Gateway → GatewayShapeView
+gateway_shape gateway = record { moment = moment_of gateway; alarms = gateway.alarms.items }
 
 -- an unhandled problem, or a stale object that is no problem, needs attention: the ranks 0 to 4
 abbrev pub is_urgent : MergedObject → Bool
@@ -184,7 +180,6 @@ has_filters asked =
 -- the shape of a page: the counts are those of all objects, and the rows those of its page
 abbrev pub page_shape : View → PageShapeView
 page_shape view = record {
-  clock = view.clock;
   choice = view.query.now.choice;
   filters = has_filters (asked_by view.query.now);
   acknowledged = view.query.now.acknowledged;

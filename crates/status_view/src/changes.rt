@@ -2,12 +2,15 @@
 
 ghost use Rattle.std.specs.Prelude.{◌≡◌, ◌++◌, map, OnOk, IfOk};
 ghost use Rattle.status_view.specs.Layout.{each_indexed};
-ghost use Rattle.status_view.specs.ChangesLayout.{change_shape, change_nodes, changes_table, changes_nodes, feed_id_nodes, feed_title_nodes, feed_entry_nodes, updated_at, feed_nodes};
+ghost use Rattle.status_view.specs.ChangesLayout.{change_shape, from_name, change_nodes, changes_table, changes_nodes, feed_id_nodes, feed_title_nodes, feed_entry_nodes, updated_at, feed_nodes};
+ghost use Rattle.status_view.specs.Shapes.{gateway_shape_view, gateway_shape};
 ghost use Rattle.status_view.specs.Filling.{filled, html_bytes};
 
 use crate::filling::fill;
-use crate::head_layout::{lay_out_document, lay_out_title};
+use crate::head_layout::{lay_out_alarms, lay_out_document, lay_out_title};
+use crate::html::gateway_shapes;
 use crate::layout::{ChangeText, Layout, Node, Slot};
+use crate::shape::GatewayShape;
 use crate::times::{lay_out_instant, lay_out_time};
 use crate::view::View;
 use html_text::Html;
@@ -21,7 +24,8 @@ use std::alloc::{AllocError, Global};
 pub struct ChangeShape {
     pub is_host: bool,
     pub moment: u32,
-    pub from: State,
+    /// None where the object is new.
+    pub from: Option<State>,
     pub to: State,
 }
 
@@ -51,6 +55,16 @@ pub fn change_shapes(
     Ok(shapes)
 }
 
+/// The name of a state before a change: `-` of an object that is new.
+fn from_name(from: Option<State>) -> &'static str
+    ensures { result.now ≡ from_name from }
+{
+    match from {
+        Some(state) => state_name(state),
+        None => "-",
+    }
+}
+
 fn lay_out_change(layout: &mut Layout, row: &ChangeShape, index: usize) -> Result<(), AllocError>
     ensures { OnOk result (layout.new ≡ layout.old ++ change_nodes index row.now) }
 {
@@ -77,7 +91,7 @@ fn lay_out_change(layout: &mut Layout, row: &ChangeShape, index: usize) -> Resul
     )?;
     layout.put(&[
         Node::Markup("</td><td class=\"cell\" data-name=\"from\">"),
-        Node::Markup(state_name(row.from)),
+        Node::Markup(from_name(row.from)),
         Node::Markup("</td><td class=\"cell\"><span class=\"badge state\">"),
         Node::Markup(state_name(row.to)),
         Node::Markup("</span></td><td class=\"cell soft\" data-name=\"at\">"),
@@ -116,11 +130,18 @@ pub fn lay_out_changes_table(layout: &mut Layout, rows: &[ChangeShape]) -> Resul
     layout.put(&[Node::Markup("</tbody></table>\n")])
 }
 
-fn lay_out_page(layout: &mut Layout, refresh: u32, rows: &[ChangeShape]) -> Result<(), AllocError>
-    ensures { OnOk result (layout.new ≡ layout.old ++ changes_nodes refresh rows.now) }
+fn lay_out_page(
+    layout: &mut Layout,
+    refresh: u32,
+    gateways: &[GatewayShape],
+    rows: &[ChangeShape],
+) -> Result<(), AllocError>
+    ensures { OnOk result (layout.new ≡ layout.old
+        ++ changes_nodes refresh (map gateway_shape_view gateways.now) rows.now) }
 {
     lay_out_document(layout, refresh, 0)?;
-    lay_out_title(layout, &[])?;
+    lay_out_title(layout, gateways)?;
+    lay_out_alarms(layout, gateways)?;
     lay_out_changes_table(layout, rows)?;
     layout.put(&[
         Node::Markup("</main><footer><a href=\"/changes.json\">changes.json</a> &middot; "),
@@ -131,12 +152,18 @@ fn lay_out_page(layout: &mut Layout, refresh: u32, rows: &[ChangeShape]) -> Resu
 /// The page of changes for a browser. The only error is out of memory.
 pub fn changes_page(alloc: Global, view: &View<'_>) -> Result<Html, AllocError>
     ensures { let view = view.entry.now in IfOk result (λ html. html
-        ≡ html_bytes (filled view
-        (changes_nodes view.refresh (map change_shape view.changes.now)))) }
+        ≡ html_bytes (filled view (changes_nodes view.refresh
+        (map gateway_shape view.gateways.now) (map change_shape view.changes.now)))) }
 {
+    let gateways = gateway_shapes(alloc, view.gateways)?;
     let rows = change_shapes(alloc, view.changes)?;
     let mut layout = Layout::new(alloc);
-    lay_out_page(&mut layout, view.refresh, rows.as_slice())?;
+    lay_out_page(
+        &mut layout,
+        view.refresh,
+        gateways.as_slice(),
+        rows.as_slice(),
+    )?;
     fill(alloc, &layout, view)
 }
 
@@ -153,7 +180,7 @@ fn lay_out_feed_id(layout: &mut Layout, row: &ChangeShape, index: usize) -> Resu
         Node::Markup("&amp;moment="),
         Node::Number(u64::from(row.moment)),
         Node::Markup("&amp;from="),
-        Node::Markup(state_name(row.from)),
+        Node::Markup(from_name(row.from)),
         Node::Markup("&amp;to="),
         Node::Markup(state_name(row.to)),
         Node::Markup("</id>"),
@@ -180,7 +207,7 @@ fn lay_out_feed_title(
     )?;
     layout.put(&[
         Node::Markup(": "),
-        Node::Markup(state_name(row.from)),
+        Node::Markup(from_name(row.from)),
         Node::Markup(" to "),
         Node::Markup(state_name(row.to)),
         Node::Markup(" at "),

@@ -1,12 +1,15 @@
 //! The head of a page: the document's head, its title and the alarms about gateways.
 
-ghost use Rattle.std.specs.Prelude.{◌≡◌, ◌++◌, nat_lt, OnOk};
+ghost use Rattle.std.specs.Prelude.{◌≡◌, ◌++◌, map, OnOk};
+ghost use Rattle.std.specs.List.{flat_map};
 ghost use Rattle.status_view.specs.Layout.{nodes_if, each_indexed};
-ghost use Rattle.status_view.specs.HeadLayout.{refresh_nodes, unhandled_nodes, document_nodes, page_moment_nodes, gateway_nodes, title_nodes, alarm_begin, missing_nodes, closing_nodes, still_nodes, old_nodes, fewer_nodes, page_alarms, age_alarms, alarms_of, alarms_nodes};
+ghost use Rattle.status_view.specs.Shapes.{gateway_shape_view};
+ghost use Rattle.status_view.specs.HeadLayout.{refresh_nodes, unhandled_nodes, document_nodes, page_moment_nodes, gateway_nodes, title_nodes, alarm_begin, missing_nodes, closing_nodes, still_nodes, ahead_nodes, old_nodes, fewer_nodes, other_nodes, alarm_nodes, alarms_nodes};
 
 use crate::layout::{Layout, Node, Slot};
 use crate::shape::GatewayShape;
 use crate::times::{lay_out_span, lay_out_time};
+use status_memory::Alarm;
 use std::alloc::AllocError;
 
 #[tactic(auto, unfolding(crate::specs::HeadLayout::refresh_nodes))]
@@ -81,7 +84,8 @@ fn lay_out_gateway(
     gateway: &GatewayShape,
     index: usize,
 ) -> Result<(), AllocError>
-    ensures { OnOk result (layout.new ≡ layout.old ++ gateway_nodes index gateway.now) }
+    ensures { OnOk result (layout.new
+        ≡ layout.old ++ gateway_nodes index (gateway_shape_view gateway.now)) }
 {
     match gateway.moment {
         Some(moment) => lay_out_page_moment(layout, index, moment),
@@ -90,7 +94,8 @@ fn lay_out_gateway(
 }
 
 fn lay_out_gateways(layout: &mut Layout, gateways: &[GatewayShape]) -> Result<(), AllocError>
-    ensures { OnOk result (layout.new ≡ layout.old ++ each_indexed gateway_nodes gateways.now) }
+    ensures { OnOk result (layout.new
+        ≡ layout.old ++ each_indexed gateway_nodes (map gateway_shape_view gateways.now)) }
 {
     for (index, gateway) in gateways.iter().enumerate() {
         lay_out_gateway(layout, gateway, index)?;
@@ -100,7 +105,8 @@ fn lay_out_gateways(layout: &mut Layout, gateways: &[GatewayShape]) -> Result<()
 
 /// Appends the header: the title, the links to the pages, and the moment of each gateway's page.
 pub fn lay_out_title(layout: &mut Layout, gateways: &[GatewayShape]) -> Result<(), AllocError>
-    ensures { OnOk result (layout.new ≡ layout.old ++ title_nodes gateways.now) }
+    ensures { OnOk result (layout.new
+        ≡ layout.old ++ title_nodes (map gateway_shape_view gateways.now)) }
 {
     layout.put(&[
         Node::Markup("<header><h1><a href=\"/\">"),
@@ -141,47 +147,24 @@ fn lay_out_closing(layout: &mut Layout, index: usize) -> Result<(), AllocError>
     layout.put(&[Node::Markup("is closing.</p>\n")])
 }
 
-fn lay_out_closing_if(layout: &mut Layout, index: usize, is_closing: bool) -> Result<(), AllocError>
-    ensures { OnOk result (layout.new
-        ≡ layout.old ++ nodes_if is_closing (closing_nodes index)) }
-{
-    if is_closing {
-        lay_out_closing(layout, index)
-    } else {
-        Ok(())
-    }
-}
-
 fn lay_out_still(layout: &mut Layout, index: usize, age: u32) -> Result<(), AllocError>
     ensures { OnOk result (layout.new ≡ layout.old ++ still_nodes index age) }
 {
     begin_alarm(layout, index)?;
     layout.put(&[Node::Markup("stands still: its page is ")])?;
     lay_out_span(layout, age)?;
-    layout.put(&[Node::Markup(" old. Its log may be full.</p>\n")])
+    layout.put(&[Node::Markup(" old, and its objects are stale. Its log may be full.</p>\n")])
 }
 
-fn lay_out_still_if(layout: &mut Layout, index: usize, age: u32) -> Result<(), AllocError>
-    ensures { OnOk result (layout.new
-        ≡ layout.old ++ nodes_if (nat_lt 60 age) (still_nodes index age)) }
+fn lay_out_ahead(layout: &mut Layout, index: usize, seconds: u32) -> Result<(), AllocError>
+    ensures { OnOk result (layout.new ≡ layout.old ++ ahead_nodes index seconds) }
 {
-    if age > 60 {
-        lay_out_still(layout, index, age)
-    } else {
-        Ok(())
-    }
-}
-
-fn lay_out_page_alarms(
-    layout: &mut Layout,
-    index: usize,
-    is_closing: bool,
-    age: u32,
-) -> Result<(), AllocError>
-    ensures { OnOk result (layout.new ≡ layout.old ++ page_alarms index is_closing age) }
-{
-    lay_out_closing_if(layout, index, is_closing)?;
-    lay_out_still_if(layout, index, age)
+    begin_alarm(layout, index)?;
+    layout.put(&[Node::Markup("has a clock that is ")])?;
+    lay_out_span(layout, seconds)?;
+    layout.put(&[Node::Markup(
+        " ahead: one of the two clocks is wrong. Its objects are stale.</p>\n",
+    )])
 }
 
 fn lay_out_old(layout: &mut Layout, index: usize, age: u32) -> Result<(), AllocError>
@@ -215,66 +198,46 @@ fn lay_out_fewer(
     ])
 }
 
-fn lay_out_fewer_if(
-    layout: &mut Layout,
-    index: usize,
-    objects: usize,
-    most: usize,
-) -> Result<(), AllocError>
-    ensures { OnOk result (layout.new
-        ≡ layout.old ++ nodes_if (nat_lt objects most) (fewer_nodes index objects most)) }
+fn lay_out_other(layout: &mut Layout, index: usize) -> Result<(), AllocError>
+    ensures { OnOk result (layout.new ≡ layout.old ++ other_nodes index) }
 {
-    if objects < most {
-        lay_out_fewer(layout, index, objects, most)
-    } else {
-        Ok(())
+    begin_alarm(layout, index)?;
+    layout.put(&[Node::Markup(
+        "shows other objects than within the hour before: its address may be another gateway's.</p>\n",
+    )])
+}
+
+#[tactic(auto, unfolding(crate::specs::HeadLayout::alarm_nodes))]
+fn lay_out_alarm(layout: &mut Layout, index: usize, alarm: Alarm) -> Result<(), AllocError>
+    ensures { OnOk result (layout.new ≡ layout.old ++ alarm_nodes index alarm) }
+{
+    match alarm {
+        Alarm::NoPage => lay_out_missing(layout, index),
+        Alarm::NoNewPage(age) => lay_out_old(layout, index, age),
+        Alarm::StandsStill(age) => lay_out_still(layout, index, age),
+        Alarm::ClockAhead(seconds) => lay_out_ahead(layout, index, seconds),
+        Alarm::Closing => lay_out_closing(layout, index),
+        Alarm::FewerObjects(objects, most) => lay_out_fewer(layout, index, objects, most),
+        Alarm::OtherObjects => lay_out_other(layout, index),
     }
 }
 
-#[tactic(auto, unfolding(crate::specs::HeadLayout::age_alarms))]
-fn lay_out_age_alarms(
-    layout: &mut Layout,
-    index: usize,
-    gateway: &GatewayShape,
-    age: u32,
-) -> Result<(), AllocError>
-    ensures { OnOk result (layout.new ≡ layout.old
-        ++ age_alarms index gateway.now.is_closing age gateway.now.age) }
+fn lay_out_alarms_of(layout: &mut Layout, index: usize, alarms: &[Alarm]) -> Result<(), AllocError>
+    ensures { OnOk result (layout.new ≡ layout.old ++ flat_map (alarm_nodes index) alarms.now) }
 {
-    match gateway.age {
-        Some(old) => lay_out_old(layout, index, old),
-        None => lay_out_page_alarms(layout, index, gateway.is_closing, age),
+    for alarm in alarms {
+        lay_out_alarm(layout, index, *alarm)?;
     }
-}
-
-#[tactic(auto, unfolding(crate::specs::HeadLayout::alarms_of, crate::specs::HeadLayout::age_alarms))]
-fn lay_out_alarms_of(
-    layout: &mut Layout,
-    gateway: &GatewayShape,
-    index: usize,
-    clock: u32,
-) -> Result<(), AllocError>
-    ensures { OnOk result (layout.new ≡ layout.old ++ alarms_of clock index gateway.now) }
-{
-    match gateway.moment {
-        Some(moment) => {
-            lay_out_fewer_if(layout, index, gateway.objects, gateway.most)?;
-            lay_out_age_alarms(layout, index, gateway, clock.saturating_sub(moment))
-        }
-        None => lay_out_missing(layout, index),
-    }
+    Ok(())
 }
 
 /// Appends the alarms about gateways.
-pub fn lay_out_alarms(
-    layout: &mut Layout,
-    gateways: &[GatewayShape],
-    clock: u32,
-) -> Result<(), AllocError>
-    ensures { OnOk result (layout.new ≡ layout.old ++ alarms_nodes clock gateways.now) }
+pub fn lay_out_alarms(layout: &mut Layout, gateways: &[GatewayShape]) -> Result<(), AllocError>
+    ensures { OnOk result (layout.new
+        ≡ layout.old ++ alarms_nodes (map gateway_shape_view gateways.now)) }
 {
     for (index, gateway) in gateways.iter().enumerate() {
-        lay_out_alarms_of(layout, gateway, index, clock)?;
+        lay_out_alarms_of(layout, index, gateway.alarms.as_slice())?;
     }
     Ok(())
 }

@@ -4,7 +4,7 @@ ghost use Rattle.std.specs.Str.{bytes_eq};
 ghost use Rattle.gate_model.specs.State.{is_same_state};
 ghost use Rattle.status_merge.specs.Asking.{asked_by};
 ghost use Rattle.status_view.specs.declared.view.View.{View as Shown};
-ghost use Rattle.status_view.specs.Shapes.{entry_shape_view, shape_view, old_age, gateway_shape, is_urgent, is_reason, is_reason_of, reason_of, object_shape, comment_shape, downtime_shape, has_filters, page_shape};
+ghost use Rattle.status_view.specs.Shapes.{entry_shape_view, gateway_shape_view, shape_view, moment_of, gateway_shape, is_urgent, is_reason, is_reason_of, reason_of, object_shape, comment_shape, downtime_shape, has_filters, page_shape};
 ghost use Rattle.status_view.specs.SummaryLayout.{tiles_of, CountsSelected};
 ghost use Rattle.status_merge.specs.Objects.{HasOwnState};
 ghost use Rattle.status_view.specs.Page.{page_nodes};
@@ -18,39 +18,28 @@ use crate::shape::{
 use crate::view::View;
 use html_text::Html;
 use status_merge::{
-    CommentLine, DowntimeLine, Gateway, MergedObject, Old, Origin, Query, count, is_made, rank,
+    CommentLine, DowntimeLine, Gateway, MergedObject, Origin, Query, count, is_made, rank,
 };
 use status_reading::{ShownSource, State};
 use std::alloc::{AllocError, Global};
 
-fn old_age(old: &Option<Old>) -> Option<u32>
-    ensures { result ≡ old_age old.now }
+// The moment of a gateway's page, where there is one.
+fn moment_of(gateway: &Gateway<'_>) -> Option<u32>
+    ensures { result ≡ moment_of gateway.now }
 {
-    match old {
-        Some(old) => Some(old.age),
-        None => None,
+    match &gateway.page {
+        Ok(page) => Some(page.moment),
+        Err(_) => None,
     }
 }
 
-fn gateway_shape(gateway: &Gateway<'_>) -> GatewayShape
-    ensures { result ≡ gateway_shape gateway.now }
+fn gateway_shape(alloc: Global, gateway: &Gateway<'_>) -> Result<GatewayShape, AllocError>
+    ensures { IfOk result (λ shape. gateway_shape_view shape ≡ gateway_shape gateway.now) }
 {
-    match &gateway.page {
-        Ok(page) => GatewayShape {
-            moment: Some(page.moment),
-            is_closing: page.closing.is_some(),
-            age: old_age(&gateway.old),
-            objects: page.objects.len(),
-            most: gateway.most,
-        },
-        Err(_) => GatewayShape {
-            moment: None,
-            is_closing: false,
-            age: None,
-            objects: 0,
-            most: 0,
-        },
-    }
+    Ok(GatewayShape {
+        moment: moment_of(gateway),
+        alarms: Vec::from_slice(alloc, gateway.alarms.as_slice())?,
+    })
 }
 
 fn is_reason(source: ShownSource) -> bool
@@ -172,12 +161,17 @@ fn object_shapes(
     Ok(shapes)
 }
 
-fn gateway_shapes(alloc: Global, gateways: &[Gateway<'_>]) -> Result<Vec<GatewayShape>, AllocError>
-    ensures { IfOk result (λ shapes. shapes.items ≡ map gateway_shape gateways.now) }
+/// What decides the markup of gateways' lines. The only error is out of memory.
+pub fn gateway_shapes(
+    alloc: Global,
+    gateways: &[Gateway<'_>],
+) -> Result<Vec<GatewayShape>, AllocError>
+    ensures { IfOk result (λ shapes.
+        map gateway_shape_view shapes.items ≡ map gateway_shape gateways.now) }
 {
     let mut shapes = Vec::new(alloc);
     for gateway in gateways {
-        shapes.push(gateway_shape(gateway))?;
+        shapes.push(gateway_shape(alloc, gateway)?)?;
     }
     Ok(shapes)
 }
@@ -239,7 +233,6 @@ pub fn shape_of(alloc: Global, view: &View<'_>) -> Result<PageShape, AllocError>
     ensures { IfOk result (λ shape. shape_view shape ≡ page_shape view.entry.now) }
 {
     Ok(PageShape {
-        clock: view.clock,
         choice: view.query.choice,
         filters: has_filters(view.query),
         acknowledged: view.query.acknowledged,

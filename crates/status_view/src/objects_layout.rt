@@ -1,14 +1,15 @@
 //! The rows of objects.
 
-ghost use Rattle.std.specs.Prelude.{◌≡◌, ◌++◌, ◌<◌, OnOk, Some};
+ghost use Rattle.std.specs.Prelude.{◌≡◌, ◌++◌, ◌<◌, nat_lt, length, map, OnOk, Some};
 ghost use Rattle.std.specs.List.{flat_map, range_with_len};
 ghost use Rattle.status_view.specs.Layout.{each_indexed};
-ghost use Rattle.status_view.specs.Shapes.{shape_view};
-ghost use Rattle.status_view.specs.ObjectsLayout.{object_name_nodes, acknowledgement_nodes, reason_nodes, marks_nodes, ago_nodes, since_nodes, age_nodes, output_nodes, object_nodes, same_sort, direction, column_nodes, objects_table, number_nodes, numbers_nodes, pages_nodes, to_marks_nodes, objects_nodes};
+ghost use Rattle.status_view.specs.Shapes.{gateway_shape_view, shape_view};
+ghost use Rattle.status_view.specs.ObjectsLayout.{object_name_nodes, acknowledgement_nodes, reason_nodes, marks_nodes, ago_nodes, over_nodes, since_nodes, age_nodes, output_nodes, object_nodes, same_sort, direction, column_nodes, objects_table, number_nodes, numbers_nodes, pages_nodes, to_marks_nodes, objects_nodes};
 
 use crate::layout::{EntryList, EntryText, Layout, Node, ObjectText, Slot};
-use crate::shape::{ObjectShape, PageShape};
+use crate::shape::{GatewayShape, ObjectShape, PageShape};
 use crate::times::{lay_out_moment, lay_out_span};
+use status_memory::Since;
 use status_merge::{Choice, Sort, choice_name};
 use status_reading::{ShownAcknowledgement, state_name};
 use std::alloc::AllocError;
@@ -106,12 +107,31 @@ fn lay_out_ago(
     layout.put(&[Node::Markup(" ago</td>")])
 }
 
+fn lay_out_over(
+    layout: &mut Layout,
+    begin: &'static str,
+    moment: u32,
+    past: u32,
+) -> Result<(), AllocError>
+    ensures { OnOk result (layout.new ≡ layout.old ++ over_nodes begin.now moment past) }
+{
+    layout.put(&[Node::Markup(begin)])?;
+    lay_out_moment(layout, past)?;
+    layout.put(&[Node::Markup("\">over ")])?;
+    lay_out_span(layout, moment.saturating_sub(past))?;
+    layout.put(&[Node::Markup("</td>")])
+}
+
 #[tactic(auto, unfolding(crate::specs::ObjectsLayout::since_nodes))]
-fn lay_out_since(layout: &mut Layout, moment: u32, since: u32) -> Result<(), AllocError>
+fn lay_out_since(layout: &mut Layout, moment: u32, since: Since) -> Result<(), AllocError>
     ensures { OnOk result (layout.new ≡ layout.old ++ since_nodes moment since) }
 {
     let begin = "<td class=\"num cell\" data-name=\"since\" title=\"";
-    lay_out_ago(layout, begin, moment, since)
+    if since.at_least {
+        lay_out_over(layout, begin, moment, since.moment)
+    } else {
+        lay_out_ago(layout, begin, moment, since.moment)
+    }
 }
 
 #[tactic(auto, unfolding(crate::specs::ObjectsLayout::age_nodes))]
@@ -333,12 +353,18 @@ fn lay_out_to_marks(layout: &mut Layout, marks: bool, shown: u32) -> Result<(), 
     )
 }
 
+fn are_several(gateways: &[GatewayShape]) -> bool
+    ensures { result ≡ nat_lt 1 (length (map gateway_shape_view gateways.now)) }
+{
+    gateways.len() > 1
+}
+
 /// Appends the list of objects.
 pub fn lay_out_objects(layout: &mut Layout, shape: &PageShape) -> Result<(), AllocError>
     ensures { OnOk result (layout.new ≡ layout.old ++ objects_nodes (shape_view shape.now)) }
 {
     let rows = shape.objects.as_slice();
-    let several = shape.gateways.as_slice().len() > 1;
+    let several = are_several(shape.gateways.as_slice());
     layout.put(&[
         Node::Markup("<table><caption><h2>Hosts and services</h2>"),
         Node::Number(rows.len() as u64),

@@ -154,7 +154,7 @@ fn lay_out_head(layout: &mut Layout, shape: &PageShape) -> Result<(), AllocError
     let rows = shape.objects.as_slice();
     lay_out_document(layout, shape.refresh, 0)?;
     lay_out_title(layout, gateways)?;
-    lay_out_alarms(layout, gateways, shape.clock)?;
+    lay_out_alarms(layout, gateways)?;
     lay_out_rows(layout, rows)
 }
 

@@ -7,22 +7,17 @@ use crate::layout::{EntryList, Layout, Node};
 use crate::lists_layout::lay_out_entries;
 use crate::objects_layout::lay_out_objects;
 use crate::summary_layout::{lay_out_form, lay_out_summary};
+use status_memory::{Alarm, Since};
 use status_merge::{Choice, Counts, Sort};
 use status_reading::{ShownAcknowledgement, ShownSource, State};
 use std::alloc::{AllocError, Global};
 
 /// What decides the markup of a gateway's lines: no text is in it.
-#[derive(Clone, Copy)]
+#[derive(Drop)]
 pub struct GatewayShape {
     /// The moment of its page, where there is one.
     pub moment: Option<u32>,
-    pub is_closing: bool,
-    /// How many seconds ago its page was fetched, where that is old.
-    pub age: Option<u32>,
-    /// How many objects its page shows.
-    pub objects: usize,
-    /// The most objects that a page of it has shown.
-    pub most: usize,
+    pub alarms: Vec<Alarm>,
 }
 
 /// What decides the markup of an object's row: no text is in it.
@@ -43,7 +38,7 @@ pub struct ObjectShape {
     pub is_urgent: bool,
     /// The moment of the page.
     pub moment: u32,
-    pub since: u32,
+    pub since: Since,
 }
 
 /// What a comment's row shows beside its texts. The moment is in seconds since 1970.
@@ -87,8 +82,6 @@ pub struct EntryShape {
 /// can change a tag.
 #[derive(Drop)]
 pub struct PageShape {
-    /// The clock of the program, in seconds since 1970.
-    pub clock: u32,
     pub choice: Choice,
     /// Whether the query asks for more than a state and a host, and what it asks of the marks.
     pub filters: bool,
@@ -121,7 +114,7 @@ fn lay_out_head(layout: &mut Layout, shape: &PageShape) -> Result<(), AllocError
     let gateways = shape.gateways.as_slice();
     lay_out_document(layout, shape.refresh, shape.urgent)?;
     lay_out_title(layout, gateways)?;
-    lay_out_alarms(layout, gateways, shape.clock)?;
+    lay_out_alarms(layout, gateways)?;
     lay_out_summary(layout, shape)?;
     lay_out_form(layout, shape)
 }

@@ -57,7 +57,13 @@ fn observe(
 ) {
     memory.observe(Fetch {
         moment,
-        page: Ok(Page { text, objects }),
+        page: Ok(Page {
+            text,
+            moment: 100,
+            objects,
+            closing: false,
+            is_other: false,
+        }),
     });
 }
 
@@ -72,8 +78,8 @@ fn is_two_of_110(memory: &Memory<&'static str, &'static str>) -> bool {
 fn the_last_page_stays_and_is_old_after_60_seconds(rt: HostRuntime) {
     let mut memory: Memory<&'static str, &'static str> = Memory::new();
     observe(&mut memory, 100, "one", 3);
-    assert!(rt; !memory.is_old(160));
-    assert!(rt; memory.is_old(161));
+    assert!(rt; memory.old_alarm(160).is_none());
+    assert!(rt; memory.old_alarm(161).is_some());
     observe(&mut memory, 110, "two", 2);
     memory.observe(Fetch {
         moment: 115,
@@ -82,5 +88,19 @@ fn the_last_page_stays_and_is_old_after_60_seconds(rt: HostRuntime) {
     assert!(rt; is_two_of_110(&memory));
     assert!(rt; memory.fault == Some("slow"));
     assert!(rt; memory.most == 3);
-    assert!(rt; memory.is_old(116));
+    assert!(rt; memory.old_alarm(116).is_some());
+}
+
+#[test]
+fn fewer_objects_are_accepted_after_an_hour_of_pages_that_agree(rt: HostRuntime) {
+    let mut memory: Memory<&'static str, &'static str> = Memory::new();
+    observe(&mut memory, 100, "whole", 3);
+    observe(&mut memory, 110, "cut", 2);
+    observe(&mut memory, 3709, "cut", 2);
+    assert!(rt; memory.most == 3);
+    observe(&mut memory, 3710, "cut", 2);
+    assert!(rt; memory.most == 2);
+    observe(&mut memory, 3720, "whole", 3);
+    observe(&mut memory, 3730, "cut", 2);
+    assert!(rt; memory.most == 3);
 }

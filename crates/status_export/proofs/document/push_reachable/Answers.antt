@@ -8,4 +8,5 @@ returns c =
     last _ _ _ _ _ _ c.in_ok-flag.ensures (
     last _ _ _ _ _ _ c.in_ok-number.ensures (
     last _ _ _ _ _ _ c.in_ok-optional.ensures (
-    one _ _ _ _ c.end_object.ensures)))))
+    last _ _ _ _ _ _ c.in_ok-push_alarms.ensures (
+    one _ _ _ _ c.end_object.ensures))))))

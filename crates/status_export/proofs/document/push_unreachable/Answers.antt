@@ -7,4 +7,5 @@ returns c =
     last _ _ _ _ _ _ c.in_ok-text.ensures (
     last _ _ _ _ _ _ c.in_ok-flag.ensures (
     last _ _ _ _ _ _ c.in_ok-text-2.ensures (
-    one _ _ _ _ c.end_object.ensures))))
+    last _ _ _ _ _ _ c.in_ok-push_alarms.ensures (
+    one _ _ _ _ c.end_object.ensures)))))

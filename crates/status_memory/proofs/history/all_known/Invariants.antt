@@ -4,5 +4,5 @@ use Rattle.status_memory.proofs.history.all_known.Given as goal
 
 abbrev pub invariant-loop-row : goal.invariant-loop-row
 invariant-loop-row l =
-    map known_view l.known.items ++ map (known_at l.found l.moment) (drop l.row-index l.rows)
-    ≡ map (known_at l.found l.moment) l.rows
+    map known_view l.known.items ++ map (known_at l.had_page l.found l.moment) (drop l.row-index l.rows)
+    ≡ map (known_at l.had_page l.found l.moment) l.rows

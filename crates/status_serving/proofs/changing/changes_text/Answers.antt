@@ -10,7 +10,7 @@ returns-in-Html c =
       refresh = c.args.heading.now.refresh;
       marks = false;
       query = record { ref_ptr = (0, 0); now = c.new-query.result };
-      gateways = record { ref_ptr = (0, 0); now = [] };
+      gateways = c.args.gateways;
       all = record { ref_ptr = (0, 0); now = [] };
       selected = 0;
       objects = record { ref_ptr = (0, 0); now = [] };
@@ -20,7 +20,7 @@ returns-in-Html c =
     } in
     rw c.in-Html.is (
       view,
-      record { title = refl; clock = refl; refresh = refl; changes = refl },
+      record { title = refl; clock = refl; refresh = refl; pages = refl; changes = refl },
       c.into_bytes.ensures ∙ c.in_ok-changes_page-in-Html.ensures,
     )
 
@@ -32,7 +32,7 @@ returns-in-Feed c =
       refresh = c.args.heading.now.refresh;
       marks = false;
       query = record { ref_ptr = (0, 0); now = c.new-query.result };
-      gateways = record { ref_ptr = (0, 0); now = [] };
+      gateways = c.args.gateways;
       all = record { ref_ptr = (0, 0); now = [] };
       selected = 0;
       objects = record { ref_ptr = (0, 0); now = [] };
@@ -42,6 +42,6 @@ returns-in-Feed c =
     } in
     rw c.in-Feed.is (
       view,
-      record { title = refl; clock = refl; refresh = refl; changes = refl },
+      record { title = refl; clock = refl; refresh = refl; pages = refl; changes = refl },
       c.into_bytes-in-Feed.ensures ∙ c.in_ok-changes_feed-in-Feed.ensures,
     )

@@ -12,8 +12,8 @@ returns c =
       c.as_slice.ensures.value,
       c.service_value.ensures,
       c.as_slice-2.ensures.value,
+      c.from_value.ensures,
       c.state_name.ensures,
-      c.state_name-2.ensures,
     ) at c.in_ok-line.ensures in
     c.in_ok-push.ensures.items
     ∙ ap (λ (items : List ℕ). items ++ 10 ∷ []) (c.in_ok-extend_from_slice.ensures.items

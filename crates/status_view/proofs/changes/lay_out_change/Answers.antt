@@ -13,4 +13,4 @@ returns c =
       c.in_ok-lay_out_time.ensures,
       c.in_ok-put-2.ensures,
       c.in_ok-put.ensures,
-    ) (simp (append_assoc, c.choice_name.ensures.word, c.state_name.ensures, c.state_name-2.ensures)))
+    ) (simp (append_assoc, c.choice_name.ensures.word, c.from_name.ensures, c.state_name.ensures)))

@@ -7,4 +7,4 @@ pub returns : goal.returns
 unfolding feed_id_nodes
 returns c =
     ended c.put.result _ _ (c.args.layout.now ++ feed_id_nodes c.args.index c.args.row.now) c.put.ensures
-    (simp (c.from.ensures, c.state_name.ensures, c.state_name-2.ensures))
+    (simp (c.from.ensures, c.from_name.ensures, c.state_name.ensures))

@@ -10,4 +10,4 @@ returns c =
     (rw (
       c.in_ok-put_if.ensures,
       c.in_ok-put.ensures,
-    ) (simp (append_assoc, c.state_name.ensures, c.state_name-2.ensures)))
+    ) (simp (append_assoc, c.from_name.ensures, c.state_name.ensures)))

@@ -11,4 +11,9 @@ returns c =
     (c.args.layout.now ++ objects_nodes (shape_view c.args.shape.now))
     c.lay_out_pages.ensures
     (rw (c.in_ok-lay_out_table.ensures, c.in_ok-put-2.ensures, c.in_ok-lay_out_to_marks.ensures, c.in_ok-put.ensures)
-    (simp (append_assoc, c.as_slice-rows.ensures.value, c.as_slice.ensures.value)))
+    (simp (
+      append_assoc,
+      c.as_slice-rows.ensures.value,
+      c.as_slice.ensures.value,
+      c.are_several-several.ensures,
+    )))
