@@ -2,6 +2,7 @@
 'N passed, M failed'."""
 import os
 import re
+import signal
 import socket
 import sys
 import tempfile
@@ -113,6 +114,28 @@ def play_an_operators_shutdown(make):
     unit.end()
     unit.start()
     check("comments after a shutdown", comments(unit.daemon.page()), ["before its page", "after its page"])
+    unit.stop()
+
+
+def play_signals(make):
+    """A daemon that a signal ends comes back with the page of the last minute, also where the next one is ended before a minute is over."""
+    unit = make(configuration(3))
+    unit.start()
+    ask(unit.daemon, "[1] ADD_HOST_COMMENT;web1;1;ann;before all of them",
+        f"[1] SCHEDULE_HOST_DOWNTIME;web1;{int(time.time()) - 5};{int(time.time()) + 90000};1;0;0;bob;stays")
+    submit(unit.daemon, 2, [(0, b"down")])
+    page_of(unit.daemon, lambda page: "stays" in downtime(page) and objects(page)["s0"][0] == "CRITICAL")
+    check("a minute", unit.watch(), ("", 0, []))
+    for ending in (signal.SIGTERM, signal.SIGHUP, signal.SIGINT, signal.SIGKILL, signal.SIGTERM):
+        unit.daemon.process.send_signal(ending)
+        unit.end()
+        unit.start()
+        page = unit.daemon.page()
+        check(f"all is there after {ending.name}", ("before all of them" in comments(page), downtime(page), objects(page)["s0"]),
+              (True, ["stays"], ("CRITICAL", "down")))
+    unit.stop()
+    unit.start()
+    check("and after a stop", downtime(unit.daemon.page()), ["stays"])
     unit.stop()
 
 
@@ -483,7 +506,7 @@ def play_quick_restarts(make):
     unit.stop()
 
 
-PLAYS = {"crash": play_a_crash, "shutdown": play_an_operators_shutdown, "readers": play_other_readers, "agents": play_agents,
+PLAYS = {"crash": play_a_crash, "signals": play_signals, "shutdown": play_an_operators_shutdown, "readers": play_other_readers, "agents": play_agents,
          "senders": play_restarts_beside_senders, "quiet": play_quiet_agents, "watch": play_a_stop_amid_the_watch, "slow": play_slow_readers,
          "disabled": play_disabled_checks, "large": play_a_large_page, "typo": play_a_typo, "quick": play_quick_restarts}
 

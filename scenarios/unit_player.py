@@ -11,6 +11,8 @@ import time
 from daemon_clients import TIME_LIMIT, Daemon, free_port
 
 UNITS = "packaging/systemd"
+# To systemd these signals end a service as well as status 0 does.
+CLEAN_ENDS = 0, signal.SIGHUP, signal.SIGINT, signal.SIGPIPE, signal.SIGTERM
 SYSTEMCTL = """\
 #!/bin/sh
 case $* in
@@ -126,7 +128,7 @@ class Unit:
     def end(self):
         """Waits for the daemon's end, and runs what the unit has after it."""
         status = self.daemon.process.wait(TIME_LIMIT)
-        self.environment["SERVICE_RESULT"] = "success" if status == 0 else "exit-code" if status > 0 else "signal"
+        self.environment["SERVICE_RESULT"] = "success" if -status in CLEAN_ENDS else "exit-code" if status > 0 else "signal"
         self.run("ExecStopPost")
 
     def last_log(self):

@@ -156,7 +156,7 @@ fn shown<'a>(
         page: Ok(page),
         since: &[],
         old: None,
-        most: 0,
+        alarms: Vec::new(alloc),
     }];
     let objects = merge(alloc, &gateways)?;
     let figures = figures_of(objects.as_slice());
