@@ -65,16 +65,17 @@ def free_port():
 
 
 class Daemon:
-    """A running `nscagate serve`, and the addresses that it printed. It is handed this text, as what is kept."""
+    """A running `nscagate serve`, and the addresses that it printed. It is handed this text, as what is kept, and these variables of the
+    environment beside those that there are."""
 
-    def __init__(self, program, folder, configuration, kept=b""):
+    def __init__(self, program, folder, configuration, kept=b"", variables=None):
         path, text = os.path.join(folder, "gateway.toml"), os.path.join(folder, "text")
         with open(path, "w", encoding="latin-1") as file:
             file.write(configuration)
         with open(text, "wb") as file:
             file.write(kept)
         with open(text, "rb") as file:
-            self.process = subprocess.Popen([program, "serve", "--config", path], stdin=file,
+            self.process = subprocess.Popen([program, "serve", "--config", path], env={**os.environ, **(variables or {})}, stdin=file,
                                             stdout=subprocess.PIPE, stderr=subprocess.PIPE)
         self.hosts = {}
         self.ports = {}

@@ -1,4 +1,4 @@
-ghost use Rattle.std.specs.Prelude.{◌≡◌, ◌≢◌, ◌*◌, ◌≤◌, IsSome, length};
+ghost use Rattle.std.specs.Prelude.{◌≡◌, ◌≢◌, ◌*◌, ◌≤◌, IsSome, Some, length};
 ghost use Rattle.std.specs.Duration.{as_nanos};
 ghost use Rattle.gate_model.specs.Record.{items_of_records};
 ghost use Rattle.gate_boards.specs.declared.applying.ApplierStop.TheVariants.{Closing, LogFull};
@@ -74,6 +74,7 @@ fn turn<R: Wait, K: Clock, H: Hold>(
     ensures applied { items_of_records result.0.records ≡ taker.new.taken }
     ensures same { IsSameLog applier result.0 }
     ensures clock { GoesByClock (K.state clock.old) (K.state clock.new) applier result.0 }
+    ensures seen { H.seen hold.new ≡ H.seen hold.old }
     ensures held { result.1 ≡ attempt.Took Item
         → H.passed hold.new ≡ passing BeforeApply (H.passed hold.old) }
     ensures log_full { result.1 ≡ attempt.LogFull
@@ -210,19 +211,21 @@ fn rest_after<R: Wait + time::Clock>(
 /// it took, for 50 ms at least and 5 s at most. It sleeps until an item is queued or the gate is closed,
 /// and wakes each second.
 ///
+/// In each turn the hold sees the log as it is, also where nothing was applied.
+///
 /// It stops where the gate is closing and the queue is empty or memory for one more record is missing,
 /// and where the log is full, once a board shows all of it or memory for one is missing for a second:
 /// the queue fills up then, and nobody waits for room in it. Where memory is missing and the gate is
 /// open, it tries again. It waits for items, and for other threads at the queue and at the board.
 /// Own rule.
-pub fn run_applier<R: Wait + time::Clock, K: Clock, H: Hold + Drop>(
+pub fn run_applier<R: Wait + time::Clock, K: Clock, H: Hold>(
     rt: &R,
     alloc: Global,
     gate: &Gate,
     taker: Taker,
     applier: Applier,
     clock: &mut K,
-    mut hold: H,
+    hold: &mut H,
     board: &Mutex<Board>,
 ) -> (Taker, Applier, ApplierStop)
     requires gate { taker.gate ≡ gate.now }
@@ -235,6 +238,10 @@ pub fn run_applier<R: Wait + time::Clock, K: Clock, H: Hold + Drop>(
     ensures same { IsSameLog applier result.1 }
     // Each record stands at the later of a reading of its own and the applier's moment then.
     ensures clock { GoesByClock (K.state clock.old) (K.state clock.new) applier result.1 }
+
+    // The hold has seen all of the log.
+    ensures seen { IsSome (H.seen hold.old)
+        → H.seen hold.new ≡ Some (result.1.records, result.1.outcomes) }
 
     ensures closing { result.2 ≡ Closing → IsSome result.0.known_close }
     ensures log_full { (full : FullLog) → result.2 ≡ LogFull full
@@ -251,8 +258,9 @@ pub fn run_applier<R: Wait + time::Clock, K: Clock, H: Hold + Drop>(
         quiet_pauses: 0,
     };
     for _ in rt.forever() {
-        let (next, attempt) = turn(rt, gate, &mut taker, applier, clock, &mut hold);
+        let (next, attempt) = turn(rt, gate, &mut taker, applier, clock, hold);
         applier = next;
+        hold.see(applier.opening(), applier.records(), applier.outcomes());
         let found = match attempt {
             Attempt::LogFull => {
                 let full = end_full(rt, alloc, gate, &applier, board);

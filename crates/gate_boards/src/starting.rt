@@ -64,6 +64,7 @@ pub fn start_applier<
             × (AreShown (K.shows clock.entry.now) applier
             → AreShown (K.shows clock.entry.now) result.1) }
     {
+        let mut hold = hold;
         run_applier(
             rt,
             alloc,
@@ -71,7 +72,7 @@ pub fn start_applier<
             taker,
             applier,
             &mut SharedClock(clock),
-            hold,
+            &mut hold,
             board,
         )
     };

@@ -1,5 +1,7 @@
-ghost use Rattle.std.specs.Prelude.{◌≡◌, ℕ, List, Option, None, IfSome, IsSome, true, option_map};
+ghost use Rattle.std.specs.Prelude.{◌≡◌, ℕ, List, Option, None, Some, IfSome, IsSome, true, length, option_map};
 ghost use Rattle.gate_model.specs.declared.record.Moment.{Moment};
+ghost use Rattle.gate_model.specs.declared.record.Outcome.{Outcome};
+ghost use Rattle.gate_model.specs.declared.record.Record.{Record};
 ghost use Rattle.gate_environment.specs.Streams.{AreSent, ComesNext};
 ghost use Rattle.gate_environment.specs.Parting.{parting};
 ghost use Rattle.gate_environment.specs.Points.{passing};
@@ -7,7 +9,7 @@ ghost use Rattle.gate_environment.specs.declared.connections.PieceEnd.{PieceEnd}
 ghost use Rattle.gate_environment.specs.declared.connections.Point.{Point};
 
 use crate::clock::Clock;
-use gate_model::Moment;
+use gate_model::{Moment, Outcome, Record};
 use gate_streams::{Sink, Source};
 
 /// A piece of a connection: packets or lines that its peer has sent, up to where others are served, or
@@ -81,24 +83,38 @@ pub enum Point {
     BeforeApply,
 }
 
-/// Holds a thread up at some points of its way.
+/// Holds a thread up at some points of its way, and sees the applier's log.
 ///
-/// A type that leaves the member out claims nothing by it.
+/// A type that leaves a member out claims nothing by it.
 pub trait Hold {
     // The points that the thread has passed, the first one first, where that is known.
     ghost passed: { Self → Option (List Point) } = { λ _. None };
 
+    // The log as it was seen last, where that is known: its records in order, and the outcome of each.
+    ghost seen: { Self → Option (List Record × List Outcome) } = { λ _. None };
+
     /// The thread has come to this point, and goes on once this returns.
     fn pass(&mut self, point: Point)
-        ensures { passed self.new ≡ passing point (passed self.old) };
+        ensures passed { passed self.new ≡ passing point (passed self.old) }
+        ensures seen { seen self.new ≡ seen self.old };
+
+    /// The applier's log is this by now: the moment of its opening, its records in order, and the outcome
+    /// of each. The applier goes on once this returns.
+    fn see(&mut self, opening: Moment, records: &[Record], outcomes: &[Outcome])
+        requires { length records.now ≡ length outcomes.now }
+        ensures seen { IsSome (seen self.old)
+            → seen self.new ≡ Some (records.now, outcomes.now) }
+        ensures passed { passed self.new ≡ passed self.old };
 }
 
-/// Holds no thread up.
+/// Holds no thread up, and sees nothing.
 #[derive(Clone, Copy)]
 pub struct NoHold;
 
 impl Hold for NoHold {
     fn pass(&mut self, _point: Point) {}
+
+    fn see(&mut self, _opening: Moment, _records: &[Record], _outcomes: &[Outcome]) {}
 }
 
 /// A clock that threads share.

@@ -2,6 +2,7 @@ ghost use Rattle.std.specs.Prelude.{◌≡◌, false, None, IsSomeAnd};
 
 use crate::first::Turn;
 use gate_environment::{Hold, Point, pause};
+use gate_model::{Moment, Outcome, Record};
 use std::sync::Wait;
 use std::sync::atomic::{AtomicBool, AtomicU64, Ordering};
 use std::thread;
@@ -65,6 +66,8 @@ impl<'a> Hold for TakenCount<'a> {
             order.taken.fetch_add(1, Ordering::SeqCst);
         }
     }
+
+    fn see(&mut self, _opening: Moment, _records: &[Record], _outcomes: &[Outcome]) {}
 }
 
 /// The turn of packets: at once. That of a worker without any is no turn.

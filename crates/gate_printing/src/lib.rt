@@ -8,6 +8,6 @@ mod page;
 mod progress;
 mod watching;
 
-pub use page::print_log;
+pub use page::{print_log, put_record};
 pub use progress::Progress;
 pub use watching::{STILL_MILLIS, watch};

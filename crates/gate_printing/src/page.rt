@@ -1,6 +1,6 @@
 ghost use Rattle.std.specs.Prelude.{◌≡◌, length, OnOk, OnErr};
 ghost use Rattle.gate_lines.specs.LogPage.{stamp_of, log_line, log_text};
-ghost use Rattle.gate_streams.specs.Sink.{Delivers, FailsOnce};
+ghost use Rattle.gate_streams.specs.Sink.{Delivers, FailsOnce, Writes};
 ghost use Rattle.gate_printing.specs.inner.Printed.{Prints};
 
 use crate::arguments::put_body;
@@ -25,10 +25,12 @@ fn put_stamp<W: Sink>(output: &mut W, record: &Record) -> io::Result<()>
     output.put(b" ")
 }
 
-// Prints the line of a record.
-fn put_line<W: Sink>(output: &mut W, record: &Record, outcome: Outcome) -> io::Result<()>
-    ensures { Prints (W.state output.old) (W.state output.new) result
-        (log_line («record».now, outcome)) }
+/// Prints the line of a record on the log page. It takes no memory. It fails where a call of `output`
+/// does, after which no other is made. Own rule.
+pub fn put_record<W: Sink>(output: &mut W, record: &Record, outcome: Outcome) -> io::Result<()>
+    ensures ok { OnOk result (Writes (W.state output.old) (W.state output.new)
+        (log_line («record».now, outcome))) }
+    ensures err { OnErr result (FailsOnce (W.state output.old) (W.state output.new)) }
 {
     put_stamp(output, record)?;
     put_body(output, &record.item.body)?;
@@ -53,7 +55,7 @@ pub fn print_log<W: Sink>(
 {
     put_numbered(output, b"log ", records.len() as u64)?;
     for (index, record) in records.iter().enumerate() {
-        put_line(output, record, outcomes[index])?;
+        put_record(output, record, outcomes[index])?;
         progress.move_on();
     }
     output.deliver()

@@ -43,15 +43,16 @@ fn configure(alloc: Global, text: &[u8]) -> Result<Config, ServeFault>
     }
 }
 
-/// Reads the configuration in the file of this path.
+/// Reads the configuration in the file of this path: its text, and what that configures.
 pub(crate) fn configuration<F: Files>(
     files: &F,
     alloc: Global,
     path: &str,
-) -> Result<Config, ServeFault>
-    ensures ok { IfOk result (λ config. (text : List ℕ) × Configures text config) }
+) -> Result<(Text, Config), ServeFault>
+    ensures ok { IfOk result (λ read. Configures read.0 read.1) }
     ensures err { IfErr result IsConfigEnd }
 {
     let text = or_fault(read_file(files, alloc, path), ServeFault::Unreadable)?;
-    configure(alloc, &text)
+    let config = configure(alloc, &text)?;
+    Ok((Text::new(text), config))
 }

@@ -9,9 +9,12 @@ use gate_close::{CloseAllCause, CloseAllFault};
 use gate_faults::RunFault;
 use gate_opening::{Finished, GatewayFault};
 use gate_printing::{Progress, print_log};
+use gate_run_log::RunLog;
 use gate_streams::Sink;
 use gate_worker::Cause;
 use std::alloc::Global;
+use std::sync::Wait;
+use std::time::Clock;
 
 // The fault of a daemon that applied all, by why its operator's worker ended.
 fn operator_fault(cause: Cause) -> Option<ServeFault>
@@ -90,6 +93,22 @@ fn with_fault(served: Served, fault: ServeFault) -> Served
         reports,
         fault: Some(fault),
     }
+}
+
+/// Tells a run's log what it wasn't told of a gateway that has ended, and that it has.
+pub fn finish_log<R: Wait + Clock>(rt: &R, ran: &Result<Finished, GatewayFault>, run_log: &RunLog) {
+    let applier = match ran {
+        Ok(finished) => &finished.closed.applier,
+        Err(GatewayFault::CloseAll { fault, .. }) => &fault.applier,
+        Err(_) => return,
+    };
+    run_log.finish(
+        rt,
+        applier.opening(),
+        applier.records(),
+        applier.outcomes(),
+        applier.moment(),
+    );
 }
 
 /// Prints the log page of a gateway that has ended, if it has one, and tells `progress` how far it is.

@@ -12,8 +12,8 @@ mod printing;
 mod served;
 mod starting;
 
-pub use ending::end;
+pub use ending::{end, finish_log};
 pub use fault::ServeFault;
 pub use keeping::take_kept;
 pub use served::{Served, without_reports};
-pub use starting::start;
+pub use starting::{Started, start};

@@ -1,5 +1,5 @@
 ghost use Rattle.std.specs.Prelude.{◌≡◌, ◌⊎◌, [], IfErr, IfOk};
-ghost use Rattle.gate_start.specs.BeforeServing.{EndsBefore, FollowsAddresses, IsAddressIn, IsBindEnd, IsStarted, IsWriteEnd};
+ghost use Rattle.gate_start.specs.BeforeServing.{Configures, EndsBefore, FollowsAddresses, IsAddressIn, IsBindEnd, IsStarted, IsWriteEnd};
 
 use crate::configuring::configuration;
 use crate::fault::ServeFault;
@@ -7,6 +7,7 @@ use crate::lent::Lent;
 use crate::listening::listen;
 use crate::printing::{address_lines, print};
 use gate_config::Config;
+use gate_model::Text;
 use gate_ports::Ports;
 use gate_streams::Sink;
 use std::alloc::Global;
@@ -40,9 +41,18 @@ fn open_ports<R: Net<Listener = TcpListener, Stream = TcpStream> + Clock + Env, 
     Ok(listening.ports)
 }
 
+/// What a daemon serves with.
+#[derive(Drop)]
+pub struct Started {
+    /// The text of its configuration.
+    pub text: Text,
+    pub config: Config,
+    pub ports: Ports,
+}
+
 /// Reads the configuration in the file of this path, binds the addresses of agents, operators and
-/// pages, in this order, and prints them as they are bound, each on a line: the configuration, and the
-/// ports. An address at which a supervisor lends a listening socket, as the environment names it
+/// pages, in this order, and prints them as they are bound, each on a line: the configuration with
+/// its text, and the ports. An address at which a supervisor lends a listening socket, as the environment names it
 /// (sd_listen_fds(3)), isn't bound: that socket is taken, and stays open for the next daemon.
 ///
 /// Unreadable, Config and Bind come before anything is printed: the file can't be read, it
@@ -53,12 +63,18 @@ pub fn start<R: Files + Net<Listener = TcpListener, Stream = TcpStream> + Clock 
     alloc: Global,
     path: &str,
     output: &mut W,
-) -> Result<(Config, Ports), ServeFault>
+) -> Result<Started, ServeFault>
     ensures ok { IfOk result (λ started.
-        IsStarted started.0 (W.state output.old) (W.state output.new)) }
+        IsStarted started.config (W.state output.old) (W.state output.new)) }
+    ensures text { IfOk result (λ started. Configures started.text started.config) }
     ensures err { IfErr result (EndsBefore (W.state output.old) (W.state output.new)) }
 {
-    let config = configuration(rt, alloc, path)?;
+    let read = configuration(rt, alloc, path)?;
+    let (text, config) = read;
     let ports = open_ports(rt, alloc, &config, output)?;
-    Ok((config, ports))
+    Ok(Started {
+        text,
+        config,
+        ports,
+    })
 }

@@ -26,8 +26,10 @@ fn main(rt: HostRuntime) -> ExitCode {
         Ok(words) => match BufWriter::new(rt.alloc(), rt.stdout().lock()) {
             Ok(mut output) => {
                 let mut input = rt.stdin().lock();
-                // Another handle on standard error, for the thread that watches the log page.
+                // Other handles on standard error: for the thread that watches the log page, and for
+                // the one that writes the run's log.
                 let mut notices = rt.stderr().lock();
+                let log_notices = rt.stderr().lock();
                 let status = run_program(
                     &rt,
                     rt.alloc(),
@@ -36,6 +38,7 @@ fn main(rt: HostRuntime) -> ExitCode {
                     &mut output,
                     &mut errors,
                     &mut notices,
+                    log_notices,
                 );
                 // What a failed write left in the buffer is never written.
                 let _unwritten = output.into_parts();

@@ -16,17 +16,19 @@ use gate_ports::{
 };
 use gate_printing::{Progress, watch};
 use gate_reader::SessionLimits;
-use gate_start::{Served, end, start, take_kept, without_reports};
+use gate_run_log::{Begun, LogHold, RunLog, begin_run_log, write_run_log};
+use gate_start::{Served, Started, end, finish_log, start, take_kept, without_reports};
 use gate_streams::Sink;
 use gate_table::ObjectTable;
 use gate_worker::{Endpoint, WorkerLimits};
 use std::alloc::{AllocError, Global};
-use std::fs::Files;
+use std::fs::{File, Files};
 use std::io::Read;
 use std::net::{Net, TcpListener, TcpStream};
 use std::rt::Env;
 use std::sync::Wait;
-use std::thread::{Threads, join_mut};
+use std::thread;
+use std::thread::{Scope, Threads, join_mut};
 use std::time::Clock;
 
 // What a gateway is run with.
@@ -53,12 +55,20 @@ fn gateway_settings(workers: u32, limits: Limits, table: ObjectTable) -> Gateway
     }
 }
 
-fn endpoint<'a, C>(connections: C) -> Endpoint<C, TakenCount<'a>>
+// How a thread of the daemon is held up, and what it tells: the applier alone counts what it takes and tells
+// the run's log.
+type Told<'a, R> = LogHold<'a, R, TakenCount<'a>>;
+
+fn endpoint<'a, R, C>(rt: &'a R, connections: C) -> Endpoint<C, Told<'a, R>>
     ensures { result.connections ≡ connections }
 {
     Endpoint {
         connections,
-        hold: TakenCount::none(),
+        hold: LogHold {
+            rt,
+            log: None,
+            hold: TakenCount::none(),
+        },
     }
 }
 
@@ -104,7 +114,7 @@ fn agents_endpoints<'a, R>(
     workers: u32,
     packets: Vec<Text>,
     order: &'a Order,
-) -> Result<Vec<Endpoint<Agents<'a, R>, TakenCount<'a>>>, AllocError>
+) -> Result<Vec<Endpoint<Agents<'a, R>, Told<'a, R>>>, AllocError>
     ensures { IfOk result (λ endpoints. vec_len endpoints ≡ workers) }
 {
     let mut endpoints = Vec::with_capacity(alloc, workers as usize)?;
@@ -118,7 +128,7 @@ fn agents_endpoints<'a, R>(
             Some(packets) => KeptFirst::new(packets, PacketTurn::of(order), connections),
             None => KeptFirst::new(Vec::new(alloc), PacketTurn::none(), connections),
         };
-        endpoints.push_reserved(endpoint(first));
+        endpoints.push_reserved(endpoint(rt, first));
     }
     Ok(endpoints)
 }
@@ -129,9 +139,9 @@ fn run_on<'a, R: Net<Listener = TcpListener, Stream = TcpStream> + Threads + Wai
     alloc: Global,
     config: Config,
     ports: &'a Ports,
-    agents: Vec<Endpoint<Agents<'a, R>, TakenCount<'a>>>,
+    agents: Vec<Endpoint<Agents<'a, R>, Told<'a, R>>>,
     operators: Operators<'a, R>,
-    order: &'a Order,
+    applier: Told<'a, R>,
 ) -> Result<Finished, GatewayFault>
     requires { vec_len agents ≡ config.workers }
     ensures ran { IfOk result (HasRun config) }
@@ -143,12 +153,12 @@ fn run_on<'a, R: Net<Listener = TcpListener, Stream = TcpStream> + Threads + Wai
         Agents<'_, R>,
         Operators<'_, R>,
         ReaderConnections<'_, R>,
-        TakenCount<'a>,
+        Told<'a, R>,
     > = Endpoints {
         agents,
-        operator: endpoint(operators),
+        operator: endpoint(rt, operators),
         pages: ports.pages.connections(rt),
-        applier: TakenCount::of(order),
+        applier,
     };
     let settings = gateway_settings(config.workers, config.limits, config.table);
     run_gateway(rt, alloc, settings, endpoints, &SystemWatch { rt }, ports)
@@ -161,6 +171,7 @@ fn run_kept<R: Net<Listener = TcpListener, Stream = TcpStream> + Threads + Wait 
     config: Config,
     ports: &Ports,
     kept: Kept,
+    run_log: Option<&RunLog>,
 ) -> Result<Finished, GatewayFault>
     ensures ran { IfOk result (HasRun config) }
     ensures fault { IfErr result
@@ -175,8 +186,13 @@ fn run_kept<R: Net<Listener = TcpListener, Stream = TcpStream> + Threads + Wait 
     };
     let lines_turn = LineTurn::new(rt, &order, &opening, items);
     let operators = KeptFirst::new(lines, lines_turn, ports.operators.connections(rt));
+    let applier = LogHold {
+        rt,
+        log: run_log,
+        hold: TakenCount::of(&order),
+    };
     match agents_endpoints(rt, alloc, &ports.agents, config.workers, packets, &order) {
-        Ok(agents) => run_on(rt, alloc, config, ports, agents, operators, &order),
+        Ok(agents) => run_on(rt, alloc, config, ports, agents, operators, applier),
         Err(_) => {
             drop(config);
             Err(GatewayFault::OutOfMemory)
@@ -184,37 +200,129 @@ fn run_kept<R: Net<Listener = TcpListener, Stream = TcpStream> + Threads + Wait 
     }
 }
 
-// Runs a gateway on these ports until it is closed, which first takes what the input holds.
-fn run<
-    R: Files + Net<Listener = TcpListener, Stream = TcpStream> + Threads + Wait + Clock + Sync,
-    I: Read,
-    E: Sink,
+// Runs a gateway on these ports until it is closed, which first takes what is kept, while a thread writes
+// the run's log.
+fn run_beside<
+    's,
+    E,
+    R: Net<Listener = TcpListener, Stream = TcpStream> + Files + Threads + Wait + Clock + Sync,
+    N: Sink + Send + Drop + 's,
 >(
-    rt: &R,
+    rt: &'s R,
     alloc: Global,
+    scope: &Scope<'s, E>,
     config: Config,
-    ports: Ports,
-    input: &mut I,
-    errors: &mut E,
+    ports: &Ports,
+    kept: Kept,
+    run_log: &'s RunLog,
+    file: File,
+    notices: N,
 ) -> Result<Finished, GatewayFault>
     ensures ran { IfOk result (HasRun config) }
     ensures fault { IfErr result
         (IsGatewayFault config.workers config.limits.capacity config.limits.limit config.table) }
+{
+    let write = move || {
+        let mut notices = notices;
+        write_run_log(rt, alloc, run_log, file, &mut notices);
+    };
+    let started = scope.spawn(write);
+    if started.is_err() {
+        drop((config, kept));
+        return Err(GatewayFault::Spawn);
+    }
+    let ran = run_kept(rt, alloc, config, ports, kept, Some(run_log));
+    finish_log(rt, &ran, run_log);
+    run_log.end(rt);
+    ran
+}
+
+// The same on a scope of its own.
+fn run_logged<
+    R: Net<Listener = TcpListener, Stream = TcpStream> + Files + Threads + Wait + Clock + Sync,
+    N: Sink + Send + Drop,
+>(
+    rt: &R,
+    alloc: Global,
+    config: Config,
+    ports: &Ports,
+    kept: Kept,
+    begun: Begun<File>,
+    notices: N,
+) -> Result<Finished, GatewayFault>
+    ensures ran { IfOk result (HasRun config) }
+    ensures fault { IfErr result
+        (IsGatewayFault config.workers config.limits.capacity config.limits.limit config.table) }
+{
+    let Begun { run_log, file } = begun;
+    let run_log = &run_log;
+    thread::scope(
+        thread::scope_env(),
+        rt,
+        move |scope| -> Result<Finished, GatewayFault>
+            ensures ran { IfOk result (HasRun config) }
+            ensures fault { IfErr result (IsGatewayFault config.workers config.limits.capacity
+                config.limits.limit config.table) }
+        {
+            run_beside(
+                rt, alloc, scope, config, ports, kept, run_log, file, notices,
+            )
+        },
+    )
+}
+
+// Runs a gateway on what was started until it is closed, which first takes what the input holds.
+fn run<
+    R: Files<File = File>
+        + Net<Listener = TcpListener, Stream = TcpStream>
+        + Threads
+        + Wait
+        + Clock
+        + Sync
+        + Env,
+    I: Read,
+    E: Sink,
+    N: Sink + Send + Drop,
+>(
+    rt: &R,
+    alloc: Global,
+    started: Started,
+    input: &mut I,
+    errors: &mut E,
+    notices: &mut Option<N>,
+) -> Result<Finished, GatewayFault>
+    ensures ran { IfOk result (HasRun started.config) }
+    ensures fault { let config = started.config in
+        IfErr result
+        (IsGatewayFault config.workers config.limits.capacity config.limits.limit config.table) }
     ensures taken { IsInputTaken (I.remaining input.old) (E.state errors.old)
         (E.state errors.new) }
 {
-    match take_kept(rt, alloc, input, errors) {
-        Ok(kept) => run_kept(rt, alloc, config, &ports, kept),
-        Err(_) => {
-            drop(config);
-            Err(GatewayFault::OutOfMemory)
+    let Started {
+        text,
+        config,
+        ports,
+    } = started;
+    let Ok(kept) = take_kept(rt, alloc, input, errors) else {
+        drop(config);
+        return Err(GatewayFault::OutOfMemory);
+    };
+    let Some(mut notices) = notices.take() else {
+        drop(text);
+        return run_kept(rt, alloc, config, &ports, kept, None);
+    };
+    match begin_run_log(rt, alloc, text, kept.count(), &mut notices) {
+        Some(begun) => run_logged(rt, alloc, config, &ports, kept, begun, notices),
+        None => {
+            drop(notices);
+            run_kept(rt, alloc, config, &ports, kept, None)
         }
     }
 }
 
 // Runs the daemon, and tells `progress` how far its log page is.
 fn serve_watched<
-    R: Files
+    R: Files<File = File>
         + Net<Listener = TcpListener, Stream = TcpStream>
         + Threads
         + Wait
@@ -224,6 +332,7 @@ fn serve_watched<
     I: Read,
     W: Sink,
     E: Sink,
+    N: Sink + Send + Drop,
 >(
     rt: &R,
     alloc: Global,
@@ -231,6 +340,7 @@ fn serve_watched<
     input: &mut I,
     output: &mut W,
     errors: &mut E,
+    notices: &mut Option<N>,
     progress: &Progress,
 ) -> Served
     ensures ended { ServeEnds (W.state output.old) (W.state output.new)
@@ -239,8 +349,8 @@ fn serve_watched<
         (E.state errors.new) }
 {
     match start(rt, alloc, path, output) {
-        Ok((config, ports)) => {
-            let ran = run(rt, alloc, config, ports, input, errors);
+        Ok(started) => {
+            let ran = run(rt, alloc, started, input, errors, notices);
             end(alloc, ran, output, progress)
         }
         Err(fault) => without_reports(alloc, fault),
@@ -269,7 +379,7 @@ fn serve_watched<
 /// report of the operator's worker is missing, nobody could shut the daemon down any more: it closes
 /// itself, applies all, prints the log page and ends with OutOfMemory. Own rules.
 pub fn serve<
-    R: Files
+    R: Files<File = File>
         + Net<Listener = TcpListener, Stream = TcpStream>
         + Threads
         + Wait
@@ -280,6 +390,7 @@ pub fn serve<
     W: Sink,
     E: Sink,
     N: Sink + Send,
+    L: Sink + Send + Drop,
 >(
     rt: &R,
     alloc: Global,
@@ -288,6 +399,7 @@ pub fn serve<
     output: &mut W,
     errors: &mut E,
     notices: &mut N,
+    log_notices: L,
 ) -> Served
     ensures ended { ServeEnds (W.state output.old) (W.state output.new)
         (reports_of_each result.reports.items) result.fault }
@@ -296,6 +408,7 @@ pub fn serve<
     ensures noticed { IsNoticed (N.state notices.old) (N.state notices.new) }
 {
     let progress = Progress::new();
+    let mut log_notices = Some(log_notices);
     let ((), served) = join_mut(
         rt,
         &mut || watch(rt, &progress, notices),
@@ -305,7 +418,16 @@ pub fn serve<
             ensures taken { IsInputTaken (I.remaining input.entry.now)
                 (E.state errors.entry.now) (E.state errors.exit.now) }
         {
-            let served = serve_watched(rt, alloc, path, input, output, errors, &progress);
+            let served = serve_watched(
+                rt,
+                alloc,
+                path,
+                input,
+                output,
+                errors,
+                &mut log_notices,
+                &progress,
+            );
             progress.end();
             served
         },

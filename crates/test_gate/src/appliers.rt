@@ -51,7 +51,7 @@ fn shows_both<R: Wait + Clock>(rt: &R, alloc: Global, gate: &Gate, taker: Taker)
         taker,
         applier,
         &mut FixedClock(Moment(1000)),
-        NoHold,
+        &mut NoHold,
         &board,
     );
     drop(taker);

@@ -4,6 +4,7 @@ ghost use Rattle.std.specs.Prelude.{◌≡◌, ◌≤◌, IfSome, vec_len};
 use crate::fakes::{AlwaysAt, NoWake, Sending, is_reached, packet, settings};
 use gate_daemon::{Endpoints, Finished, GatewayFault, run_gateway};
 use gate_environment::{Hold, Point};
+use gate_model::{Moment, Outcome, Record};
 use gate_worker::Endpoint;
 use std::alloc::Global;
 use std::sync::Wait;
@@ -61,6 +62,8 @@ impl<'a> Hold for Meeting<'a> {
             met.late.fetch_add(1, Ordering::SeqCst);
         }
     }
+
+    fn see(&mut self, _opening: Moment, _records: &[Record], _outcomes: &[Outcome]) {}
 }
 
 // A thread that waits for nothing and isn't counted.

@@ -3,6 +3,7 @@ ghost use Rattle.std.specs.Prelude.{◌≡◌};
 use crate::fakes::{AlwaysAt, is_reached, packet, settings};
 use gate_daemon::{Endpoints, run_gateway};
 use gate_environment::{Connections, Hold, Piece, PieceEnd, Point, Wake};
+use gate_model::{Moment, Outcome, Record};
 use gate_worker::Endpoint;
 use std::alloc::Global;
 use std::sync::Wait;
@@ -135,6 +136,8 @@ impl<'a> Hold for Served<'a> {
             self.count.fetch_add(1, Ordering::SeqCst);
         }
     }
+
+    fn see(&mut self, _opening: Moment, _records: &[Record], _outcomes: &[Outcome]) {}
 }
 
 // Runs an agents' worker, whose agent comes once it is woken, and a reader of a page who comes

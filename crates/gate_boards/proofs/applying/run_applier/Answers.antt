@@ -1,5 +1,5 @@
 use Rattle.std.proofs.Common.{◌≡◌, refl, sym, ap, ◌∙◌, arith}
-use Rattle.std.specs.Prelude.{is_some}
+use Rattle.std.specs.Prelude.{is_some, Some, length}
 use Rattle.std.proofs.lemmas.Bool.{false≢true}
 use Rattle.gate_model.specs.Record.{items_of_records}
 use Rattle.gate_queue.specs.Taker.{TakerState}
@@ -25,6 +25,7 @@ loop-init g c = (
   record { table = refl; opening = refl; limit = refl },
   omega arith,
   kept (g.K.Clock.state c.args.clock.now) c.args.applier c.args.applier refl refl,
+  λ is. is,
 )
 
 pub turn-next-requires-clause-gate : goal.turn-next-requires-clause-gate
@@ -70,7 +71,23 @@ loop-preserved g c =
       c.show_turn-last.ensures.rest,
       both before between (g.K.Clock.state c.show_turn-last.new.clock) c.args.applier c.turn-next.result.0 c.show_turn-last.new.applier turned
           c.show_turn-last.ensures.clock,
+      λ is. ap is_some (c.see.ensures.seen (ap is_some c.turn-next.ensures.seen ∙ c.loop.invariant.8 is)),
     )
+
+pub returns-in-LogFull-clause-seen : goal.returns-in-LogFull-clause-seen
+returns-in-LogFull-clause-seen g c = λ is.
+    c.see.ensures.seen (ap is_some c.turn-next.ensures.seen ∙ c.loop.invariant.8 is)
+    ∙ ap (λ records. Some (records, c.outcomes.result.now)) c.records.ensures.records
+    ∙ ap (λ outcomes. Some (c.turn-next.result.0.records, outcomes)) c.outcomes.ensures.outcomes
+
+pub returns-then-is_some-clause-seen : goal.returns-then-is_some-clause-seen
+returns-then-is_some-clause-seen g c = λ is.
+    c.see.ensures.seen (ap is_some c.turn-next.ensures.seen ∙ c.loop.invariant.8 is)
+    ∙ ap (λ records. Some (records, c.outcomes.result.now)) c.records.ensures.records
+    ∙ ap (λ outcomes. Some (c.turn-next.result.0.records, outcomes)) c.outcomes.ensures.outcomes
+
+pub see-requires : goal.see-requires
+see-requires g c = ap length c.records.ensures.records ∙ sym c.outcomes.ensures.one_each ∙ ap length (sym c.outcomes.ensures.outcomes)
 
 pub end_full-full-requires : goal.end_full-full-requires
 end_full-full-requires g c = c.turn-next.ensures.log_full c.in-LogFull.is

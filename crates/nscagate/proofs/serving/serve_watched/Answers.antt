@@ -10,7 +10,7 @@ pub returns-in-Ok-clause-ended : goal.returns-in-Ok-clause-ended
 returns-in-Ok-clause-ended g c =
     let state = g.W.Sink.state in
     subst (λ (reports : List (ℕ × List Report)). ServeEnds (state c.args.output.now) (state c.end.new.output) reports c.end.result.fault) (sym c.end.ensures.reports)
-    (ends_on c.run-ran.result c.end.result.fault c.in-Ok.config (state c.args.output.now) (state c.start.new.output) (state c.end.new.output)
+    (ends_on c.run-ran.result c.end.result.fault c.in-Ok.started.config (state c.args.output.now) (state c.start.new.output) (state c.end.new.output)
     c.in-Ok.ensures.ok c.run-ran.ensures.ran c.run-ran.ensures.fault c.end.ensures.ended)
 
 pub returns-in-Err-clause-ended : goal.returns-in-Err-clause-ended
