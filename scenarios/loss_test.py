@@ -486,12 +486,15 @@ def play_a_typo(make):
         check(f"a stop beside {what}", (unit.stop(), unit.statuses["ExecStop"]), ("", [0]))
         unit.start()
         if what == "a faulty configuration":
-            check("it doesn't start", (unit.daemon.process.poll(), "worker" in unit.journal), (2, True))
-            unit.end()
+            check("the fault is named, and the one before is served", (unit.daemon.process.poll(), "worker" in unit.journal), (None, True))
+            check("its objects are shown", "new" in objects(unit.daemon.page()), True)
             unit.configure(good)
-            unit.start()
         check(f"all is there after {what}", f"before {what}" in comments(unit.daemon.page()), True)
     unit.stop()
+    first = make(good.replace("workers", "worker"))
+    first.start()
+    check("a first configuration with a fault isn't served", (first.daemon.process.wait(TIME_LIMIT), "worker" in first.journal), (2, True))
+    first.end()
 
 
 def play_quick_restarts(make):

@@ -31,8 +31,8 @@ def addresses():
 class Served(Daemon):
     """A daemon whose output goes to a file, as the unit has it."""
 
-    def __init__(self, words, log, configuration):
-        self.process = subprocess.Popen(words, stdout=log, stderr=subprocess.PIPE)
+    def __init__(self, words, log, configuration, environment):
+        self.process = subprocess.Popen(words, env=environment, stdout=log, stderr=subprocess.PIPE)
         self.hosts, self.ports = {}, {}
         for name, host, port in re.findall(r'^(agents|operators|pages) = "([0-9.]+):(\d+)"', configuration, re.M):
             self.hosts[name], self.ports[name] = host, int(port)
@@ -57,13 +57,14 @@ class Unit:
     def __init__(self, program, ctl, folder, configuration):
         self.folder = folder
         self.programs = {"nscagate": program, "nscagatectl": ctl, "systemctl": os.path.join(folder, "bin", "systemctl")}
-        for name in ("bin", "state", "logs", "counts", "run"):
+        for name in ("bin", "state", "logs", "counts", "run", "runs"):
             os.makedirs(os.path.join(folder, name))
         self.config = os.path.join(folder, "gateway.toml")
         self.page = os.path.join(folder, "state", "page")
         self.log = os.path.join(folder, "logs", "log")
         self.called = os.path.join(folder, "called")
-        self.environment = {**os.environ, "PATH": f"{folder}/bin:{os.environ['PATH']}", "CALLED": self.called}
+        self.environment = {**os.environ, "PATH": f"{folder}/bin:{os.environ['PATH']}", "CALLED": self.called,
+                            "LOGS_DIRECTORY": os.path.join(folder, "runs")}
         with open(self.programs["systemctl"], "w", encoding="ascii") as file:
             file.write(SYSTEMCTL)
         os.chmod(self.programs["systemctl"], 0o755)
@@ -112,7 +113,7 @@ class Unit:
         self.run("ExecStartPre")
         [(_, words)] = self.commands("ExecStart")
         with open(self.log, "ab") as log:
-            self.daemon = Served(words, log, self.configuration)
+            self.daemon = Served(words, log, self.configuration, self.environment)
         self.environment["MAINPID"] = str(self.daemon.process.pid)
         self.daemon.wait_until_serving()
         return self.journal

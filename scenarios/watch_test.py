@@ -1,5 +1,6 @@
 """Plays systemctl to nscagate-watch over a daemon: python3 watch_test.py PROGRAM CTL. Ends with a line 'N passed, M failed'."""
 import os
+import signal
 import subprocess
 import sys
 import tempfile
@@ -134,6 +135,24 @@ def test_gone(watched):
     check("its reason", printed.startswith("nscagate-watch: nscagate.service is restarted: NSCAGATE CRITICAL - "), True)
 
 
+def test_hang(watched):
+    """A daemon that stands still: nothing for three minutes, and then a restart."""
+    check("a good gateway", watched.watch(), QUIET)
+    watched.daemon.process.send_signal(signal.SIGSTOP)
+    seen = os.path.join(watched.folder, "counts", "seen")
+    check("a gateway that hangs", watched.watch(), QUIET)
+    check("a unit that starts", watched.watch(ActiveState="activating"), QUIET)
+    check("after which the time counts anew", os.path.exists(seen), False)
+    check("it still hangs", watched.watch(), QUIET)
+    os.utime(seen, (time.time() - 160, time.time() - 160))
+    check("for less than three minutes", watched.watch(), QUIET)
+    os.utime(seen, (time.time() - 180, time.time() - 180))
+    check("for three minutes", watched.watch(), restarted("it has shown no page for three minutes"))
+    watched.daemon.process.send_signal(signal.SIGCONT)
+    check("it goes on", watched.watch(), QUIET)
+    watched.end()
+
+
 def test_words(watched):
     for words in (["--colour"], ["--unit"], ["more"], ["--folder", watched.folder + "/none"],
                   ["--page"], ["--next"], ["--config", watched.folder + "/none"]):
@@ -175,6 +194,7 @@ def main():
         test_numbers(watched)
         test_faulty(watched)
         test_gone(watched)
+        test_hang(Watched(program, ctl, os.path.join(folder, "hang"), ""))
     end_tests()
 
 
