@@ -31,7 +31,7 @@ use Rattle.gate_model.specs.State.{state_of_code, is_problem}
 use Rattle.gate_model.specs.Table.{place_of, object_kind, object_at}
 use Rattle.gate_table.specs.Faults.{IsFaultless}
 use Rattle.gate_model.specs.Downtime.{scheduled_in}
-use Rattle.gate_model.specs.Meaning.{Judged, object_event_of_deed, object_event_of, object_event, object_events, transition_by, plan_of, downtime_events_of_deed, downtime_events_of, downtime_events, is_live_after, outcome_at_place, outcome_for, outcome_of_window, outcome_at, outcome_after, outcomes_of, judgement_of, judged}
+use Rattle.gate_model.specs.Meaning.{Judged, object_event_of_deed, object_event_of, object_event, object_events, plan_of, downtime_events_of_deed, downtime_events_of, downtime_events, is_live_after, outcome_at_place, outcome_for, outcome_of_window, outcome_at, outcome_after, outcomes_of, judgement_of, judged}
 use Rattle.gate_table.proofs.Hosts.{has_object-host}
 use Rattle.gate_model.proofs.Lists.{position_from-push}
 use Rattle.gate_model.proofs.MeaningSteps.{outcomes_of-append}
@@ -73,21 +73,16 @@ IsApt fresh now sure shown others count (bodies.Result host service code output 
     × IsApt fresh now sure (λ place. state_by fresh place (bodies.Result host service code output) (shown place)) false count rest
 IsApt fresh now sure shown others count (bodies.AddComment host service persistent author text ∷ rest) =
     IsKnown fresh host service × IsApt fresh now sure shown true count rest
-IsApt fresh now sure shown others count (bodies.DelComment kind id ∷ rest) = ⊥
-IsApt fresh now sure shown others count (bodies.DelAllComments host service ∷ rest) = ⊥
 IsApt fresh now sure shown others count (bodies.Acknowledge host service sticky notify persistent author text ∷ rest) =
     (sure ≡ true → HasProblem fresh shown host service) × IsApt fresh now sure shown true count rest
-IsApt fresh now sure shown others count (bodies.RemoveAck host service ∷ rest) = ⊥
 IsApt fresh now sure shown others count (bodies.Schedule host service starts ends fixed trigger lasts author text ∷ rest) =
     IsKnown fresh host service
     × (is_over now (record { starts = starts; ends = ends; fixed = fixed; trigger = trigger; lasts = lasts }) ≡ false)
     × (trigger ≤ count)
     × IsApt fresh now sure shown true (count + 1) rest
-IsApt fresh now sure shown others count (bodies.DelDowntime kind id ∷ rest) = ⊥
 IsApt fresh now sure shown others count (bodies.Passive host service on ∷ rest) =
     IsKnown fresh host service × IsApt fresh now sure shown true count rest
-IsApt fresh now sure shown others count (bodies.ScheduleServices host starts ends fixed trigger lasts author text ∷ rest) = ⊥
-IsApt fresh now sure shown others count (bodies.Shutdown ∷ rest) = ⊥
+IsApt fresh now sure shown others count (_ ∷ rest) = ⊥
 
 -- what is known after such commands: so many entries are scheduled, no setting is made before the others begin, and these
 -- are the states
@@ -172,8 +167,6 @@ one fresh now sure shown others count before (bodies.Result host service code ou
     (λ place found. ap (λ (on : Bool). is_accepted (if on then Accepted else PassiveDisabled)) (after.enabled apt.0 place))
 one fresh now sure shown others count before (bodies.AddComment host service persistent author text) rest good after apt is =
     accepted_for fresh host service (λ place. Accepted) good apt.0 (λ place found. refl)
-one fresh now sure shown others count before (bodies.DelComment kind id) rest good after apt is = absurd apt
-one fresh now sure shown others count before (bodies.DelAllComments host service) rest good after apt is = absurd apt
 one fresh now sure shown others count before (bodies.Acknowledge host service sticky notify persistent author text) rest good after apt is =
     let known : HasProblem fresh shown host service = apt.0 (is refl) in
     accepted_for fresh host service (λ place. if is_problem (state_of place (object_events fresh before)) then Accepted else NoProblem)
@@ -181,19 +174,15 @@ one fresh now sure shown others count before (bodies.Acknowledge host service st
     (λ place found. ap (λ (problem : Bool). is_accepted (if problem then Accepted else NoProblem)) (
     ap is_problem (after.states place) ∙ known.1 place found
     ))
-one fresh now sure shown others count before (bodies.RemoveAck host service) rest good after apt is = absurd apt
 one fresh now sure shown others count before (bodies.Schedule host service starts ends fixed trigger lasts author text) rest good after apt is =
     let live = is_live_after fresh before now in
     accepted_for fresh host service (λ place. outcome_of_window live now starts ends trigger) good apt.0
     (λ place found. schedules live now starts ends fixed trigger lasts (opens now starts ends fixed trigger lasts apt.1) (
     λ low. all_live now (downtime_events fresh before) after.timely trigger low (omega (arith, after.counted, apt.2))
     ))
-one fresh now sure shown others count before (bodies.DelDowntime kind id) rest good after apt is = absurd apt
 one fresh now sure shown others count before (bodies.Passive host service on) rest good after apt is =
     accepted_for fresh host service (λ place. Accepted) good apt.0 (λ place found. refl)
-one fresh now sure shown others count before (bodies.ScheduleServices host starts ends fixed trigger lasts author text) rest good after apt is =
-    absurd apt
-one fresh now sure shown others count before bodies.Shutdown rest good after apt is = absurd apt
+one fresh now sure shown others count before body rest good after apt is = absurd apt
 
 -- ---- what is known after one more
 
@@ -451,26 +440,20 @@ all fresh now sure shown others count number newer (bodies.AddComment host servi
     let first : Body = bodies.AddComment host service persistent author text in
     all fresh now sure shown true count (number + 1) (applied now number first ∷ newer) before body rest good
     (quietly fresh now shown others count number (judged fresh newer) first host service (deeds.AddComment (is_persistent persistent)) refl refl after) apt.1 is
-all fresh now sure shown others count number newer (bodies.DelComment kind id ∷ before) body rest good after apt is = absurd apt
-all fresh now sure shown others count number newer (bodies.DelAllComments host service ∷ before) body rest good after apt is = absurd apt
 all fresh now sure shown others count number newer (bodies.Acknowledge host service sticky notify persistent author text ∷ before) body rest good after apt is =
     let first : Body = bodies.Acknowledge host service sticky notify persistent author text in
     all fresh now sure shown true count (number + 1) (applied now number first ∷ newer) before body rest good
     (quietly fresh now shown others count number (judged fresh newer) first host service (deeds.Acknowledge (is_sticky sticky) (is_persistent persistent)) refl refl after) apt.1 is
-all fresh now sure shown others count number newer (bodies.RemoveAck host service ∷ before) body rest good after apt is = absurd apt
 all fresh now sure shown others count number newer (bodies.Schedule host service starts ends fixed trigger lasts author text ∷ before) body rest good after apt is =
     let first : Body = bodies.Schedule host service starts ends fixed trigger lasts author text in
     all fresh now sure shown true (count + 1) (number + 1) (applied now number first ∷ newer) before body rest good
     (one_more fresh now sure shown others count number (judged fresh newer) host service starts ends fixed trigger lasts author text (before ++ body ∷ rest) good after apt)
     apt.3 is
-all fresh now sure shown others count number newer (bodies.DelDowntime kind id ∷ before) body rest good after apt is = absurd apt
 all fresh now sure shown others count number newer (bodies.Passive host service on ∷ before) body rest good after apt is =
     let first : Body = bodies.Passive host service on in
     all fresh now sure shown true count (number + 1) (applied now number first ∷ newer) before body rest good
     (quietly fresh now shown others count number (judged fresh newer) first host service (deeds.Passive on) refl refl after) apt.1 is
-all fresh now sure shown others count number newer (bodies.ScheduleServices host starts ends fixed trigger lasts author text ∷ before) body rest good after apt is =
-    absurd apt
-all fresh now sure shown others count number newer (bodies.Shutdown ∷ before) body rest good after apt is = absurd apt
+all fresh now sure shown others count number newer (_ ∷ before) body rest good after apt is = absurd apt
 
 -- no object has a result yet
 abbrev pub all_pending : ℕ → State

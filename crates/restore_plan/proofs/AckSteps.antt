@@ -1,6 +1,6 @@
 -- A gateway accepts all that is sent of a kept log: an object that is acknowledged has its problem again.
 use Rattle.std.proofs.Common.{◌≡◌, ℕ, zero, suc, ℤ, ◌+◌, ◌<◌, ◌==◌, Bool, true, false, List, [], ◌∷◌, ◌++◌, filter_map, refl, sym, ap, ◌∙◌, subst, arith}
-use Rattle.std.specs.Prelude.{not, ◌&&◌, slice_get, Option, Some, None, option_map, is_some, Result, Ok, Err, if◌then◌else◌}
+use Rattle.std.specs.Prelude.{not, slice_get, Option, Some, None, option_map, is_some, Result, Ok, Err, if◌then◌else◌}
 use Rattle.std.specs.List.{AllByRecursion}
 use Rattle.std.specs.Option.{option_to_list, option_and_then}
 use Rattle.std.proofs.lemmas.Bool.{and_parts}
@@ -19,24 +19,24 @@ use Rattle.gate_model.specs.State.{state_of_code, is_problem}
 use Rattle.gate_model.specs.Status.{state_left_by}
 use Rattle.gate_model.specs.Table.{place_of, object_of, object_kind, object_at, is_line_of}
 use Rattle.gate_table.specs.Faults.{IsFaultless}
-use Rattle.gate_model.specs.Meaning.{LiveEntry, downtimes_at, last_result_at, acknowledgement_at}
+use Rattle.gate_model.specs.Meaning.{last_result_at, acknowledgement_at}
 use Rattle.gate_model.proofs.Lists.{none_is_not_some, position_from-found}
 use Rattle.gate_table.proofs.KeySteps.{line_decides}
 use Rattle.gate_applier.specs.Applier.{ApplierView}
 use Rattle.restore_plan.specs.declared.entries.Terms.{Terms}
 use Rattle.restore_plan.specs.declared.entries.Renewal.{Renewal}
 use Rattle.restore_plan.specs.declared.fates.Fate.{Fate}
-use Rattle.restore_plan.specs.declared.fates.Fate.TheVariants.{Sent, Left}
+use Rattle.restore_plan.specs.declared.fates.Fate.TheVariants.{Left}
 use Rattle.restore_plan.specs.declared.fates.Cause.{Cause}
 use Rattle.restore_plan.specs.declared.fates.Cause.TheVariants.{TooOld}
 use Rattle.restore_plan.specs.declared.plan.Plan.{Plan}
-use Rattle.restore_plan.specs.Fates.{sent_to, last_of, acknowledgement_of, has_comment, comments_in, comment_fate, is_in_force, is_made_by, last_is_outdated, is_disabled, fate_of_result, is_outdated, threshold_of}
-use Rattle.restore_plan.specs.Entries.{with_id, live_terms, renewals_from, renewals_of, fate_by, fate_in, entry_fate}
+use Rattle.restore_plan.specs.Fates.{sent_to, last_of, has_comment, comments_in, comment_fate, is_in_force, is_made_by, last_is_outdated, is_disabled, fate_of_result, is_outdated, threshold_of}
+use Rattle.restore_plan.specs.Entries.{renewals_of, fate_by, fate_in, entry_fate}
 use Rattle.restore_plan.specs.Plan.{result_in, other_in, results_from, results_of, others_of, sent_of, commands_of}
 use Rattle.restore_plan.specs.Scheduling.{sent_terms, AreSchedulable}
 use Rattle.restore_plan.specs.Rehearsal.{first_refusal}
-use Rattle.restore_plan.proofs.KeptSteps.{problem_at, IsRecorded, recorded}
-use Rattle.restore_plan.proofs.AcceptSteps.{is_at, state_by, HasProblem, all_pending, accepts_all}
+use Rattle.restore_plan.proofs.KeptSteps.{problem_at, recorded}
+use Rattle.restore_plan.proofs.AcceptSteps.{is_at, state_by, all_pending, accepts_all}
 use Rattle.restore_plan.proofs.PlainSteps.{IsPlainResult, IsPlain, IsAcked, SendsOnly, MaySendOnly, shown_at, shown_by, choice, all_results, all_others, log_plain, plan_apt}
 
 -- ---- names
@@ -167,25 +167,7 @@ one_record fresh kept place host service code output last index (bodies.Result o
         ∙ here_case fresh place state other named number words (last.log_index == index)
         (is_outdated (threshold_of fresh (object_of fresh other named)) last.moment kept.moment) (place_of fresh other named) refl there recent
         ∙ own_code (last.log_index == index) refl names.1
-one_record fresh kept place host service code output last index (bodies.AddComment other named persistent author text) state is own =
-    no_result fresh place (last.log_index == index) (state_of_code (object_kind service) code) state (λ here. let same = own here in cc)
-one_record fresh kept place host service code output last index (bodies.DelComment kind id) state is own =
-    no_result fresh place (last.log_index == index) (state_of_code (object_kind service) code) state (λ here. let same = own here in cc)
-one_record fresh kept place host service code output last index (bodies.DelAllComments other named) state is own =
-    no_result fresh place (last.log_index == index) (state_of_code (object_kind service) code) state (λ here. let same = own here in cc)
-one_record fresh kept place host service code output last index (bodies.Acknowledge other named sticky notify persistent author text) state is own =
-    no_result fresh place (last.log_index == index) (state_of_code (object_kind service) code) state (λ here. let same = own here in cc)
-one_record fresh kept place host service code output last index (bodies.RemoveAck other named) state is own =
-    no_result fresh place (last.log_index == index) (state_of_code (object_kind service) code) state (λ here. let same = own here in cc)
-one_record fresh kept place host service code output last index (bodies.Schedule other named starts ends fixed trigger lasts author text) state is own =
-    no_result fresh place (last.log_index == index) (state_of_code (object_kind service) code) state (λ here. let same = own here in cc)
-one_record fresh kept place host service code output last index (bodies.DelDowntime kind id) state is own =
-    no_result fresh place (last.log_index == index) (state_of_code (object_kind service) code) state (λ here. let same = own here in cc)
-one_record fresh kept place host service code output last index (bodies.Passive other named on) state is own =
-    no_result fresh place (last.log_index == index) (state_of_code (object_kind service) code) state (λ here. let same = own here in cc)
-one_record fresh kept place host service code output last index (bodies.ScheduleServices other starts ends fixed trigger lasts author text) state is own =
-    no_result fresh place (last.log_index == index) (state_of_code (object_kind service) code) state (λ here. let same = own here in cc)
-one_record fresh kept place host service code output last index bodies.Shutdown state is own =
+one_record fresh kept place host service code output last index body state is own =
     no_result fresh place (last.log_index == index) (state_of_code (object_kind service) code) state (λ here. let same = own here in cc)
 
 -- the results of a record and those after it
@@ -347,43 +329,25 @@ choice_if good false one other first second = first
 
 acked_other : (fresh : List ObjectLine) (kept : ApplierView) (index : ℕ) (body : Body)
     → MaySendOnly (IsAcked fresh (shown_of fresh kept)) (other_in fresh kept index body)
-acked_other fresh kept index (bodies.Result host service code output) = tt
 acked_other fresh kept index (bodies.AddComment host service persistent author text) =
     acked_comment_fate fresh kept index host service persistent author text
-acked_other fresh kept index (bodies.DelComment kind id) = tt
-acked_other fresh kept index (bodies.DelAllComments host service) = tt
 acked_other fresh kept index (bodies.Acknowledge host service sticky notify persistent author text) =
     choice_if (IsAcked fresh (shown_of fresh kept)) (is_in_force fresh kept index host service)
     (comment_fate fresh kept index host service persistent author text)
     (Some (sent_to (object_of fresh host service) (bodies.Acknowledge host service sticky notify persistent author text)))
     (acked_comment_fate fresh kept index host service persistent author text)
     (acked_body fresh kept index host service sticky notify persistent author text)
-acked_other fresh kept index (bodies.RemoveAck host service) = tt
-acked_other fresh kept index (bodies.Schedule host service starts ends fixed trigger lasts author text) = tt
-acked_other fresh kept index (bodies.DelDowntime kind id) = tt
-acked_other fresh kept index (bodies.Passive host service true) = tt
 acked_other fresh kept index (bodies.Passive host service false) =
     choice (IsAcked fresh (shown_of fresh kept)) (not (is_disabled kept host service)) None
     (Some (sent_to (object_of fresh host service) (bodies.Passive host service false))) tt
     (acked_setting fresh (shown_of fresh kept) (object_of fresh host service) host service)
-acked_other fresh kept index (bodies.ScheduleServices host starts ends fixed trigger lasts author text) = tt
-acked_other fresh kept index bodies.Shutdown = tt
+acked_other fresh kept index body = tt
 
 acked_by : (fresh : List ObjectLine) (shown : ℕ → State) (line : ObjectLine) (plan : Scheduled) (terms : Result Terms Cause) (body : Body)
     → MaySendOnly (IsAcked fresh shown) (fate_by line plan terms body)
-acked_by fresh shown line plan terms (bodies.Result host service code output) = tt
-acked_by fresh shown line plan terms (bodies.AddComment host service persistent author text) = tt
-acked_by fresh shown line plan terms (bodies.DelComment kind id) = tt
-acked_by fresh shown line plan terms (bodies.DelAllComments host service) = tt
-acked_by fresh shown line plan terms (bodies.Acknowledge host service sticky notify persistent author text) = tt
-acked_by fresh shown line plan terms (bodies.RemoveAck host service) = tt
-acked_by fresh shown line plan (Ok one) (bodies.Schedule host service starts ends fixed trigger lasts author text) = tt
-acked_by fresh shown line plan (Err cause) (bodies.Schedule host service starts ends fixed trigger lasts author text) = tt
-acked_by fresh shown line plan terms (bodies.DelDowntime kind id) = tt
-acked_by fresh shown line plan terms (bodies.Passive host service on) = tt
-acked_by fresh shown line plan (Ok one) (bodies.ScheduleServices host starts ends fixed trigger lasts author text) = tt
-acked_by fresh shown line plan (Err cause) (bodies.ScheduleServices host starts ends fixed trigger lasts author text) = tt
-acked_by fresh shown line plan terms bodies.Shutdown = tt
+acked_by fresh shown line plan (Ok one) bodies.Shutdown = tt
+acked_by fresh shown line plan (Err cause) bodies.Shutdown = tt
+acked_by fresh shown line plan terms body = tt
 
 acked_in : (fresh : List ObjectLine) (shown : ℕ → State) (line : Option ObjectLine) (plan : Scheduled) (terms : Result Terms Cause) (applied : Option Record)
     → MaySendOnly (IsAcked fresh shown) (fate_in line plan terms applied)

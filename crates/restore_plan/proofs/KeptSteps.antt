@@ -1,12 +1,11 @@
 -- What the records of a kept log leave: an acknowledged object has a problem, and the last result of an object is that of a
 -- record.
 use Rattle.std.proofs.Common.{◌≡◌, ℕ, zero, suc, ℤ, ◌+◌, ◌==◌, Bool, true, false, cond, not, ◌&&◌, ◌||◌, List, [], ◌∷◌, ◌++◌, length, reverse, Option, Some, None, refl, sym, ap, ◌∙◌, subst, arith}
-use Rattle.std.specs.Prelude.{slice_get, option_map, is_some, if◌then◌else◌}
+use Rattle.std.specs.Prelude.{slice_get, option_map, if◌then◌else◌}
 use Rattle.std.specs.Option.{option_to_list, option_and_then}
 use Rattle.std.proofs.lemmas.List.{reverse-append, reverse-reverse, length-reverse}
 use Rattle.gate_model.specs.declared.record.Moment.{Moment}
 use Rattle.gate_model.specs.declared.record.Record.{Record}
-use Rattle.gate_model.specs.declared.record.Outcome.{Outcome}
 use Rattle.gate_model.specs.declared.record.Outcome.TheVariants.{Accepted, NoSuchHost, NoProblem}
 use Rattle.gate_model.specs.declared.object.Kind.{Kind}
 use Rattle.gate_model.specs.declared.object.ObjectId.{ObjectId}
@@ -26,7 +25,7 @@ use Rattle.gate_model.specs.Act.{act_of}
 use Rattle.gate_model.specs.Record.{is_accepted}
 use Rattle.gate_model.specs.State.{state_of_code, is_problem}
 use Rattle.gate_model.specs.Status.{last_result, state_of, acknowledgement_of, is_change}
-use Rattle.gate_model.specs.Table.{place_of, object_of, object_kind, object_at, has_object}
+use Rattle.gate_model.specs.Table.{place_of, object_kind, object_at, has_object}
 use Rattle.gate_model.specs.Meaning.{Judged, object_event_of_deed, object_event_of, object_event, object_events, outcome_at_place, outcome_at, judgement_of, judged, last_result_at, state_at, acknowledgement_at}
 use Rattle.gate_model.proofs.Lists.{none_is_not_some}
 use Rattle.gate_model.proofs.ObjectSteps.{kept_by, last_result-result, state_of-result, acknowledgement_of-result, acknowledgement_of-remove, acknowledgement_of-acknowledge, acknowledgement_of-passive}
@@ -314,14 +313,11 @@ all_recorded table (applied ∷ older) place last is =
         → last_result place (option_to_list event ++ before) ≡ Some last
         → (last_result place before ≡ Some last → IsRecorded table (reverse (applied ∷ older)) place last)
         → IsRecorded table (reverse (applied ∷ older)) place last
-    next None event it from_before = from_before it
     next (Some (object.Result at state moment index)) event it from_before =
         last_case (at == place) (record { state = state; moment = moment; log_index = index }) last (last_result place before)
         (IsRecorded table (reverse (applied ∷ older)) place last)
         (sym (last_result-result place at state moment index before) ∙ it) (own at state moment index event) from_before
-    next (Some (object.Acknowledge at sticky index)) event it from_before = from_before it
-    next (Some (object.RemoveAck at)) event it from_before = from_before it
-    next (Some (object.Passive at on)) event it from_before = from_before it
+    next _ event it from_before = from_before it
 
 pub recorded : (table : List ObjectLine) (records : List Record) (place : ℕ) (last : CheckResult)
     → last_result_at table records place ≡ Some last → IsRecorded table records place last

@@ -58,26 +58,18 @@ silent_comment_fate fresh kept index host service persistent author text =
     (silent_comment (object_of fresh host service) host service persistent author text)
 
 silent_other : (fresh : List ObjectLine) (kept : ApplierView) (index : ℕ) (body : Body) → fate_terms (other_in fresh kept index body) ≡ []
-silent_other fresh kept index (bodies.Result host service code output) = refl
 silent_other fresh kept index (bodies.AddComment host service persistent author text) =
     silent_comment_fate fresh kept index host service persistent author text
-silent_other fresh kept index (bodies.DelComment kind id) = refl
-silent_other fresh kept index (bodies.DelAllComments host service) = refl
 silent_other fresh kept index (bodies.Acknowledge host service sticky notify persistent author text) =
     silent_if (not (is_in_force fresh kept index host service)) (comment_fate fresh kept index host service persistent author text)
     (Some (sent_to (object_of fresh host service) (bodies.Acknowledge host service sticky notify persistent author text)))
     (silent_comment_fate fresh kept index host service persistent author text)
     (silent_acknowledgement (object_of fresh host service) host service sticky notify persistent author text)
-silent_other fresh kept index (bodies.RemoveAck host service) = refl
-silent_other fresh kept index (bodies.Schedule host service starts ends fixed trigger lasts author text) = refl
-silent_other fresh kept index (bodies.DelDowntime kind id) = refl
-silent_other fresh kept index (bodies.Passive host service true) = refl
 silent_other fresh kept index (bodies.Passive host service false) =
     silent_if (not (is_disabled kept host service)) None
     (Some (sent_to (object_of fresh host service) (bodies.Passive host service false))) refl
     (silent_setting (object_of fresh host service) host service false)
-silent_other fresh kept index (bodies.ScheduleServices host starts ends fixed trigger lasts author text) = refl
-silent_other fresh kept index bodies.Shutdown = refl
+silent_other fresh kept index body = refl
 
 -- ---- the order of records
 
@@ -111,17 +103,9 @@ sent_from fresh kept first (applied ∷ records) left =
 
 sent_by : (line : ObjectLine) (plan : Plan) (terms : Terms) (body : Body) → is_schedule body ≡ true
     → fate_terms (fate_by line plan (Ok terms) body) ≡ terms ∷ []
-sent_by line plan terms (bodies.Result host service code output) is = absurd cc
-sent_by line plan terms (bodies.AddComment host service persistent author text) is = absurd cc
-sent_by line plan terms (bodies.DelComment kind id) is = absurd cc
-sent_by line plan terms (bodies.DelAllComments host service) is = absurd cc
-sent_by line plan terms (bodies.Acknowledge host service sticky notify persistent author text) is = absurd cc
-sent_by line plan terms (bodies.RemoveAck host service) is = absurd cc
 sent_by line plan terms (bodies.Schedule host service starts ends fixed trigger lasts author text) is = refl
-sent_by line plan terms (bodies.DelDowntime kind id) is = absurd cc
-sent_by line plan terms (bodies.Passive host service on) is = absurd cc
 sent_by line plan terms (bodies.ScheduleServices host starts ends fixed trigger lasts author text) is = refl
-sent_by line plan terms bodies.Shutdown is = absurd cc
+sent_by line plan terms body is = absurd cc
 
 second : (one other : Bool) → (one && other) ≡ true → other ≡ true
 second true other is = is
@@ -138,17 +122,8 @@ sent_in fresh (Some line) plan terms (Some applied) is =
     (second (is_some (object_of_line fresh (Some line))) (is_schedule applied.item.body) is)
 
 silent_by : (line : ObjectLine) (plan : Plan) (cause : Cause) (body : Body) → fate_terms (fate_by line plan (Err cause) body) ≡ []
-silent_by line plan cause (bodies.Result host service code output) = refl
-silent_by line plan cause (bodies.AddComment host service persistent author text) = refl
-silent_by line plan cause (bodies.DelComment kind id) = refl
-silent_by line plan cause (bodies.DelAllComments host service) = refl
-silent_by line plan cause (bodies.Acknowledge host service sticky notify persistent author text) = refl
-silent_by line plan cause (bodies.RemoveAck host service) = refl
-silent_by line plan cause (bodies.Schedule host service starts ends fixed trigger lasts author text) = refl
-silent_by line plan cause (bodies.DelDowntime kind id) = refl
-silent_by line plan cause (bodies.Passive host service on) = refl
-silent_by line plan cause (bodies.ScheduleServices host starts ends fixed trigger lasts author text) = refl
 silent_by line plan cause bodies.Shutdown = refl
+silent_by line plan cause body = refl
 
 silent_in : (line : Option ObjectLine) (plan : Plan) (cause : Cause) (applied : Option Record)
     → fate_terms (fate_in line plan (Err cause) applied) ≡ []

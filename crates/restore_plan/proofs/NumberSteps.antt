@@ -68,12 +68,9 @@ no_transition false moment place = refl
 
 none_by : (before : List ObjectEvent) (event : Option ObjectEvent) → scheduled_by (option_to_list (transition_by before event)) ≡ 0
 unfolding scheduled_by
-none_by before None = refl
 none_by before (Some (object.Result place state moment log_index)) =
     no_transition (is_transition place (object.Result place state moment log_index) before) moment place
-none_by before (Some (object.Acknowledge place sticky log_index)) = refl
-none_by before (Some (object.RemoveAck place)) = refl
-none_by before (Some (object.Passive place on)) = refl
+none_by before _ = refl
 
 -- one for each service
 each_service : (moment : Moment) (plan : Plan) (services : List ObjectId)

@@ -25,7 +25,7 @@ use Rattle.restore_plan.specs.declared.fates.Cause.TheVariants.{TooOld}
 use Rattle.restore_plan.specs.declared.plan.Plan.{Plan}
 use Rattle.restore_plan.specs.Fates.{sent_to, has_comment, comments_in, comment_fate, is_in_force, is_disabled, fate_of_result, last_of, is_outdated, threshold_of}
 use Rattle.restore_plan.specs.Entries.{object_of_line, is_known, has_schedule, can_be_sent, with_id, live_terms, renewals_from, renewals_of, fate_by, fate_in, entry_fate}
-use Rattle.restore_plan.specs.Plan.{result_in, other_in, results_from, results_of, taken_at, others_from, others_of, sent_of, commands_of}
+use Rattle.restore_plan.specs.Plan.{result_in, other_in, results_from, taken_at, others_from, others_of, sent_of, commands_of}
 use Rattle.restore_plan.specs.Scheduling.{terms_in, sent_terms, AreSchedulable}
 use Rattle.restore_plan.specs.Acceptance.{AcceptsOthers}
 use Rattle.restore_plan.proofs.TermSteps.{renewed}
@@ -36,30 +36,15 @@ use Rattle.restore_plan.proofs.AcceptSteps.{IsKnown, HasProblem, IsApt, state_by
 -- the body is a result of a known object
 unfoldable pub IsPlainResult : List ObjectLine → Body → Type 0
 IsPlainResult fresh (bodies.Result host service code output) = IsKnown fresh host service
-IsPlainResult fresh (bodies.AddComment host service persistent author text) = ⊥
-IsPlainResult fresh (bodies.DelComment kind id) = ⊥
-IsPlainResult fresh (bodies.DelAllComments host service) = ⊥
-IsPlainResult fresh (bodies.Acknowledge host service sticky notify persistent author text) = ⊥
-IsPlainResult fresh (bodies.RemoveAck host service) = ⊥
-IsPlainResult fresh (bodies.Schedule host service starts ends fixed trigger lasts author text) = ⊥
-IsPlainResult fresh (bodies.DelDowntime kind id) = ⊥
-IsPlainResult fresh (bodies.Passive host service on) = ⊥
-IsPlainResult fresh (bodies.ScheduleServices host starts ends fixed trigger lasts author text) = ⊥
-IsPlainResult fresh bodies.Shutdown = ⊥
+IsPlainResult fresh _ = ⊥
 
 -- a comment, a setting or downtime of a known object, or an acknowledgement
 unfoldable pub IsPlain : List ObjectLine → Body → Type 0
-IsPlain fresh (bodies.Result host service code output) = ⊥
 IsPlain fresh (bodies.AddComment host service persistent author text) = IsKnown fresh host service
-IsPlain fresh (bodies.DelComment kind id) = ⊥
-IsPlain fresh (bodies.DelAllComments host service) = ⊥
 IsPlain fresh (bodies.Acknowledge host service sticky notify persistent author text) = Unit {0}
-IsPlain fresh (bodies.RemoveAck host service) = ⊥
 IsPlain fresh (bodies.Schedule host service starts ends fixed trigger lasts author text) = IsKnown fresh host service
-IsPlain fresh (bodies.DelDowntime kind id) = ⊥
 IsPlain fresh (bodies.Passive host service on) = IsKnown fresh host service
-IsPlain fresh (bodies.ScheduleServices host starts ends fixed trigger lasts author text) = ⊥
-IsPlain fresh bodies.Shutdown = ⊥
+IsPlain fresh _ = ⊥
 
 -- the state in which accepted results leave the object at this place
 abbrev pub shown_at : List ObjectLine → ℕ → State → List Body → State
@@ -129,16 +114,7 @@ result_good fresh kept index (Some last) host service code output =
 result_in_good : (fresh : List ObjectLine) (kept : ApplierView) (index : ℕ) (body : Body) → MaySendOnly (IsPlainResult fresh) (result_in fresh kept index body)
 result_in_good fresh kept index (bodies.Result host service code output) =
     result_good fresh kept index (last_of kept host service) host service code output
-result_in_good fresh kept index (bodies.AddComment host service persistent author text) = tt
-result_in_good fresh kept index (bodies.DelComment kind id) = tt
-result_in_good fresh kept index (bodies.DelAllComments host service) = tt
-result_in_good fresh kept index (bodies.Acknowledge host service sticky notify persistent author text) = tt
-result_in_good fresh kept index (bodies.RemoveAck host service) = tt
-result_in_good fresh kept index (bodies.Schedule host service starts ends fixed trigger lasts author text) = tt
-result_in_good fresh kept index (bodies.DelDowntime kind id) = tt
-result_in_good fresh kept index (bodies.Passive host service on) = tt
-result_in_good fresh kept index (bodies.ScheduleServices host starts ends fixed trigger lasts author text) = tt
-result_in_good fresh kept index bodies.Shutdown = tt
+result_in_good fresh kept index body = tt
 
 pub all_results : (fresh : List ObjectLine) (kept : ApplierView) (first : ℕ) (records : List Record)
     → AllByRecursion (SendsOnly (IsPlainResult fresh)) (results_from fresh kept first records)
@@ -160,27 +136,19 @@ plain_comment fresh kept index host service persistent author text =
 
 plain_other : (fresh : List ObjectLine) (kept : ApplierView) (index : ℕ) (body : Body) → MaySendOnly (IsPlain fresh) (other_in fresh kept index body)
 unfolding IsPlain
-plain_other fresh kept index (bodies.Result host service code output) = tt
 plain_other fresh kept index (bodies.AddComment host service persistent author text) =
     plain_comment fresh kept index host service persistent author text
-plain_other fresh kept index (bodies.DelComment kind id) = tt
-plain_other fresh kept index (bodies.DelAllComments host service) = tt
 plain_other fresh kept index (bodies.Acknowledge host service sticky notify persistent author text) =
     let body : Body = bodies.Acknowledge host service sticky notify persistent author text in
     choice (IsPlain fresh) (not (is_in_force fresh kept index host service)) (comment_fate fresh kept index host service persistent author text)
     (Some (sent_to (object_of fresh host service) body))
     (plain_comment fresh kept index host service persistent author text)
     (sent_good fresh host service (IsPlain fresh) body (λ known. tt))
-plain_other fresh kept index (bodies.RemoveAck host service) = tt
-plain_other fresh kept index (bodies.Schedule host service starts ends fixed trigger lasts author text) = tt
-plain_other fresh kept index (bodies.DelDowntime kind id) = tt
-plain_other fresh kept index (bodies.Passive host service true) = tt
 plain_other fresh kept index (bodies.Passive host service false) =
     let body : Body = bodies.Passive host service false in
     choice (IsPlain fresh) (not (is_disabled kept host service)) None (Some (sent_to (object_of fresh host service) body)) tt
     (sent_good fresh host service (IsPlain fresh) body (λ known. known))
-plain_other fresh kept index (bodies.ScheduleServices host starts ends fixed trigger lasts author text) = tt
-plain_other fresh kept index bodies.Shutdown = tt
+plain_other fresh kept index body = tt
 
 -- ---- entries
 
@@ -195,19 +163,10 @@ known_place fresh host service is = found (place_of fresh host service) refl
 plain_by : (fresh : List ObjectLine) (line : ObjectLine) (plan : Scheduled) (terms : Result Terms Cause) (body : Body)
     → ((one : Terms) → terms ≡ Ok one → IsKnown fresh line.host line.service) → MaySendOnly (IsPlain fresh) (fate_by line plan terms body)
 unfolding IsPlain
-plain_by fresh line plan terms (bodies.Result host service code output) known = tt
-plain_by fresh line plan terms (bodies.AddComment host service persistent author text) known = tt
-plain_by fresh line plan terms (bodies.DelComment kind id) known = tt
-plain_by fresh line plan terms (bodies.DelAllComments host service) known = tt
-plain_by fresh line plan terms (bodies.Acknowledge host service sticky notify persistent author text) known = tt
-plain_by fresh line plan terms (bodies.RemoveAck host service) known = tt
 plain_by fresh line plan (Ok one) (bodies.Schedule host service starts ends fixed trigger lasts author text) known = known one refl
-plain_by fresh line plan (Err cause) (bodies.Schedule host service starts ends fixed trigger lasts author text) known = tt
-plain_by fresh line plan terms (bodies.DelDowntime kind id) known = tt
-plain_by fresh line plan terms (bodies.Passive host service on) known = tt
 plain_by fresh line plan (Ok one) (bodies.ScheduleServices host starts ends fixed trigger lasts author text) known = known one refl
-plain_by fresh line plan (Err cause) (bodies.ScheduleServices host starts ends fixed trigger lasts author text) known = tt
-plain_by fresh line plan terms bodies.Shutdown known = tt
+plain_by fresh line plan (Err cause) bodies.Shutdown known = tt
+plain_by fresh line plan terms body known = tt
 
 first_of_both : (one other : Bool) → (one && other) ≡ true → one ≡ true
 first_of_both true other is = refl
@@ -281,22 +240,15 @@ apt_others : (fresh : List ObjectLine) (now : Moment) (sure : Bool) (shown : ℕ
     → AreSchedulable now count (filter_map terms_in commands) → IsApt fresh now sure shown others count commands
 unfolding IsPlain IsApt
 apt_others fresh now sure shown others count [] all acked good = tt
-apt_others fresh now sure shown others count (bodies.Result host service code output ∷ rest) all acked good = absurd all.0
 apt_others fresh now sure shown others count (bodies.AddComment host service persistent author text ∷ rest) all acked good =
     (all.0, apt_others fresh now sure shown true count rest all.1 (λ is. (acked is).1) good)
-apt_others fresh now sure shown others count (bodies.DelComment kind id ∷ rest) all acked good = absurd all.0
-apt_others fresh now sure shown others count (bodies.DelAllComments host service ∷ rest) all acked good = absurd all.0
 apt_others fresh now sure shown others count (bodies.Acknowledge host service sticky notify persistent author text ∷ rest) all acked good =
     ((λ is. (acked is).0), apt_others fresh now sure shown true count rest all.1 (λ is. (acked is).1) good)
-apt_others fresh now sure shown others count (bodies.RemoveAck host service ∷ rest) all acked good = absurd all.0
 apt_others fresh now sure shown others count (bodies.Schedule host service starts ends fixed trigger lasts author text ∷ rest) all acked good =
     (all.0, good.0, good.1, apt_others fresh now sure shown true (count + 1) rest all.1 (λ is. (acked is).1) good.2)
-apt_others fresh now sure shown others count (bodies.DelDowntime kind id ∷ rest) all acked good = absurd all.0
 apt_others fresh now sure shown others count (bodies.Passive host service on ∷ rest) all acked good =
     (all.0, apt_others fresh now sure shown true count rest all.1 (λ is. (acked is).1) good)
-apt_others fresh now sure shown others count (bodies.ScheduleServices host starts ends fixed trigger lasts author text ∷ rest) all acked good =
-    absurd all.0
-apt_others fresh now sure shown others count (bodies.Shutdown ∷ rest) all acked good = absurd all.0
+apt_others fresh now sure shown others count (body ∷ rest) all acked good = absurd all.0
 
 apt_results : (fresh : List ObjectLine) (now : Moment) (sure : Bool) (shown : ℕ → State) (results others : List Body)
     → AllByRecursion (IsPlainResult fresh) results
@@ -309,16 +261,7 @@ apt_results fresh now sure shown (bodies.Result host service code output ∷ res
   all.0,
   apt_results fresh now sure (λ place. state_by fresh place (bodies.Result host service code output) (shown place)) rest others all.1 apt,
 )
-apt_results fresh now sure shown (bodies.AddComment host service persistent author text ∷ rest) others all apt = absurd all.0
-apt_results fresh now sure shown (bodies.DelComment kind id ∷ rest) others all apt = absurd all.0
-apt_results fresh now sure shown (bodies.DelAllComments host service ∷ rest) others all apt = absurd all.0
-apt_results fresh now sure shown (bodies.Acknowledge host service sticky notify persistent author text ∷ rest) others all apt = absurd all.0
-apt_results fresh now sure shown (bodies.RemoveAck host service ∷ rest) others all apt = absurd all.0
-apt_results fresh now sure shown (bodies.Schedule host service starts ends fixed trigger lasts author text ∷ rest) others all apt = absurd all.0
-apt_results fresh now sure shown (bodies.DelDowntime kind id ∷ rest) others all apt = absurd all.0
-apt_results fresh now sure shown (bodies.Passive host service on ∷ rest) others all apt = absurd all.0
-apt_results fresh now sure shown (bodies.ScheduleServices host starts ends fixed trigger lasts author text ∷ rest) others all apt = absurd all.0
-apt_results fresh now sure shown (bodies.Shutdown ∷ rest) others all apt = absurd all.0
+apt_results fresh now sure shown (body ∷ rest) others all apt = absurd all.0
 
 -- the states in which the results of a plan leave the objects
 abbrev pub shown_by : List ObjectLine → Plan → ℕ → State
