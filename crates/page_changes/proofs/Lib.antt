@@ -1,4 +1,3 @@
-pub mod ObjectSteps
 pub mod NameSteps
 pub mod FindSteps
 pub mod OutcomeLaw

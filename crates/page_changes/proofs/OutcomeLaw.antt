@@ -39,11 +39,11 @@ use Rattle.status_reading.specs.Board.{acknowledgement_shown, shown_comment, sho
 use Rattle.status_reading.specs.Gateway.{GatewayView, IsGateway, published_board}
 use Rattle.status_reading.proofs.BareSteps.{HasLength, line_length, found_line}
 use Rattle.status_reading.proofs.EachSteps.{each_filter, each_map, each_reverse}
+use Rattle.status_reading.proofs.ObjectSteps.{comments_each, scheduled_each}
 use Rattle.status_reading.proofs.IdSteps.{Ascend, ascend_map, scheduled_ascend}
 use Rattle.page_changes.specs.Names.{shown_names, kind_of_field, row_with}
 use Rattle.page_changes.specs.Foreseen.{is_acknowledged, outcome_of_row, row_for, outcome_for, outcome_of_field, comment_field, downtime_field, is_entry, outcome_of_span, has_services, outcome_of_deed, outcome_of_act, outcome_on, as_shown}
 use Rattle.page_changes.proofs.NameSteps.{AllNamed, all_named, kind_shown, found_same, row_judged, services_judged, no_line, row_at}
-use Rattle.page_changes.proofs.ObjectSteps.{comments_each, scheduled_each}
 use Rattle.page_changes.proofs.FindSteps.{find_reverse, find_filter, has, has_reverse, has_kept, live_there}
 
 -- ---- outcomes that a page shows
@@ -347,15 +347,13 @@ module _ (gateway : GatewayView) (is : IsGateway gateway) where
       → outcome_of_deed page deed (row_at table gateway.opening gateway.records moment place line)
       ≡ as_shown (meaning.outcome_of_deed table history moment deed place)
   deed_law (deeds.Result code) place line = passive_shown (is_passive place (object_events table history))
-  deed_law (deeds.AddComment persistent) place line = refl
-  deed_law deeds.DelAllComments place line = refl
   deed_law (deeds.Acknowledge sticky persistent) place line =
       accepted_or (is_problem (state_of place (object_events table history))) NoProblem refl
   deed_law deeds.RemoveAck place line =
       ap (λ (test : Bool). if test then Accepted else NotAcknowledged) (acknowledged_shown (acknowledgement_of place (object_events table history)))
       ∙ accepted_or (is_some (acknowledgement_of place (object_events table history))) NotAcknowledged refl
   deed_law (deeds.Schedule span) place line = span_law span
-  deed_law (deeds.Passive on) place line = refl
+  deed_law _ place line = refl
 
   act_law : (act : Act) → outcome_of_act page act ≡ as_shown (outcome_at table history moment act)
   act_law (acts.On host service deed) =

@@ -216,22 +216,17 @@ module _ (before after : PageView) where
 
   deed_marked : (names : Names) (words : Option Written) (output : Option (List ℕ)) (made : Made) (deed : Deed)
       → made_in (effect_of_deed before after names words output deed) ≡ Some made → found_with (mark_of_deed names words deed) ≡ Some made
-  deed_marked names words output made (deeds.Result code) is = sym (none_made _) ∙ is
   deed_marked names words output made (deeds.AddComment persistent) is = sym (made_by None _) ∙ is
-  deed_marked names words output made deeds.DelAllComments is = sym (none_made _) ∙ is
   deed_marked names words output made (deeds.Acknowledge sticky persistent) is =
       acknowledged sticky (OfComment names true persistent words) made (row_with names after.objects) is
-  deed_marked names words output made deeds.RemoveAck is = sym (none_made _) ∙ is
   deed_marked names words output made (deeds.Schedule span) is = sym (made_by None _) ∙ is
   deed_marked names words output made (deeds.Passive on) is = is
+  deed_marked names words output made _ is = sym (none_made _) ∙ is
 
   act_marked : (words : Option Written) (output : Option (List ℕ)) (made : Made) (act : Act)
       → made_in (effect_of_act before after words output act) ≡ Some made → found_with (mark_of_act words act) ≡ Some made
   act_marked words output made (acts.On host service deed) is = deed_marked (shown_names host service) words output made deed is
-  act_marked words output made (acts.ScheduleServices host span) is = sym (none_made _) ∙ is
-  act_marked words output made (acts.DelComment kind id) is = sym (none_made _) ∙ is
-  act_marked words output made (acts.DelDowntime kind id) is = sym (none_made _) ∙ is
-  act_marked words output made acts.Shutdown is = sym (none_made _) ∙ is
+  act_marked words output made _ is = sym (none_made _) ∙ is
 
 module _ (after : PageView) (sound : IsSound after) where
   abbrev object_faults : List (Option RowFault)

@@ -5,7 +5,7 @@ use Rattle.std.specs.List.{AllByRecursion}
 use Rattle.std.specs.Fmt.{decimal}
 use Rattle.std.proofs.lemmas.Bool.{or_parts, or_from, cases_Bool, cond-true, cond-false, ltb-false, ne_eqb}
 use Rattle.gate_model.specs.declared.state.State.{State}
-use Rattle.gate_model.specs.declared.state.State.TheVariants.{Pending, Ok, Warning, Critical, Unknown, Up, Down, Unreachable}
+use Rattle.gate_model.specs.declared.state.State.TheVariants.{Pending}
 use Rattle.gate_grammar.specs.Spelling.{joined, holds}
 use Rattle.gate_grammar.proofs.Numerals.{decimal_digits, none_in_digits, digit_isnt}
 use Rattle.gate_model.specs.Escaping.{hex_digit, is_escaped, escape_of, escaped_byte, escaped}
@@ -95,13 +95,7 @@ optional_field (Some number) fits = number_field number fits
 
 pub state_field : (state : State) → IsField (state_name state)
 state_field Pending = (refl, refl)
-state_field Ok = (refl, refl)
-state_field Warning = (refl, refl)
-state_field Critical = (refl, refl)
-state_field Unknown = (refl, refl)
-state_field Up = (refl, refl)
-state_field Down = (refl, refl)
-state_field Unreachable = (refl, refl)
+state_field _ = (refl, refl)
 
 pub freshness_field : (stale : Bool) → IsField (freshness_name stale)
 freshness_field true = (refl, refl)

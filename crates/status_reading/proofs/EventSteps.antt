@@ -1,6 +1,6 @@
 -- What happened in a gateway has ids, moments and numbers of 32 bits.
 use Rattle.std.proofs.Common.{◌≡◌, ℕ, ◌+◌, ◌^◌, ◌≤◌, ◌<◌, ◌==◌, Bool, true, false, cond, List, [], ◌∷◌, map, length, Option, Some, None, arith}
-use Rattle.std.specs.Prelude.{option_map, IfSome, if◌then◌else◌}
+use Rattle.std.specs.Prelude.{IfSome, if◌then◌else◌}
 use Rattle.std.specs.List.{AllByRecursion, list_any}
 use Rattle.std.proofs.lemmas.List.Sums.{sum_by-cons}
 use Rattle.gate_model.specs.declared.record.Moment.{Moment}
@@ -22,11 +22,10 @@ use Rattle.gate_model.specs.declared.downtime.Scheduled.{Scheduled}
 use Rattle.gate_model.specs.declared.downtime.DowntimeEvent.{DowntimeEvent}
 use Rattle.gate_model.specs.declared.downtime.DowntimeEvent.TheVariants as downtime
 use Rattle.gate_model.specs.Record.{is_accepted}
-use Rattle.gate_model.specs.State.{state_of_code}
 use Rattle.gate_model.specs.Status.{newest, check_result_of, results_of, last_result, is_transition}
 use Rattle.gate_model.specs.Comments.{is_addition, number_made, removes, unless_removed, comment_made, comments_left}
 use Rattle.gate_model.specs.Downtime.{scheduled_in}
-use Rattle.gate_model.specs.Table.{object_kind, object_of, place_of, services_of}
+use Rattle.gate_model.specs.Table.{object_of, services_of}
 use Rattle.gate_model.specs.Meaning.{Judged, object_event_of_deed, object_event_of, object_event, object_events, transition_by, plan_of, downtime_events_of_deed, downtime_events_of, downtime_events_of_record, downtime_events, judged}
 use Rattle.gate_lines.specs.Lines.{last_moment}
 use Rattle.status_reading.specs.Readable.{Fits, MayFit}
@@ -85,9 +84,7 @@ result_fits : (place : ℕ) (event : ObjectEvent) → HasMoment event
 result_fits place (object.Result other state moment log_index) fits =
     some_if (λ (last : CheckResult). Fits last.moment.0) (other == place)
     (record { state = state; moment = moment; log_index = log_index }) fits
-result_fits place (object.Acknowledge other sticky log_index) fits = tt
-result_fits place (object.RemoveAck other) fits = tt
-result_fits place (object.Passive other on) fits = tt
+result_fits place _ fits = tt
 
 newest_fits : (results : List CheckResult) → AllByRecursion (λ (last : CheckResult). Fits last.moment.0) results
     → MayFit (last_moment (newest results))
@@ -148,13 +145,10 @@ SchedulesPlain _ = Unit {0}
 -- a transition schedules nothing
 transition_plain : (before : List ObjectEvent) (event : Option ObjectEvent)
     → IfSome (transition_by before event) SchedulesPlain
-transition_plain before None = tt
 transition_plain before (Some (object.Result place state moment log_index)) =
     some_if SchedulesPlain (is_transition place (object.Result place state moment log_index) before)
     (downtime.Transition moment place) tt
-transition_plain before (Some (object.Acknowledge place sticky log_index)) = tt
-transition_plain before (Some (object.RemoveAck place)) = tt
-transition_plain before (Some (object.Passive place on)) = tt
+transition_plain before _ = tt
 
 deed_plain : (before : List ObjectEvent) (moment : Moment) (log_index : ℕ) (deed : Deed) (found : ObjectId)
     → IsPlainDeed deed

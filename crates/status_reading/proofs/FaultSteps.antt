@@ -57,9 +57,7 @@ rank_of line = if get_or line 0 0 == 111 then 0 else if get_or line 0 0 == 100 t
 
 rank_is : (row : RowView) → rank_of (content row) ≡ rank row
 rank_is (Object row) = refl
-rank_is (Comment row) = refl
-rank_is (Downtime row) = refl
-rank_is (Closing moment) = refl
+rank_is _ = refl
 
 pub same_rank : (one other : RowView) → content one ≡ content other → rank one ≡ rank other
 same_rank one other is = sym (rank_is one) ∙ ap rank_of is ∙ rank_is other
@@ -72,9 +70,7 @@ may_go_at page kind =
 
 may_go_rank : (page : PageView) (row : RowView) → may_go_on page row ≡ may_go_at page (rank row)
 may_go_rank page (Object row) = refl
-may_go_rank page (Comment row) = refl
-may_go_rank page (Downtime row) = refl
-may_go_rank page (Closing moment) = refl
+may_go_rank page _ = refl
 
 pub same_go : (page : PageView) (one other : RowView) (line : List ℕ) → line ≡ content one → line ≡ content other → may_go_on page other ≡ false → may_go_on page one ≡ false
 same_go page one other line is same stop = may_go_rank page one ∙ ap (may_go_at page) (same_rank one other (sym is ∙ same)) ∙ sym (may_go_rank page other) ∙ stop

@@ -18,6 +18,7 @@ pub mod EventSteps
 pub mod PlainLaws
 pub mod BareSteps
 pub mod IdSteps
+pub mod ObjectSteps
 pub mod PlacedSteps
 pub mod DepthSteps
 pub mod RowSteps

@@ -1,7 +1,7 @@
 -- Comments and downtime entries are of objects of the table, and results leave states of their objects' kinds.
-use Rattle.std.proofs.Common.{◌≡◌, ℕ, ◌+◌, ◌<◌, ◌==◌, Bool, true, false, List, [], ◌∷◌, map, length, Option, Some, None, refl, sym, ap, subst, ◌∙◌, arith}
+use Rattle.std.proofs.Common.{◌≡◌, ℕ, ◌<◌, ◌==◌, Bool, true, false, List, [], ◌∷◌, length, Option, Some, None, refl, sym, ap, subst, ◌∙◌, arith}
 use Rattle.std.specs.Prelude.{ℤ, pos, negsuc, option_map, slice_get, IfSome, if◌then◌else◌}
-use Rattle.std.specs.List.{AllByRecursion, enumerate_from, list_any}
+use Rattle.std.specs.List.{AllByRecursion}
 use Rattle.std.specs.Option.{option_and_then}
 use Rattle.std.proofs.lemmas.Bool.{eqb-true}
 use Rattle.std.proofs.lemmas.List.Elements.{recursion_from_All}
@@ -21,28 +21,21 @@ use Rattle.gate_model.specs.declared.status.ObjectEvent.{ObjectEvent}
 use Rattle.gate_model.specs.declared.status.ObjectEvent.TheVariants as object
 use Rattle.gate_model.specs.declared.status.CheckResult.{CheckResult}
 use Rattle.gate_model.specs.declared.comments.Comment.{Comment}
-use Rattle.gate_model.specs.declared.comments.CommentEvent.{CommentEvent}
-use Rattle.gate_model.specs.declared.comments.CommentEvent.TheVariants.{Add, Delete, DeleteAll, Clear, Gone}
 use Rattle.gate_model.specs.declared.downtime.Scheduled.{Scheduled}
-use Rattle.gate_model.specs.declared.downtime.DowntimeEvent.{DowntimeEvent}
-use Rattle.gate_model.specs.declared.downtime.DowntimeEvent.TheVariants as downtime
 use Rattle.gate_model.specs.Record.{is_accepted}
 use Rattle.gate_model.specs.State.{state_of_code}
-use Rattle.gate_model.specs.Status.{newest, check_result_of, results_of, last_result, state_left_by, is_transition, is_clearing}
-use Rattle.gate_model.specs.Comments.{removes, unless_removed, comment_made, comments_left}
+use Rattle.gate_model.specs.Status.{newest, check_result_of, results_of, last_result, state_left_by}
+use Rattle.gate_model.specs.Comments.{comments_left}
 use Rattle.gate_model.specs.Downtime.{scheduled_in}
 use Rattle.gate_model.specs.Table.{is_line_of, object_kind, object_at, object_of, place_of, services_of}
-use Rattle.gate_model.specs.Meaning.{Judged, object_event_of_deed, object_event_of, object_event, object_events, transition_by, plan_of, clearing_by, addition_of_entry, next_entry, downtime_events_of_deed, downtime_events_of, downtime_events_of_record, downtime_events, comment_events_of_deed, comment_events_of, comment_events_of_record, comment_events}
+use Rattle.gate_model.specs.Meaning.{Judged, object_event_of_deed, object_event_of, object_event, object_events, downtime_events, comment_events}
 use Rattle.gate_model.proofs.Lists.{position_from-within}
 use Rattle.gate_table.proofs.ServiceSteps.{services-within}
 use Rattle.gate_lines.specs.Lines.{last_moment}
 use Rattle.status_reading.specs.RowFaults.{is_state_of}
-use Rattle.status_reading.proofs.EachSteps.{each_append, each_reverse, each_map, each_filter_map, each_option, each_found, some_if}
+use Rattle.status_reading.proofs.EachSteps.{each_filter_map}
 use Rattle.status_reading.proofs.BareSteps.{found_line}
-
-all_if : {A : Type 0} (P : A → Type 0) (test : Bool) (list : List A) → AllByRecursion P list → AllByRecursion P (if test then list else [])
-all_if P true list all = all
-all_if P false list all = tt
+use Rattle.status_reading.proofs.ObjectSteps.{comments_each, scheduled_each}
 
 module _ (table : List ObjectLine) where
   -- the object is one of the table
@@ -60,130 +53,13 @@ module _ (table : List ObjectLine) where
   services_placed : (host : List ℕ) → AllByRecursion IsPlaced (services_of table host)
   services_placed host = recursion_from_All IsPlaced (services_of table host) (services-within table host)
 
-  -- ---- comments
-
-  -- what is added is of an object of the table
-  abbrev AddsPlaced : CommentEvent → Type 0
-  AddsPlaced (Add found from persistent log_index) = IsPlaced found
-  AddsPlaced _ = Unit {0}
-
-  cleared : (before : List ObjectEvent) (event : Option ObjectEvent) → IfSome (clearing_by before event) AddsPlaced
-  cleared before None = tt
-  cleared before (Some (object.Result place state moment log_index)) =
-      some_if AddsPlaced (is_clearing place (object.Result place state moment log_index) before) (Clear place) tt
-  cleared before (Some (object.Acknowledge place sticky log_index)) = tt
-  cleared before (Some (object.RemoveAck place)) = some_if AddsPlaced (is_clearing place (object.RemoveAck place) before) (Clear place) tt
-  cleared before (Some (object.Passive place on)) = tt
-
-  added_each : (log_index entry : ℕ) (services : List ObjectId) → AllByRecursion IsPlaced services
-      → AllByRecursion AddsPlaced (map (addition_of_entry log_index) (enumerate_from entry services))
-  added_each log_index entry [] all = tt
-  added_each log_index entry (one ∷ services) all = (all.0, added_each log_index (entry + 1) services all.1)
-
-  deed_adds : (before : List ObjectEvent) (entry : ℕ) (moment : Moment) (log_index : ℕ) (deed : Deed) (found : ObjectId) → IsPlaced found
-      → AllByRecursion AddsPlaced (comment_events_of_deed before entry moment log_index deed found)
-  deed_adds before entry moment log_index (deeds.AddComment persistent) found here = (here, tt)
-  deed_adds before entry moment log_index (deeds.Acknowledge sticky persistent) found here = (here, tt)
-  deed_adds before entry moment log_index (deeds.Schedule span) found here = (here, tt)
-  deed_adds before entry moment log_index deeds.DelAllComments found here = (tt, tt)
-  deed_adds before entry moment log_index deed found here =
-      let event = object_event_of_deed moment log_index deed found in
-      each_option AddsPlaced (clearing_by before event) (cleared before event)
-
-  act_adds : (before : List ObjectEvent) (entry : ℕ) (moment : Moment) (log_index : ℕ) (act : Act)
-      → AllByRecursion AddsPlaced (comment_events_of table before entry moment log_index act)
-  act_adds before entry moment log_index (acts.On host service deed) =
-      each_found IsPlaced AddsPlaced (comment_events_of_deed before entry moment log_index deed) (deed_adds before entry moment log_index deed)
-      (object_of table host service) (object_placed host service)
-  act_adds before entry moment log_index (acts.ScheduleServices host span) =
-      each_reverse AddsPlaced _ (added_each log_index entry (services_of table host) (services_placed host))
-  act_adds before entry moment log_index (acts.DelComment kind id) = (tt, tt)
-  act_adds before entry moment log_index act = tt
-
-  events_add : (judgements : List Judged) → AllByRecursion AddsPlaced (comment_events table judgements)
-  events_add [] = tt
-  events_add (judgement ∷ before) =
-      let act = act_of judgement.applied.item.body in
-      each_append AddsPlaced (comment_events_of_record table before judgement) (comment_events table before)
-      (all_if AddsPlaced (is_accepted judgement.outcome) _
-      (act_adds (object_events table before) (next_entry table before) judgement.applied.moment judgement.log_index act))
-      (events_add before)
-
-  kept_placed : (removed : Bool) (comment : Comment) → IsPlaced comment.object
-      → AllByRecursion (λ (one : Comment). IsPlaced one.object) (if removed then [] else comment ∷ [])
-  kept_placed true comment here = tt
-  kept_placed false comment here = (here, tt)
-
-  left_placed : (first : ℕ) (later history : List CommentEvent) → AllByRecursion AddsPlaced history
-      → AllByRecursion (λ (one : Comment). IsPlaced one.object) (comments_left first later history)
-  left_placed first later [] all = tt
-  left_placed first later (Add found from persistent log_index ∷ before) all =
-      let comment = comment_made first before found from persistent log_index in
-      let more = Add found from persistent log_index ∷ later in
-      each_append (λ (one : Comment). IsPlaced one.object) (comments_left first more before) (unless_removed later comment)
-      (left_placed first more before all.1)
-      (kept_placed (list_any (λ event. removes event comment) later) comment all.0)
-  left_placed first later (Delete id ∷ before) all = left_placed first (Delete id ∷ later) before all.1
-  left_placed first later (DeleteAll place ∷ before) all = left_placed first (DeleteAll place ∷ later) before all.1
-  left_placed first later (Clear place ∷ before) all = left_placed first (Clear place ∷ later) before all.1
-  left_placed first later (Gone id ∷ before) all = left_placed first (Gone id ∷ later) before all.1
-
   pub comments_placed : (judgements : List Judged)
       → AllByRecursion (λ (one : Comment). IsPlaced one.object) (comments_left 1 [] (comment_events table judgements))
-  comments_placed judgements = left_placed 1 [] (comment_events table judgements) (events_add judgements)
-
-  -- ---- downtime entries
-
-  -- what is scheduled is of an object of the table
-  abbrev SchedulesPlaced : DowntimeEvent → Type 0
-  SchedulesPlaced (downtime.Schedule moment found plan) = IsPlaced found
-  SchedulesPlaced _ = Unit {0}
-
-  transition_made : (before : List ObjectEvent) (event : Option ObjectEvent) → IfSome (transition_by before event) SchedulesPlaced
-  transition_made before None = tt
-  transition_made before (Some (object.Result place state moment log_index)) =
-      some_if SchedulesPlaced (is_transition place (object.Result place state moment log_index) before) (downtime.Transition moment place) tt
-  transition_made before (Some (object.Acknowledge place sticky log_index)) = tt
-  transition_made before (Some (object.RemoveAck place)) = tt
-  transition_made before (Some (object.Passive place on)) = tt
-
-  deed_schedules : (before : List ObjectEvent) (moment : Moment) (log_index : ℕ) (deed : Deed) (found : ObjectId) → IsPlaced found
-      → AllByRecursion SchedulesPlaced (downtime_events_of_deed before moment log_index deed found)
-  deed_schedules before moment log_index (deeds.Schedule span) found here = (here, tt)
-  deed_schedules before moment log_index deed found here =
-      let event = object_event_of_deed moment log_index deed found in
-      each_option SchedulesPlaced (transition_by before event) (transition_made before event)
-
-  act_schedules : (before : List ObjectEvent) (moment : Moment) (log_index : ℕ) (act : Act)
-      → AllByRecursion SchedulesPlaced (downtime_events_of table before moment log_index act)
-  act_schedules before moment log_index (acts.On host service deed) =
-      each_found IsPlaced SchedulesPlaced (downtime_events_of_deed before moment log_index deed) (deed_schedules before moment log_index deed)
-      (object_of table host service) (object_placed host service)
-  act_schedules before moment log_index (acts.ScheduleServices host span) =
-      each_reverse SchedulesPlaced _
-      (each_map IsPlaced SchedulesPlaced (λ service. downtime.Schedule moment service (plan_of span log_index)) (λ service here. here) (services_of table host) (services_placed host))
-  act_schedules before moment log_index (acts.DelDowntime kind id) = (tt, tt)
-  act_schedules before moment log_index act = tt
-
-  events_schedule : (judgements : List Judged) → AllByRecursion SchedulesPlaced (downtime_events table judgements)
-  events_schedule [] = tt
-  events_schedule (judgement ∷ before) =
-      let act = act_of judgement.applied.item.body in
-      each_append SchedulesPlaced (downtime_events_of_record table before judgement) (downtime_events table before)
-      (all_if SchedulesPlaced (is_accepted judgement.outcome) _
-      (act_schedules (object_events table before) judgement.applied.moment judgement.log_index act))
-      (events_schedule before)
-
-  in_placed : (events : List DowntimeEvent) → AllByRecursion SchedulesPlaced events
-      → AllByRecursion (λ (one : Scheduled). IsPlaced one.object) (scheduled_in 1 events)
-  in_placed [] all = tt
-  in_placed (downtime.Schedule moment found plan ∷ before) all = (all.0, in_placed before all.1)
-  in_placed (downtime.Delete moment id ∷ before) all = in_placed before all.1
-  in_placed (downtime.Transition moment place ∷ before) all = in_placed before all.1
+  comments_placed = comments_each table IsPlaced object_placed services_placed
 
   pub scheduled_placed : (judgements : List Judged)
       → AllByRecursion (λ (one : Scheduled). IsPlaced one.object) (scheduled_in 1 (downtime_events table judgements))
-  scheduled_placed judgements = in_placed (downtime_events table judgements) (events_schedule judgements)
+  scheduled_placed = scheduled_each table IsPlaced object_placed services_placed
 
   -- ---- states
 
@@ -267,9 +143,7 @@ module _ (table : List ObjectLine) where
 
   last_kind : (place : ℕ) (event : ObjectEvent) → LeavesKind event → IfSome (check_result_of place event) (λ (last : CheckResult). HasKind place last.state)
   last_kind place (object.Result other state moment log_index) kind = made_here place other state moment log_index (other == place) refl kind
-  last_kind place (object.Acknowledge other sticky log_index) kind = tt
-  last_kind place (object.RemoveAck other) kind = tt
-  last_kind place (object.Passive other on) kind = tt
+  last_kind place _ kind = tt
 
   newest_kind : (place : ℕ) (line : ObjectLine) (results : List CheckResult) → slice_get table place ≡ Some line
       → AllByRecursion (λ (last : CheckResult). HasKind place last.state) results

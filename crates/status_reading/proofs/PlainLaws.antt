@@ -1,5 +1,5 @@
 -- What a field stands for, step by step, and of the field that shows a text.
-use Rattle.std.proofs.Common.{◌≡◌, ℕ, zero, suc, ◌+◌, ◌*◌, ◌/◌, ◌%◌, ◌<◌, ◌==◌, ◌&&◌, true, false, inl, inr, List, [], ◌∷◌, ◌++◌, length, refl, sym, ap, ◌∙◌, arith, append-nil, append_assoc}
+use Rattle.std.proofs.Common.{◌≡◌, ℕ, suc, ◌+◌, ◌*◌, ◌/◌, ◌%◌, ◌<◌, ◌==◌, ◌&&◌, true, false, inl, inr, List, [], ◌∷◌, ◌++◌, length, refl, sym, ap, ◌∙◌, arith, append-nil, append_assoc}
 use Rattle.std.specs.Prelude.{if◌then◌else◌}
 use Rattle.std.proofs.lemmas.Bool.{or_parts, cases_Bool, cond-true, cond-false}
 use Rattle.std.proofs.lemmas.Grind.{common_steps}
@@ -85,23 +85,8 @@ run_undone front run escape after rest byte parts none is =
 
 -- the digit of a number below 16 has that number
 digit_again : (n : ℕ) → n < 16 → (is_hex_digit (hex_digit n) ≡ true) × (hex_value (hex_digit n) ≡ n)
-digit_again zero h = (refl, refl)
-digit_again (suc zero) h = (refl, refl)
-digit_again (suc (suc zero)) h = (refl, refl)
-digit_again (suc (suc (suc zero))) h = (refl, refl)
-digit_again (suc (suc (suc (suc zero)))) h = (refl, refl)
-digit_again (suc (suc (suc (suc (suc zero))))) h = (refl, refl)
-digit_again (suc (suc (suc (suc (suc (suc zero)))))) h = (refl, refl)
-digit_again (suc (suc (suc (suc (suc (suc (suc zero))))))) h = (refl, refl)
-digit_again (suc (suc (suc (suc (suc (suc (suc (suc zero)))))))) h = (refl, refl)
-digit_again (suc (suc (suc (suc (suc (suc (suc (suc (suc zero))))))))) h = (refl, refl)
-digit_again (suc (suc (suc (suc (suc (suc (suc (suc (suc (suc zero)))))))))) h = (refl, refl)
-digit_again (suc (suc (suc (suc (suc (suc (suc (suc (suc (suc (suc zero))))))))))) h = (refl, refl)
-digit_again (suc (suc (suc (suc (suc (suc (suc (suc (suc (suc (suc (suc zero)))))))))))) h = (refl, refl)
-digit_again (suc (suc (suc (suc (suc (suc (suc (suc (suc (suc (suc (suc (suc zero))))))))))))) h = (refl, refl)
-digit_again (suc (suc (suc (suc (suc (suc (suc (suc (suc (suc (suc (suc (suc (suc zero)))))))))))))) h = (refl, refl)
-digit_again (suc (suc (suc (suc (suc (suc (suc (suc (suc (suc (suc (suc (suc (suc (suc zero))))))))))))))) h = (refl, refl)
 digit_again (suc (suc (suc (suc (suc (suc (suc (suc (suc (suc (suc (suc (suc (suc (suc (suc n)))))))))))))))) h = absurd (omega arith)
+digit_again _ h = (refl, refl)
 
 -- the escape of a byte stands for it
 escape_again : (byte : ℕ) (rest : List ℕ) → byte < 256 → plain_bytes (escape_of byte ++ rest) ≡ byte ∷ plain_bytes rest

@@ -47,27 +47,19 @@ picked_others pick kind (first ∷ block) rest is =
 
 abbrev as_object : RowView → Option ObjectView
 as_object (Object row) = Some row
-as_object (Comment row) = None
-as_object (Downtime row) = None
-as_object (Closing moment) = None
+as_object _ = None
 
 abbrev as_comment : RowView → Option CommentView
-as_comment (Object row) = None
 as_comment (Comment row) = Some row
-as_comment (Downtime row) = None
-as_comment (Closing moment) = None
+as_comment _ = None
 
 abbrev as_downtime : RowView → Option DowntimeView
-as_downtime (Object row) = None
-as_downtime (Comment row) = None
 as_downtime (Downtime row) = Some row
-as_downtime (Closing moment) = None
+as_downtime _ = None
 
 abbrev as_closing : RowView → Option ℕ
-as_closing (Object row) = None
-as_closing (Comment row) = None
-as_closing (Downtime row) = None
 as_closing (Closing moment) = Some moment
+as_closing _ = None
 
 abbrev first_of_list : List ℕ → Option ℕ
 first_of_list [] = None

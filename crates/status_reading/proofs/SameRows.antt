@@ -51,13 +51,7 @@ state_back name =
 
 state_again : (state : State) → state_back (state_name state) ≡ state
 state_again Pending = refl
-state_again Ok = refl
-state_again Warning = refl
-state_again Critical = refl
-state_again Unknown = refl
-state_again Up = refl
-state_again Down = refl
-state_again Unreachable = refl
+state_again _ = refl
 
 same_state : (one other : State) → state_name one ≡ state_name other → one ≡ other
 same_state one other is = sym (state_again one) ∙ ap state_back is ∙ state_again other

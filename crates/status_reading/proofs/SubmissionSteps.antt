@@ -13,7 +13,7 @@ use Rattle.gate_model.specs.declared.submission.Body.TheVariants as bodies
 use Rattle.gate_model.specs.Submission.{is_result}
 use Rattle.gate_model.specs.Act.{span_of, act_of}
 use Rattle.gate_model.specs.Meaning.{plan_of}
-use Rattle.gate_grammar.specs.Arguments.{ArgumentValue, Name, Number, Code, Text}
+use Rattle.gate_grammar.specs.Arguments.{ArgumentValue, Name, Number, Text}
 use Rattle.gate_grammar.specs.Commands.{values_of}
 use Rattle.gate_grammar.specs.Spelling.{SpellsValue, SpellEach}
 use Rattle.gate_grammar.specs.Writability.{AreWritable}
@@ -49,16 +49,12 @@ pub record IsPlainBody (body : Body) : Type 0 where
 
 -- a number has 32 bits
 abbrev FitsIfNumber : ArgumentValue → Type 0
-FitsIfNumber (Name text) = Unit {0}
 FitsIfNumber (Number number) = Fits number
-FitsIfNumber (Code code) = Unit {0}
-FitsIfNumber (Text text) = Unit {0}
+FitsIfNumber _ = Unit {0}
 
 value_fits : (text : List ℕ) (value : ArgumentValue) → SpellsValue text value → FitsIfNumber value
-value_fits text (Name name) is = tt
 value_fits text (Number number) is = (number_facts (2 ^ 32) text number is).small
-value_fits text (Code code) is = tt
-value_fits text (Text whole) is = tt
+value_fits text _ is = tt
 
 values_fit : (texts : List (List ℕ)) (values : List ArgumentValue) → SpellEach texts values
     → AllByRecursion FitsIfNumber values
@@ -108,7 +104,6 @@ plain_plan starts ends fixed trigger lasts rest fit log_index =
     record { trigger = fit.1.1.1.0; start = fit.0; end = fit.1.0; duration = fit.1.1.1.1.0 }
 
 pub plain_body : (body : Body) → IsSubmission body → IsPlainBody body
-plain_body (bodies.Result host service code output) is = record { author = refl; plan = tt }
 plain_body (bodies.AddComment host None persistent author text) is =
     let values = plain_values (bodies.AddComment host None persistent author text) refl is in
     record { author = author_among (Name host ∷ Number persistent ∷ []) author text values.writable; plan = tt }
@@ -116,8 +111,6 @@ plain_body (bodies.AddComment host (Some service) persistent author text) is =
     let values = plain_values (bodies.AddComment host (Some service) persistent author text) refl is in
     let front = Name host ∷ Name service ∷ Number persistent ∷ [] in
     record { author = author_among front author text values.writable; plan = tt }
-plain_body (bodies.DelComment kind id) is = record { author = refl; plan = tt }
-plain_body (bodies.DelAllComments host service) is = record { author = refl; plan = tt }
 plain_body (bodies.Acknowledge host None sticky notify persistent author text) is =
     let values = plain_values (bodies.Acknowledge host None sticky notify persistent author text) refl is in
     let front = Name host ∷ Number sticky ∷ Number notify ∷ Number persistent ∷ [] in
@@ -126,7 +119,6 @@ plain_body (bodies.Acknowledge host (Some service) sticky notify persistent auth
     let values = plain_values (bodies.Acknowledge host (Some service) sticky notify persistent author text) refl is in
     let front = Name host ∷ Name service ∷ Number sticky ∷ Number notify ∷ Number persistent ∷ [] in
     record { author = author_among front author text values.writable; plan = tt }
-plain_body (bodies.RemoveAck host service) is = record { author = refl; plan = tt }
 plain_body (bodies.Schedule host None starts ends fixed trigger lasts author text) is =
     let values = plain_values (bodies.Schedule host None starts ends fixed trigger lasts author text) refl is in
     let last = Text author ∷ Text text ∷ [] in
@@ -143,8 +135,6 @@ plain_body (bodies.Schedule host (Some service) starts ends fixed trigger lasts 
       author = author_among front author text values.writable;
       plan = plain_plan starts ends fixed trigger lasts last values.fit.1.1;
     }
-plain_body (bodies.DelDowntime kind id) is = record { author = refl; plan = tt }
-plain_body (bodies.Passive host service on) is = record { author = refl; plan = tt }
 plain_body (bodies.ScheduleServices host starts ends fixed trigger lasts author text) is =
     let values = plain_values (bodies.ScheduleServices host starts ends fixed trigger lasts author text) refl is in
     let last = Text author ∷ Text text ∷ [] in
@@ -152,4 +142,4 @@ plain_body (bodies.ScheduleServices host starts ends fixed trigger lasts author 
       author = author_among (Name host ∷ plan_values starts ends fixed trigger lasts) author text values.writable;
       plan = plain_plan starts ends fixed trigger lasts last values.fit.1;
     }
-plain_body bodies.Shutdown is = record { author = refl; plan = tt }
+plain_body body is = record { author = refl; plan = tt }

@@ -1,5 +1,5 @@
 -- What holds of each object of a table holds of the objects of its gateway's comments and downtime entries.
-use Rattle.std.proofs.Common.{ℕ, ◌+◌, Bool, true, false, List, [], ◌∷◌, map, Option, Some, None}
+use Rattle.std.proofs.Common.{ℕ, ◌+◌, Bool, true, false, List, [], ◌∷◌, map, Option, Some}
 use Rattle.std.specs.Prelude.{IfSome, if◌then◌else◌}
 use Rattle.std.specs.List.{AllByRecursion, enumerate_from, list_any}
 use Rattle.gate_model.specs.declared.record.Moment.{Moment}
@@ -42,12 +42,10 @@ module _ (table : List ObjectLine) (P : ObjectId → Type 0)
   Adds _ = Unit {0}
 
   cleared : (before : List ObjectEvent) (event : Option ObjectEvent) → IfSome (clearing_by before event) Adds
-  cleared before None = tt
   cleared before (Some (object.Result place state moment log_index)) =
       some_if Adds (is_clearing place (object.Result place state moment log_index) before) (Clear place) tt
-  cleared before (Some (object.Acknowledge place sticky log_index)) = tt
   cleared before (Some (object.RemoveAck place)) = some_if Adds (is_clearing place (object.RemoveAck place) before) (Clear place) tt
-  cleared before (Some (object.Passive place on)) = tt
+  cleared before _ = tt
 
   added_each : (log_index entry : ℕ) (services : List ObjectId) → AllByRecursion P services
       → AllByRecursion Adds (map (addition_of_entry log_index) (enumerate_from entry services))
@@ -114,12 +112,9 @@ module _ (table : List ObjectLine) (P : ObjectId → Type 0)
   Schedules _ = Unit {0}
 
   transition_made : (before : List ObjectEvent) (event : Option ObjectEvent) → IfSome (transition_by before event) Schedules
-  transition_made before None = tt
   transition_made before (Some (object.Result place state moment log_index)) =
       some_if Schedules (is_transition place (object.Result place state moment log_index) before) (downtime.Transition moment place) tt
-  transition_made before (Some (object.Acknowledge place sticky log_index)) = tt
-  transition_made before (Some (object.RemoveAck place)) = tt
-  transition_made before (Some (object.Passive place on)) = tt
+  transition_made before _ = tt
 
   deed_schedules : (before : List ObjectEvent) (moment : Moment) (log_index : ℕ) (deed : Deed) (found : ObjectId) → P found
       → AllByRecursion Schedules (downtime_events_of_deed before moment log_index deed found)
