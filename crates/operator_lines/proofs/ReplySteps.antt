@@ -1,7 +1,6 @@
 -- The line of a reply, and the reply of a line.
 use Rattle.std.proofs.Common.{◌≡◌, ◌≢◌, ℕ, ◌<◌, ◌^◌, min, ◌==◌, if◌then◌else◌, List, [], ◌∷◌, get_or, codes, Option, Some, None, IfSome, IfNone, MatchOption, refl, sym, ap, ◌∙◌, arith}
 use Rattle.std.specs.List.{AllByRecursion}
-use Rattle.gate_grammar.specs.declared.faults.LineFault.{LineFault}
 use Rattle.gate_grammar.specs.declared.faults.LineFault.TheVariants as fault
 use Rattle.gate_reader.specs.Report.{answer_line}
 use Rattle.gate_reader.specs.declared.report.Answer.{Answer}
@@ -57,18 +56,10 @@ finds line number argument (Some reply) least_is is = is
 
 numbered : (line : List ℕ) (number : ℕ) → ReadsNumber line number → (reply : Reply) → Fits reply → line ≡ reply_line reply → HasNumber reply number
 numbered line number reads (Queued item) fits is = reads (codes "queued ") item refl fits is
-numbered line number reads Full fits is = tt
-numbered line number reads Spent fits is = tt
-numbered line number reads Closing fits is = tt
-numbered line number reads (Bad fault.TooLong) fits is = tt
-numbered line number reads (Bad fault.BadByte) fits is = tt
-numbered line number reads (Bad fault.NoTime) fits is = tt
-numbered line number reads (Bad fault.UnknownCommand) fits is = tt
-numbered line number reads (Bad fault.ExtraArgument) fits is = tt
 numbered line number reads (Bad (fault.MissingArgument found)) fits is = reads (codes "bad MissingArgument ") found refl (omega arith) is
 numbered line number reads (Bad (fault.EmptyName found)) fits is = reads (codes "bad EmptyName ") found refl (omega arith) is
 numbered line number reads (Bad (fault.BadNumber found)) fits is = reads (codes "bad BadNumber ") found refl (omega arith) is
-numbered line number reads (Bad fault.OutOfMemory) fits is = tt
+numbered line number reads _ fits is = tt
 
 -- ---- what is found
 
@@ -106,28 +97,15 @@ named line =
 
 answer_named : (given : Answer) → FitsAnswer given → named (answer_line given) ≡ reply_to given
 answer_named (answer.Queued number) fits = ap (λ n. Some (Queued n)) (number_at_end number fits)
-answer_named answer.Full fits = refl
-answer_named answer.Spent fits = refl
-answer_named (answer.Closing first) fits = refl
-answer_named answer.Stale fits = refl
-answer_named answer.EmptyHost fits = refl
-answer_named (answer.Bad fault.TooLong) fits = refl
-answer_named (answer.Bad fault.BadByte) fits = refl
-answer_named (answer.Bad fault.NoTime) fits = refl
-answer_named (answer.Bad fault.UnknownCommand) fits = refl
-answer_named (answer.Bad fault.ExtraArgument) fits = refl
 answer_named (answer.Bad (fault.MissingArgument number)) fits = ap (λ n. Some (Bad (fault.MissingArgument n))) (number_at_end number (omega arith))
 answer_named (answer.Bad (fault.EmptyName number)) fits = ap (λ n. Some (Bad (fault.EmptyName n))) (number_at_end number (omega arith))
 answer_named (answer.Bad (fault.BadNumber number)) fits = ap (λ n. Some (Bad (fault.BadNumber n))) (number_at_end number (omega arith))
-answer_named (answer.Bad fault.OutOfMemory) fits = refl
-answer_named (answer.Down first) fits = refl
+answer_named _ fits = refl
 
 reply_named : (reply : Reply) → Fits reply → named (reply_line reply) ≡ Some reply
 reply_named (Queued number) fits = answer_named (answer.Queued number) fits
-reply_named Full fits = refl
-reply_named Spent fits = refl
-reply_named Closing fits = refl
 reply_named (Bad cause) fits = answer_named (answer.Bad cause) fits
+reply_named _ fits = refl
 
 -- an answer to a packet is no reply, and any other is found
 none_of_answer : (given : Answer) → FitsAnswer given → ((reply : Reply) → Fits reply → answer_line given ≢ reply_line reply) → None ≡ reply_to given
