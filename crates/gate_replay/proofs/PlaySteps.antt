@@ -125,10 +125,8 @@ carries_with (Ok body) heard takes g = refl
 carries_with (Err cause) heard takes g = refl
 
 serves_with : (setup : Setup) (step : Step) (heard : Heard) (takes : List (Option Numbered)) (g : ReplayState) → serves setup step (record heard { takes = takes }) g ≡ serves setup step heard g
-serves_with setup (step.Clock moment) heard takes g = refl
-serves_with setup (step.Packet sent) heard takes g = refl
 serves_with setup (step.Line text) heard takes g = carries_with (body_of_line (text_before 10 (text ++ 10 ∷ []))) heard takes g
-serves_with setup step.Page heard takes g = refl
+serves_with setup _ heard takes g = refl
 
 -- the drain of a session led where its step leads
 drains_plays : (AreWhole : ℕ → List (Option Numbered) → ReplayState → Type 0) (IsEnd : ReplayState → Type 0) (setup : Setup) (step : Step) (g : ReplayState) (heard : Heard) → g.full ≡ false → is_session step ≡ true
@@ -156,13 +154,9 @@ plays_session view (Ok now) was mid step before after served session drained = �
 plays_session view (Err stop) was mid step before after served session drained = tt
 
 write_end_on : (a b c : SinkState) (fault : ReplayFault) → Fails a.tally b.tally 0 → IsWriteEnd b c fault → IsWriteEnd a c fault
-write_end_on a b c replay_fault.TooLong h k = k
-write_end_on a b c (replay_fault.Line number) h k = k
-write_end_on a b c (replay_fault.Run run.LogFull) h k = k
 write_end_on a b c (replay_fault.Run run.OutOfMemory) h k = fails_then a.tally b.tally c.tally 1 h k
-write_end_on a b c (replay_fault.Run run.ReadFault) h k = k
-write_end_on a b c (replay_fault.Run run.Spawn) h k = k
 write_end_on a b c (replay_fault.Run run.WriteFault) h k = fails_then a.tally b.tally c.tally 1 h k
+write_end_on a b c _ h k = k
 
 -- memory ran out, or a write failed, before the step was printed
 stays_before : {D : Type 0} (view : SoloView D) (s : Setting) (was : Player D) (kept : ApplierView) (before after : SinkState) (g : ReplayState) → kept ≡ record was.applier { moment = kept.moment; room = kept.room } → after ≡ before → Shows view s was before g → Stays view s kept after g

@@ -12,7 +12,7 @@ use Rattle.gate_lines.specs.LogPage.{log_text}
 use Rattle.gate_streams.specs.Sink.{SinkState, Fails, Writes, Delivers, FailsOnce}
 use Rattle.gate_faults.specs.declared.fault.RunFault.TheVariants as run
 use Rattle.gate_replay.specs.declared.fault.ReplayFault.{ReplayFault}
-use Rattle.gate_replay.specs.declared.fault.ReplayFault.TheVariants.{TooLong, Line, Run as OfRun}
+use Rattle.gate_replay.specs.declared.fault.ReplayFault.TheVariants.{Run as OfRun}
 use Rattle.gate_replay.specs.declared.player.Player.{Player}
 use Rattle.gate_replay.specs.declared.script.Script.{Script}
 use Rattle.gate_replay.specs.Replay.{printed_by}
@@ -56,13 +56,10 @@ part_played view script kept b m h = record {
 
 -- the log page wasn't delivered
 unlogged : (rules so_far : Limits → Run → Type 0) (script : Script) (b m a : SinkState) (fault : ReplayFault) → Fails b.tally m.tally 0 → IsWriteEnd m a fault → EndsPlaying rules so_far script b a (Some fault)
-unlogged rules so_far script b m a TooLong w k = k
-unlogged rules so_far script b m a (Line number) w k = k
 unlogged rules so_far script b m a (OfRun run.LogFull) w k = absurd k
 unlogged rules so_far script b m a (OfRun run.OutOfMemory) w k = inr (inl (fails_then b.tally m.tally a.tally 1 w k))
-unlogged rules so_far script b m a (OfRun run.ReadFault) w k = k
-unlogged rules so_far script b m a (OfRun run.Spawn) w k = k
 unlogged rules so_far script b m a (OfRun run.WriteFault) w k = fails_then b.tally m.tally a.tally 1 w k
+unlogged rules so_far script b m a _ w k = k
 
 -- ---- the log page
 
@@ -134,14 +131,10 @@ kept_so_far rules others script b a weaker h = record {
 pub ends_too : (rules so_far others : Limits → Run → Type 0) (script : Script) (b a : SinkState) (end : Option ReplayFault) → ((limits : Limits) (run : Run) → rules limits run → others limits run) → ((limits : Limits) (run : Run) → so_far limits run → others limits run)
     → EndsPlaying rules so_far script b a end → EndsPlaying others others script b a end
 ends_too rules so_far others script b a None weaker weaker_too h = kept_too rules others script b a false weaker h
-ends_too rules so_far others script b a (Some TooLong) weaker weaker_too h = h
-ends_too rules so_far others script b a (Some (Line number)) weaker weaker_too h = h
 ends_too rules so_far others script b a (Some (OfRun run.LogFull)) weaker weaker_too h = kept_too rules others script b a true weaker h
 ends_too rules so_far others script b a (Some (OfRun run.OutOfMemory)) weaker weaker_too h =
     ⊎_elim (λ (same : a ≡ b). inl same)
     (λ (rest : FailsOnce b a ⊎ IsPrintedSoFar so_far script b a).
     ⊎_elim (λ (f : FailsOnce b a). inr (inl f)) (λ (p : IsPrintedSoFar so_far script b a). inr (inr (kept_so_far so_far others script b a weaker_too p))) rest)
     h
-ends_too rules so_far others script b a (Some (OfRun run.ReadFault)) weaker weaker_too h = h
-ends_too rules so_far others script b a (Some (OfRun run.Spawn)) weaker weaker_too h = h
-ends_too rules so_far others script b a (Some (OfRun run.WriteFault)) weaker weaker_too h = h
+ends_too rules so_far others script b a _ weaker weaker_too h = h

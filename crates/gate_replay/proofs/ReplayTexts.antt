@@ -6,7 +6,7 @@ use Rattle.gate_core.specs.Limits.{Limits}
 use Rattle.gate_core.specs.Legal.{Run}
 use Rattle.gate_faults.specs.declared.fault.RunFault.TheVariants as run
 use Rattle.gate_replay.specs.declared.fault.ReplayFault.{ReplayFault}
-use Rattle.gate_replay.specs.declared.fault.ReplayFault.TheVariants.{TooLong, Line, Run as OfRun}
+use Rattle.gate_replay.specs.declared.fault.ReplayFault.TheVariants.{Run as OfRun}
 use Rattle.gate_replay.specs.declared.script.Script.{Script}
 use Rattle.gate_replay.specs.Script.{parsed_script_lines, IsScript}
 use Rattle.gate_streams.specs.Sink.{SinkState, FailsOnce}
@@ -24,8 +24,6 @@ whole_text (Some bytes) front items most e h few =
 -- an input that was read and is a script
 pub played_input : (rules : Limits → Run → Type 0) (input : Option (List ℕ)) (text : List ℕ) (played : Script) (fault : Option ReplayFault) (b a : SinkState) → IsWholeInput input text → length text ≤ 1048576 → IsScript (parsed_script_lines text) played → EndsPlaying rules rules played b a fault → EndsWith rules input b a fault
 played_input rules input text played None b a whole short parsed h = record { text = text; whole = whole; short = short; script = played; parsed = parsed; replayed = h.replayed; played = h.played; full_is = h.full_is; printed = h.printed }
-played_input rules input text played (Some TooLong) b a whole short parsed h = absurd h
-played_input rules input text played (Some (Line number)) b a whole short parsed h = absurd h
 played_input rules input text played (Some (OfRun run.LogFull)) b a whole short parsed h = record { text = text; whole = whole; short = short; script = played; parsed = parsed; replayed = h.replayed; played = h.played; full_is = h.full_is; printed = h.printed }
 played_input rules input text played (Some (OfRun run.OutOfMemory)) b a whole short parsed h =
     ⊎_elim (λ (same : a ≡ b). inl same)
@@ -34,6 +32,5 @@ played_input rules input text played (Some (OfRun run.OutOfMemory)) b a whole sh
     (λ (p : IsPrintedSoFar rules played b a). inr (inr (record { text = text; whole = whole; short = short; script = played; parsed = parsed; replayed = p.replayed; played = p.played; room = p.room; printed = p.printed })))
     rest)
     h
-played_input rules input text played (Some (OfRun run.ReadFault)) b a whole short parsed h = absurd h
-played_input rules input text played (Some (OfRun run.Spawn)) b a whole short parsed h = absurd h
 played_input rules input text played (Some (OfRun run.WriteFault)) b a whole short parsed h = h
+played_input rules input text played _ b a whole short parsed h = absurd h
