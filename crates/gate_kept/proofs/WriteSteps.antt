@@ -12,7 +12,7 @@ use Rattle.gate_grammar.specs.Canonical.{canonical_line}
 use Rattle.gate_grammar.specs.Spelling.{holds}
 use Rattle.gate_kept.specs.Kept.{begins_packet, Gives, lines_text, IsBlock, IsGoodPacket, IsBadPacket, IsGoodLine, IsBadLine, IsKept}
 use Rattle.gate_kept.specs.Written.{Reports, HasNoPacket, HasLine, Writes, IsWritten}
-use Rattle.gate_kept.specs.inner.Put.{IsSoundPacket, IsSoundLine, IsPut, ArePut}
+use Rattle.gate_kept.specs.inner.Put.{IsSoundPacket, IsSoundLine, Texts, texts, IsPut, ArePut}
 use Rattle.gate_packet.specs.Decoding.{is_stale, fault_of}
 use Rattle.gate_grammar.specs.Spelling.{Spells, is_barred}
 use Rattle.gate_kept.proofs.GiveSteps.{all_with, concat_with, lines_with}
@@ -47,7 +47,7 @@ aside (first ∷ commands) one packets lines left (inr (inl (others, none, had, 
 aside (first ∷ commands) one packets lines left (inr (inr (others, none, not_so, is, rest))) without never =
     inr (inr (others ++ one ∷ [], none, not_so, ap (λ l. l ++ one ∷ []) is, aside commands one packets lines others rest without never))
 
-pub put_none : ArePut [] [] [] []
+pub put_none : ArePut [] (texts [] [] [])
 put_none = record {
   blocks = [];
   written = [];
@@ -58,39 +58,34 @@ put_none = record {
   sound_lines = tt;
 }
 
-pub put_more : (commands : List Command) (one : Command) (packets packets_after lines lines_after : List ℕ) (left left_after : List Command)
-    → ArePut commands packets lines left → IsPut one packets packets_after lines lines_after left left_after
-    → ArePut (commands ++ one ∷ []) packets_after lines_after left_after
-put_more commands one packets packets_after lines lines_after left left_after far (inl put) = record {
+pub put_more : (commands : List Command) (one : Command) (old new : Texts) → ArePut commands old → IsPut one old new → ArePut (commands ++ one ∷ []) new
+put_more commands one old new far (inl put) = subst (ArePut (commands ++ one ∷ [])) (sym put.added) (record {
   blocks = far.blocks ++ encoded 4304 put.packet ∷ [];
   written = far.written;
-  writes = subst (λ l. Writes (commands ++ one ∷ []) (far.blocks ++ encoded 4304 put.packet ∷ []) far.written l) (sym put.left_stays)
-      (as_packet commands one far.blocks far.written left put.packet far.writes put.reports);
-  packets_are = put.added ∙ ap (λ l. l ++ encoded 4304 put.packet) far.packets_are ∙ sym (concat_with far.blocks (encoded 4304 put.packet));
-  lines_are = put.lines_stay ∙ far.lines_are;
+  writes = as_packet commands one far.blocks far.written old.left put.packet far.writes put.reports;
+  packets_are = ap (λ l. l ++ encoded 4304 put.packet) far.packets_are ∙ sym (concat_with far.blocks (encoded 4304 put.packet));
+  lines_are = far.lines_are;
   sound_packets = all_with IsSoundPacket far.blocks (encoded 4304 put.packet) far.sound_packets put.sound;
   sound_lines = far.sound_lines;
-}
-put_more commands one packets packets_after lines lines_after left left_after far (inr (inl put)) = record {
+})
+put_more commands one old new far (inr (inl put)) = subst (ArePut (commands ++ one ∷ [])) (sym put.added) (record {
   blocks = far.blocks;
   written = far.written ++ canonical_line one ∷ [];
-  writes = subst (λ l. Writes (commands ++ one ∷ []) far.blocks (far.written ++ canonical_line one ∷ []) l) (sym put.left_stays)
-      (as_line commands one far.blocks far.written left far.writes put.none put.has_line);
-  packets_are = put.packets_stay ∙ far.packets_are;
-  lines_are = put.added ∙ ap (λ l. l ++ (canonical_line one ++ 10 ∷ [])) far.lines_are ∙ sym (lines_with far.written (canonical_line one));
+  writes = as_line commands one far.blocks far.written old.left far.writes put.none put.has_line;
+  packets_are = far.packets_are;
+  lines_are = ap (λ l. l ++ (canonical_line one ++ 10 ∷ [])) far.lines_are ∙ sym (lines_with far.written (canonical_line one));
   sound_packets = far.sound_packets;
   sound_lines = all_with IsSoundLine far.written (canonical_line one) far.sound_lines put.sound;
-}
-put_more commands one packets packets_after lines lines_after left left_after far (inr (inr put)) = record {
+})
+put_more commands one old new far (inr (inr put)) = subst (ArePut (commands ++ one ∷ [])) (sym put.added) (record {
   blocks = far.blocks;
   written = far.written;
-  writes = subst (λ l. Writes (commands ++ one ∷ []) far.blocks far.written l) (sym put.added)
-      (aside commands one far.blocks far.written left far.writes put.none put.no_line);
-  packets_are = put.packets_stay ∙ far.packets_are;
-  lines_are = put.lines_stay ∙ far.lines_are;
+  writes = aside commands one far.blocks far.written old.left far.writes put.none put.no_line;
+  packets_are = far.packets_are;
+  lines_are = far.lines_are;
   sound_packets = far.sound_packets;
   sound_lines = far.sound_lines;
-}
+})
 
 -- ---- what is written is read again
 
@@ -152,12 +147,12 @@ read_again blocks lines packets_sound lines_sound = record {
   named = refl;
 }
 
-pub written_whole : (commands : List Command) (packets lines text : List ℕ) (left : List Command) → ArePut commands packets lines left → text ≡ packets ++ lines → IsWritten commands text left
-written_whole commands packets lines text left far is = record {
+pub written_whole : (commands : List Command) (all : Texts) (text : List ℕ) → ArePut commands all → text ≡ all.packets ++ all.lines → IsWritten commands text all.left
+written_whole commands all text far is = record {
   packets = far.blocks;
   lines = far.written;
   writes = far.writes;
-  taken = subst (λ l. IsKept l (concat far.blocks) (lines_text far.written) []) (sym (is ∙ ap (λ l. l ++ lines) far.packets_are ∙ ap (λ l. concat far.blocks ++ l) far.lines_are))
+  taken = subst (λ l. IsKept l (concat far.blocks) (lines_text far.written) []) (sym (is ∙ ap (λ l. l ++ all.lines) far.packets_are ∙ ap (λ l. concat far.blocks ++ l) far.lines_are))
       (read_again far.blocks far.written far.sound_packets far.sound_lines);
 }
 
@@ -194,10 +189,8 @@ sound_line line one spelled other = record {
   begins = begins_timed line _ spelled.blanks spelled.whole;
 }
 
-pub put_next : (commands : List Command) (index : ℕ) (one : Command) (packets packets_after lines lines_after : List ℕ) (left left_after : List Command)
-    → index < length commands → one ≡ get_or commands index one → ArePut (take index commands) packets lines left
-    → IsPut one packets packets_after lines lines_after left left_after → ArePut (take (index + 1) commands) packets_after lines_after left_after
-put_next commands index one packets packets_after lines lines_after left left_after within same far put =
-    subst (λ l. ArePut l packets_after lines_after left_after)
-    (ap (λ x. take index commands ++ x ∷ []) same ∙ sym (take_more commands index one within))
-    (put_more (take index commands) one packets packets_after lines lines_after left left_after far put)
+pub put_next : (commands : List Command) (index : ℕ) (one : Command) (old new : Texts)
+    → index < length commands → one ≡ get_or commands index one → ArePut (take index commands) old → IsPut one old new → ArePut (take (index + 1) commands) new
+put_next commands index one old new within same far put =
+    subst (λ l. ArePut l new) (ap (λ x. take index commands ++ x ∷ []) same ∙ sym (take_more commands index one within))
+    (put_more (take index commands) one old new far put)

@@ -3,7 +3,7 @@ ghost use Rattle.gate_grammar.specs.Canonical.{canonical_line};
 ghost use Rattle.gate_packet.specs.Packet.{service_of};
 ghost use Rattle.gate_packet.specs.Encoding.{encoded};
 ghost use Rattle.gate_kept.specs.Written.{Reports, HasNoPacket, HasLine, IsWritten};
-ghost use Rattle.gate_kept.specs.inner.Put.{IsSoundPacket, IsSoundLine, IsPut};
+ghost use Rattle.gate_kept.specs.inner.Put.{IsSoundPacket, IsSoundLine, IsPut, texts};
 
 use gate_grammar::{Command, writable, write_line};
 use gate_model::{Body, Moment, Text};
@@ -110,9 +110,9 @@ fn put<'a>(
     lines: &mut Vec<u8>,
     left: &mut Vec<&'a Command>,
 ) -> Result<(), AllocError>
-    ensures { OnOk result (IsPut command.now packets.old.items packets.new.items
-        lines.old.items lines.new.items (map (λ one. one.now) left.old.items)
-        (map (λ one. one.now) left.new.items)) }
+    ensures { OnOk result (IsPut command.now
+        (texts packets.old.items lines.old.items (map (λ one. one.now) left.old.items))
+        (texts packets.new.items lines.new.items (map (λ one. one.now) left.new.items))) }
 {
     if let Some(packet) = packet_of(alloc, &command.body)? {
         packets.extend_from_slice(&packet_bytes(&packet))?;

@@ -20,48 +20,45 @@ pub record IsSoundLine (line : List ℕ) : Type 0 where
   pub unbroken : holds 10 line ≡ false
   pub begins : begins_packet (line ++ 10 ∷ []) ≡ false
 
+-- what is written: packets, lines, and the commands that neither holds
+pub record Texts : Type 0 where
+  pub packets : List ℕ
+  pub lines : List ℕ
+  pub left : List Command
+
+abbrev pub texts : List ℕ → List ℕ → List Command → Texts
+texts packets lines left = record { packets = packets; lines = lines; left = left }
+
 -- the command was written as a packet
-pub record IsPutPacket (one : Command) (packets packets_after lines lines_after : List ℕ) (left left_after : List Command)
-    : Type 0 where
+pub record IsPutPacket (one : Command) (old new : Texts) : Type 0 where
   pub packet : Content
   pub reports : Reports packet one.body
   pub sound : IsSoundPacket (encoded 4304 packet)
-  pub added : packets_after ≡ packets ++ encoded 4304 packet
-  pub lines_stay : lines_after ≡ lines
-  pub left_stays : left_after ≡ left
+  pub added : new ≡ record old { packets = old.packets ++ encoded 4304 packet }
 
 -- as a line
-pub record IsPutLine (one : Command) (packets packets_after lines lines_after : List ℕ) (left left_after : List Command)
-    : Type 0 where
+pub record IsPutLine (one : Command) (old new : Texts) : Type 0 where
   pub none : HasNoPacket one.body
   pub has_line : HasLine one
   pub sound : IsSoundLine (canonical_line one)
-  pub added : lines_after ≡ lines ++ (canonical_line one ++ 10 ∷ [])
-  pub packets_stay : packets_after ≡ packets
-  pub left_stays : left_after ≡ left
+  pub added : new ≡ record old { lines = old.lines ++ (canonical_line one ++ 10 ∷ []) }
 
 -- it is left
-pub record IsPutAside (one : Command) (packets packets_after lines lines_after : List ℕ) (left left_after : List Command)
-    : Type 0 where
+pub record IsPutAside (one : Command) (old new : Texts) : Type 0 where
   pub none : HasNoPacket one.body
   pub no_line : HasLine one → ⊥
-  pub added : left_after ≡ left ++ one ∷ []
-  pub packets_stay : packets_after ≡ packets
-  pub lines_stay : lines_after ≡ lines
+  pub added : new ≡ record old { left = old.left ++ one ∷ [] }
 
 -- one of these
-abbrev pub IsPut : Command → List ℕ → List ℕ → List ℕ → List ℕ → List Command → List Command → Type 0
-IsPut one packets packets_after lines lines_after left left_after =
-    IsPutPacket one packets packets_after lines lines_after left left_after
-    ⊎ IsPutLine one packets packets_after lines lines_after left left_after
-    ⊎ IsPutAside one packets packets_after lines lines_after left left_after
+abbrev pub IsPut : Command → Texts → Texts → Type 0
+IsPut one old new = IsPutPacket one old new ⊎ IsPutLine one old new ⊎ IsPutAside one old new
 
 -- these commands were written so far
-pub record ArePut (commands : List Command) (packets lines : List ℕ) (left : List Command) : Type 0 where
+pub record ArePut (commands : List Command) (so_far : Texts) : Type 0 where
   pub blocks : List (List ℕ)
   pub written : List (List ℕ)
-  pub writes : Writes commands blocks written left
-  pub packets_are : packets ≡ concat blocks
-  pub lines_are : lines ≡ lines_text written
+  pub writes : Writes commands blocks written so_far.left
+  pub packets_are : so_far.packets ≡ concat blocks
+  pub lines_are : so_far.lines ≡ lines_text written
   pub sound_packets : AllByRecursion IsSoundPacket blocks
   pub sound_lines : AllByRecursion IsSoundLine written
