@@ -1,7 +1,8 @@
--- The workers that have ended, one more and all of them.
-use Rattle.std.proofs.Common.{◌≡◌, ℕ, suc, ◌+◌, List, [], ◌∷◌, ◌++◌, length, map, Option, Some, None, Bool, false, refl, sym, ap, ◌∙◌, subst, arith}
+-- The workers that were started and that have ended, one more and all of them.
+use Rattle.std.proofs.Common.{◌≡◌, ℕ, suc, ◌+◌, List, [], ◌∷◌, ◌++◌, length, map, Option, Some, None, Bool, false, refl, sym, ap, ◌∙◌, subst, arith, length-append}
 use Rattle.std.specs.Prelude.{IfSome}
 use Rattle.std.proofs.lemmas.List.{length-map, map-append}
+use Rattle.std.proofs.lemmas.List.Elements.{All-push}
 use Rattle.std.proofs.lemmas.Option.{IfSome_then}
 use Rattle.gate_model.specs.declared.record.Moment.{Moment}
 use Rattle.gate_queue.specs.Gate.{GateId}
@@ -10,8 +11,13 @@ use Rattle.gate_reader.specs.declared.report.Report.{Report}
 use Rattle.gate_worker.specs.Numbers.{numbers_after}
 use Rattle.gate_worker.specs.declared.limits.WorkerLimits.{WorkerLimits}
 use Rattle.gate_worker.specs.declared.worker.Cause.{Cause}
+use Rattle.gate_worker.specs.declared.worker.WorkerEnd.{WorkerEnd}
+use Rattle.gate_worker.specs.declared.collected.Collected.{Collected}
+use Rattle.gate_worker.specs.Answered.{reports_of_each}
 use Rattle.gate_worker.specs.Served.{EndsSo}
-use Rattle.gate_worker.specs.Collecting.{numbers_of, EachEnded, AllEnded}
+use Rattle.gate_worker.specs.Collecting.{numbers_of, AreOf, EachEnded, AllEnded}
+use Rattle.gate_worker.specs.Joining.{AreCollected}
+use Rattle.gate_worker.specs.inner.Starting.{ReturnsAs, AreStarted, Adds, JoinsAll}
 
 -- what a worker is known by, written otherwise
 pub ended_as : {operator operator' : Bool} {limits limits' : WorkerLimits} {K : Type 0} (shows : K → Moment → Type 0) {clock clock' : K} {streams streams' : Option (List (List ℕ))} {begun begun' ended : ClientState} {reports : List Report} {cause : Cause}
@@ -66,23 +72,96 @@ all_next limits shows gate agents operators operator why clients reports streams
       (let e : length agents ≡ 0 + length agents = omega arith in e) named work;
 }
 
--- the end of one more worker, of the last of these endpoints, each of which sends streams, is collected
-pub collected_next : {X : Type 0} (all rest : List X) (one : X) (sends : X → Option (List (List ℕ))) (limits : WorkerLimits) (shows : Moment → Type 0) (gate : GateId) (operators : Option (List (List ℕ))) (operator : ClientState)
-    (cause : Option Cause) (before after : List ClientState) (reported reported' : List (ℕ × List Report)) (client : ClientState) (reports : List Report) (why : Cause)
-    → all ≡ rest ++ one ∷ [] → after ≡ before ++ client ∷ [] → reported' ≡ reported ++ (client.number, reports) ∷ []
-    → EndsSo false limits shows (sends one) (client_state gate (suc (length rest)) [] None) reports client why
-    → IfSome cause (λ c. AllEnded limits shows gate (map sends rest) operators operator c before reported)
-    → IfSome cause (λ c. AllEnded limits shows gate (map sends all) operators operator c after reported')
-collected_next all rest one sends limits shows gate operators operator cause before after reported reported' client reports why cut ended listed ends found =
-    let agents : map sends all ≡ map sends rest ++ sends one ∷ [] = ap (map sends) cut ∙ map-append sends rest (one ∷ []) in
-    let begun : client_state gate (suc (length rest)) [] None ≡ client_state gate (suc (length (map sends rest))) [] None =
-    ap (λ (n : ℕ). client_state gate (suc n) [] None) (sym (length-map rest sends)) in
-    IfSome_then cause found (λ c whole.
-    subst (λ (l : List (Option (List (List ℕ)))). AllEnded limits shows gate l operators operator c after reported') (sym agents)
-    (subst (λ (l : List ClientState). AllEnded limits shows gate (map sends rest ++ sends one ∷ []) operators operator c l reported') (sym ended)
-    (subst (λ (l : List (ℕ × List Report)). AllEnded limits shows gate (map sends rest ++ sends one ∷ []) operators operator c (before ++ client ∷ []) l) (sym listed)
-    (all_next limits shows gate (map sends rest) operators operator c before reported (sends one) client (client.number, reports) why whole refl
-    (subst (λ (b : ClientState). EndsSo false limits shows (sends one) b reports client why) begun ends)))))
+-- the end of one more worker, of the next of these agents, is collected
+pub collected_one : (limits : WorkerLimits) (shows : Moment → Type 0) (gate : GateId) (others : List (Option (List (List ℕ)))) (streams : Option (List (List ℕ))) (operators : Option (List (List ℕ))) (operator : ClientState)
+    (cause : Option Cause) (before middle new : Collected) (end : WorkerEnd)
+    → AreCollected limits shows gate others operator operators before middle cause → Adds end middle new
+    → EndsSo false limits shows streams (client_state gate (suc (length others)) [] None) end.reports.items end.ended end.cause
+    → AreCollected limits shows gate (others ++ streams ∷ []) operator operators before new cause
+collected_one limits shows gate others streams operators operator cause before middle new end are adds ends =
+    let a : length new.ended.items ≡ length (middle.ended.items ++ end.ended ∷ []) = ap length adds.ended in
+    let b : length (middle.ended.items ++ end.ended ∷ []) ≡ length middle.ended.items + 1 = length-append middle.ended.items (end.ended ∷ []) in
+    let d : length (others ++ streams ∷ []) ≡ length others + 1 = length-append others (streams ∷ []) in
+    let few = are.few in
+    record {
+      ended = IfSome_then cause are.ended (λ why whole.
+          subst (λ (l : List ClientState). AllEnded limits shows gate (others ++ streams ∷ []) operators operator why l (reports_of_each new.reports.items)) (sym adds.ended)
+          (subst (λ (l : List (ℕ × List Report)). AllEnded limits shows gate (others ++ streams ∷ []) operators operator why (middle.ended.items ++ end.ended ∷ []) l) (sym adds.reports)
+          (all_next limits shows gate others operators operator why middle.ended.items (reports_of_each middle.reports.items) streams end.ended (end.ended.number, end.reports.items) end.cause whole refl ends)));
+      few = omega arith;
+      gates = subst (AreOf gate) (sym adds.ended) (All-push (λ (e : ClientState). e.gate ≡ gate) middle.ended.items end.ended are.gates ends.0);
+      ended_room = adds.ended_room ∙ are.ended_room;
+      reports_room = adds.reports_room ∙ are.reports_room;
+    }
+
+-- the ends of all agents' workers that were started are collected
+pub collected_all : {H : Type 0} (returns : H → WorkerEnd → Type 0) (limits : WorkerLimits) (shows : Moment → Type 0) (gate : GateId) (agents : List (Option (List (List ℕ)))) (handles : List H) (left : List (Option (List (List ℕ))))
+    (operators : Option (List (List ℕ))) (operator : ClientState) (cause : Option Cause) (before old new : Collected)
+    → AreStarted returns limits shows gate agents handles left → JoinsAll returns handles old new
+    → AreCollected limits shows gate left operator operators before old cause → AreCollected limits shows gate agents operator operators before new cause
+collected_all returns limits shows gate agents [] left operators operator cause before old new started joined are =
+    subst (λ (c : Collected). AreCollected limits shows gate agents operator operators before c cause) (sym joined)
+    (subst (λ (l : List (Option (List (List ℕ)))). AreCollected limits shows gate l operator operators before old cause) started are)
+collected_all returns limits shows gate agents (handle ∷ handles) left operators operator cause before old new started joined are =
+    let others = started.0 in
+    let streams = started.1 in
+    let middle = joined.0 in
+    let end = joined.1 in
+    let rest = collected_all returns limits shows gate others handles left operators operator cause before old middle started.4 joined.2 are in
+    subst (λ (l : List (Option (List (List ℕ)))). AreCollected limits shows gate l operator operators before new cause) (sym started.2)
+    (collected_one limits shows gate others streams operators operator cause before middle new end rest joined.4 (started.3 end joined.3))
+
+-- one more was started
+pub started_one : {H : Type 0} (returns : H → WorkerEnd → Type 0) (limits : WorkerLimits) (shows : Moment → Type 0) (gate : GateId) (agents : List (Option (List (List ℕ)))) (handles : List H) (left others : List (Option (List (List ℕ))))
+    (streams : Option (List (List ℕ))) (handle : H)
+    → AreStarted returns limits shows gate agents handles left → left ≡ others ++ streams ∷ [] → ReturnsAs limits shows gate (suc (length others)) streams (returns handle)
+    → AreStarted returns limits shows gate agents (handles ++ handle ∷ []) others
+started_one returns limits shows gate agents [] left others streams handle started cut ends = (others, streams, sym started ∙ cut, ends, refl)
+started_one returns limits shows gate agents (h ∷ handles) left others streams handle started cut ends =
+    (started.0, started.1, started.2, started.3, started_one returns limits shows gate started.0 handles left others streams handle started.4 cut ends)
+
+-- the next one was started, of endpoints that send these streams
+pub started_next : {H X : Type 0} (returns : H → WorkerEnd → Type 0) (limits : WorkerLimits) (shows : Moment → Type 0) (gate : GateId) (agents : List (Option (List (List ℕ)))) (handles handles' : List H)
+    (endpoints rest : List X) (one : X) (sends : X → Option (List (List ℕ))) (handle : H) (count : ℕ)
+    → AreStarted returns limits shows gate agents handles (map sends endpoints) → handles' ≡ handles ++ handle ∷ [] → endpoints ≡ rest ++ one ∷ [] → count ≡ length rest
+    → ReturnsAs limits shows gate (suc count) (sends one) (returns handle) → AreStarted returns limits shows gate agents handles' (map sends rest)
+started_next {H} returns limits shows gate agents handles handles' endpoints rest one sends handle count started listed cut counted ends =
+    subst (λ (l : List H). AreStarted returns limits shows gate agents l (map sends rest)) (sym listed)
+    (started_one returns limits shows gate agents handles (map sends endpoints) (map sends rest) (sends one) handle started (ap (map sends) cut ∙ map-append sends rest (one ∷ []))
+    (subst (λ (n : ℕ). ReturnsAs limits shows gate (suc n) (sends one) (returns handle)) (counted ∙ sym (length-map rest sends)) ends))
+
+-- none was started
+pub started_none : {H : Type 0} (returns : H → WorkerEnd → Type 0) (limits : WorkerLimits) (shows : Moment → Type 0) (gate : GateId) (agents : List (Option (List (List ℕ)))) (handles : List H)
+    → handles ≡ [] → AreStarted returns limits shows gate agents handles agents
+started_none {H} returns limits shows gate agents handles none = subst (λ (l : List H). AreStarted returns limits shows gate agents l agents) (sym none) refl
+
+-- where there are none, none sends streams
+pub no_streams : {X : Type 0} (sends : X → Option (List (List ℕ))) (endpoints : List X) → length endpoints ≡ 0 → map sends endpoints ≡ []
+no_streams sends [] none = refl
+no_streams sends (x ∷ endpoints) none = absurd (omega arith)
+
+-- all that were there were joined
+pub all_joined : {H : Type 0} (returns : H → WorkerEnd → Type 0) (handles left joined : List H) (old new : Collected) → length left ≡ 0 → handles ≡ left ++ joined → JoinsAll returns joined old new
+    → JoinsAll returns handles old new
+all_joined {H} returns handles [] joined old new none cut joins = subst (λ (l : List H). JoinsAll returns l old new) (sym cut) joins
+all_joined {H} returns handles (h ∷ left) joined old new none cut joins = absurd (omega arith)
+
+-- nothing is collected yet
+pub collected_none : (limits : WorkerLimits) (shows : Moment → Type 0) (gate : GateId) (agents : List (Option (List (List ℕ)))) (operators : Option (List (List ℕ))) (operator : ClientState) (collected : Collected)
+    → collected.ended.items ≡ [] → AreCollected limits shows gate agents operator operators collected collected None
+collected_none limits shows gate agents operators operator collected none = record {
+  ended = tt;
+  few = let e : length collected.ended.items ≡ 0 = ap length none in omega arith;
+  gates = subst (AreOf gate) (sym none) (λ k d less. absurd (omega arith));
+  ended_room = refl;
+  reports_room = refl;
+}
+
+-- the operator's end is collected, and no agents are left
+pub collected_operator : (limits : WorkerLimits) (shows : Moment → Type 0) (gate : GateId) (left : List (Option (List (List ℕ)))) (operators : Option (List (List ℕ))) (operator : ClientState) (cause : Option Cause) (before after : Collected)
+    → left ≡ [] → AreCollected limits shows gate [] operator operators before after cause → AreCollected limits shows gate left operator operators before after cause
+collected_operator limits shows gate left operators operator cause before after none are =
+    subst (λ (l : List (Option (List (List ℕ)))). AreCollected limits shows gate l operator operators before after cause) (sym none) are
 
 -- ---- numbers
 

@@ -19,7 +19,7 @@ use Rattle.gate_environment.specs.Streams.{ComesNext, AreSent, SendFirst}
 use Rattle.gate_environment.specs.Parting.{parting, parting_all}
 use Rattle.gate_environment.specs.declared.connections.PieceEnd.{PieceEnd}
 use Rattle.gate_environment.proofs.PartingLaws.{parting_none, parting_next}
-use Rattle.gate_worker.specs.Work.{ServedPiece, IsServed, limits_of, left_after, ServesEach, has_queued, met_close, is_kept, count_of, AreFirst, Serves, KnowsItsClose, MetNoClose, EndsAtClose, IsWork}
+use Rattle.gate_worker.specs.Work.{ServedPiece, IsServed, limits_of, left_after, ServesEach, has_queued, met_close, is_kept, count_of, AreFirst, Serves, KnowsItsClose, MetNoClose, EndsAtClose}
 use Rattle.gate_worker.specs.Stops.{StopsAt}
 use Rattle.gate_worker.specs.inner.Parting.{end_after, GivesBack}
 use Rattle.gate_worker.specs.inner.Serving.{end_of_piece}

@@ -1,3 +1,4 @@
 pub mod Serving
 pub mod Progress
 pub mod Parting
+pub mod Starting

@@ -1,5 +1,7 @@
-ghost use Rattle.std.specs.Prelude.{◌≡◌, [], IfOk, IfSome, is_some};
+ghost use Rattle.std.specs.Prelude.{◌≡◌, ◌≤◌, List, Option, ℕ, [], length, map, true, IfOk, IfSome, is_some};
+ghost use Rattle.gate_queue.specs.Opening.{new_clients};
 ghost use Rattle.gate_worker.specs.Served.{EndsSo};
+ghost use Rattle.gate_worker.specs.inner.Starting.{AreStarted};
 
 use crate::endpoint::Endpoint;
 use crate::limits::WorkerLimits;
@@ -97,4 +99,50 @@ pub(crate) fn start_worker<
             Err(Unstarted)
         }
     }
+}
+
+// Starts the agents' workers, the last one first, and keeps their handles in that order: whether all were
+// started.
+pub(crate) fn start_agents<
+    's,
+    E,
+    R: Threads + Wait + Clock + Sync,
+    C: Connections + Send + Drop + 's,
+    K: Watch + Sync,
+    H: Hold + Send + Drop + 's,
+    W,
+>(
+    shared: &Shared<'s, R, K, W>,
+    scope: &Scope<'s, E>,
+    clients: Vec<Client>,
+    endpoints: Vec<Endpoint<C, H>>,
+    started: &mut Vec<PromisedHandle<WorkerEnd, Works<'s, C, K>>>,
+) -> bool
+    requires clients { clients.items ≡ new_clients shared.now.gate.now (length clients.items) }
+    requires each { length endpoints.items ≡ length clients.items }
+    requires none { started.old.items ≡ [] }
+    ensures started { (rest : List (Option (List (List ℕ)))) × AreStarted
+        (λ handle end. EndsSo handle.promise.is_operator handle.promise.limits
+        (K.shows handle.promise.clock.now) (C.streams handle.promise.connections.value)
+        handle.promise.client.value end.reports.items end.ended end.cause)
+        shared.now.limits (K.shows shared.now.clock.now) shared.now.gate.now
+        (map (λ endpoint. C.streams endpoint.connections) endpoints.items) started.new.items rest
+        × (result ≡ true → rest ≡ []) }
+    ensures few { length started.new.items ≤ length clients.items }
+{
+    let mut clients = clients;
+    let mut endpoints = endpoints;
+    if started.reserve(clients.len()).is_err() {
+        return false;
+    }
+    while let Some(client) = clients.pop() {
+        let Some(endpoint) = endpoints.pop() else {
+            unreachable!()
+        };
+        match start_worker(shared, scope, shared.limits, client, None, endpoint) {
+            Ok(handle) => started.push_reserved(handle),
+            Err(Unstarted) => return false,
+        }
+    }
+    true
 }

@@ -1,17 +1,18 @@
-ghost use Rattle.std.specs.Prelude.{◌≡◌, ◌+◌, [], length, map};
+ghost use Rattle.std.specs.Prelude.{◌≡◌, ◌+◌, ◌≤◌, [], length, map};
 ghost use Rattle.gate_worker.specs.Joining.{AreCollected, AreNew, HasRoom};
+ghost use Rattle.gate_worker.specs.inner.Starting.{JoinsAll};
 
 use crate::closing::close_and_wake;
 use crate::collected::Collected;
 use crate::endpoint::Endpoint;
 use crate::limits::WorkerLimits;
 use crate::shared::Closable;
-use crate::starting::start_worker;
-use crate::worker::Cause;
+use crate::starting::{start_agents, start_worker};
+use crate::worker::{Cause, WorkerEnd};
 use gate_environment::{Connections, Hold, Unstarted, Wake, Watch};
 use gate_queue::Client;
 use std::sync::Wait;
-use std::thread::{Scope, Threads};
+use std::thread::{Promise, PromisedHandle, Scope, Threads};
 use std::time::Clock;
 
 // What the operator's worker serves: were its connections limited, nobody could shut the daemon
@@ -85,10 +86,28 @@ fn run_operator<
     }
 }
 
-/// Starts an agents' worker, goes on to the next one, and then joins it; the last of them goes on
-/// to the operator's. What they returned, and why the operator's ended, if all were started. Where
-/// one can't be started, the gate is closed, and those that were started are joined. It waits for
-/// all of them. Own rule.
+// Joins the agents' workers that were started, the one that was started last first.
+fn join_agents<R: Threads, P: Promise<WorkerEnd>>(
+    rt: &R,
+    started: Vec<PromisedHandle<WorkerEnd, P>>,
+    collected: &mut Collected,
+)
+    requires room { (length collected.old.ended.items + length started.items
+        ≤ collected.old.ended.cap) × (length collected.old.ended.items + length started.items
+        ≤ collected.old.reports.cap) }
+    ensures joined { JoinsAll (λ handle. P.kept_by handle.promise) started.items
+        collected.old collected.new }
+{
+    let mut started = started;
+    while let Some(handle) = started.pop() {
+        collected.add(handle.join(rt));
+    }
+}
+
+/// Starts the agents' workers, the last one first, and then the operator's, which is joined first:
+/// then that of client 1, of client 2 and so on. What they returned, and why the operator's ended, if
+/// all were started. Where one can't be started, the gate is closed, and those that were started are
+/// joined. It waits for all of them. Own rule.
 pub fn run_workers<
     's,
     E,
@@ -113,39 +132,21 @@ pub fn run_workers<
         workers.collected result.0 result.1 }
 {
     let Workers {
-        mut clients,
-        mut endpoints,
+        clients,
+        endpoints,
         operator,
         operator_endpoint,
         mut collected,
     } = workers;
-    let Some(client) = clients.pop() else {
-        drop((clients, endpoints));
-        let cause = run_operator(closable, scope, operator, operator_endpoint, &mut collected);
-        return (collected, cause);
-    };
-    let Some(endpoint) = endpoints.pop() else {
-        unreachable!()
-    };
     let shared = closable.shared;
-    match start_worker(shared, scope, shared.limits, client, None, endpoint) {
-        Ok(handle) => {
-            let others = Workers {
-                clients,
-                endpoints,
-                operator,
-                operator_endpoint,
-                collected,
-            };
-            let (mut collected, cause) = run_workers(closable, scope, others);
-            collected.add(handle.join(shared.rt));
-            (collected, cause)
-        }
-        Err(Unstarted) => {
-            drop((clients, endpoints));
-            drop((operator, operator_endpoint));
-            close_and_wake(closable);
-            (collected, None)
-        }
+    let mut started = Vec::new(shared.alloc);
+    if !start_agents(shared, scope, clients, endpoints, &mut started) {
+        drop((operator, operator_endpoint));
+        close_and_wake(closable);
+        join_agents(shared.rt, started, &mut collected);
+        return (collected, None);
     }
+    let cause = run_operator(closable, scope, operator, operator_endpoint, &mut collected);
+    join_agents(shared.rt, started, &mut collected);
+    (collected, cause)
 }
