@@ -1,4 +1,4 @@
-ghost use Rattle.std.specs.Prelude.{◌≡◌, ◌≢◌, ◌≤◌, IsNone, IsSome};
+ghost use Rattle.std.specs.Prelude.{◌≡◌, ◌≢◌, ◌≤◌, None, IsNone, IsSome, IsSomeAnd, true, false};
 ghost use Rattle.gate_ports.specs.Serving.{last_time};
 
 use crate::port::Worker;
@@ -100,6 +100,40 @@ fn time_left<R: Clock>(rt: &R, began: &mut Option<Instant>, millis: u64) -> u64
     }
 }
 
+// For how long is waited at most: once the daemon is to end, for what is left of this time since then.
+fn most_wait<R: Clock>(
+    rt: &R,
+    is_ending: bool,
+    ended: &mut Option<Instant>,
+    last: u64,
+) -> Option<u64>
+    ensures ending { is_ending ≡ true → IsSomeAnd result (λ most. most ≤ last) }
+    ensures going { is_ending ≡ false → result ≡ None }
+{
+    if is_ending {
+        Some(time_left(rt, ended, last))
+    } else {
+        None
+    }
+}
+
+// A piece of the peer at this place, which its worker serves.
+fn piece_at<'a, R>(
+    rt: &'a R,
+    worker: &'a Worker,
+    place: usize,
+    is_first: bool,
+) -> Piece<PeerInput<'a, R>, PeerOutput<'a, R>>
+    ensures { (result.place ≡ place) × (result.is_first ≡ is_first) }
+{
+    Piece {
+        place,
+        is_first,
+        input: PeerInput { rt, worker },
+        output: PeerOutput { rt, worker },
+    }
+}
+
 impl<'a, R: Wait + Clock + Sync, K: Copy + Drop + Send> Connections for PeerConnections<'a, R, K> {
     type In = PeerInput<'a, R>;
 
@@ -118,29 +152,14 @@ impl<'a, R: Wait + Clock + Sync, K: Copy + Drop + Send> Connections for PeerConn
             if is_ending && role == Role::Agent {
                 return None;
             }
-            let most = if is_ending {
-                Some(time_left(self.rt, &mut ended, last))
-            } else {
-                None
-            };
+            let most = most_wait(self.rt, is_ending, &mut ended, last);
             let next = self
                 .worker
                 .serving
                 .lock(self.rt)
                 .next(self.rt, is_open, is_ending, most);
             if let Some((place, is_first)) = next {
-                return Some(Piece {
-                    place,
-                    is_first,
-                    input: PeerInput {
-                        rt: self.rt,
-                        worker: self.worker,
-                    },
-                    output: PeerOutput {
-                        rt: self.rt,
-                        worker: self.worker,
-                    },
-                });
+                return Some(piece_at(self.rt, self.worker, place, is_first));
             }
             if is_ending && most == Some(0) {
                 return None;

@@ -86,20 +86,21 @@ impl Peers {
         ensures rules { IfOk result (λ peers. peers.rules ≡ rules) }
         ensures none { IfOk result (λ peers. peers.table.standings.items ≡ []) }
     {
-        let mut scratch = Vec::new(alloc);
-        scratch.resize(SCRATCH, 0)?;
+        let began = Instant::now(rt)?;
+        let scratch = Vec::from_elem(alloc, 0, SCRATCH)?;
+        let table = Table::new(alloc, rules.rooms())?;
         Ok(Peers {
             alloc,
             rules,
             shared,
             selector,
             scratch,
-            table: Table::new(alloc, rules.rooms())?,
+            table,
             orders: 0,
             late_at: None,
             door: Door::Shut,
             is_ending: false,
-            began: Instant::now(rt)?,
+            began,
             now: 0,
         })
     }
@@ -209,6 +210,14 @@ impl Peers {
         self.go_on(place);
     }
 
+    // Whether the peer at this place, if there is one, is late.
+    fn is_late_at(&self, place: usize) -> bool
+        ensures { IsTrue result ↔ IsLateAt self.entry.now place }
+    {
+        let standing = self.table.standing(place);
+        is_late_now(standing, self.now, self.rules.silence, self.is_ending)
+    }
+
     // Lets go of the peer at this place where it is late. What it has brought by now is read before.
     fn let_go_late(&mut self, place: usize)
         ensures only { IsOnlyAt place self.old.table.standings.items
@@ -216,12 +225,11 @@ impl Peers {
         ensures gone { IsLateAt self.new place → ⊥ }
         ensures time { IsSameTime self.old self.new }
     {
-        let (now, silence, is_ending) = (self.now, self.rules.silence, self.is_ending);
-        if !is_late_now(self.table.standing(place), now, silence, is_ending) {
+        if !self.is_late_at(place) {
             return;
         }
         self.look_again(place);
-        if is_late_now(self.table.standing(place), now, silence, is_ending) {
+        if self.is_late_at(place) {
             self.close(place);
         }
     }

@@ -4,7 +4,7 @@ ghost use Rattle.gate_turns.specs.Waiting.{silence_of};
 use crate::connections::{Agents, Operators, PeerConnections, Readers};
 use crate::listener::Listener;
 use crate::peers::Peers;
-use crate::selector::Selector;
+use crate::selector::{Selector, check};
 use crate::serving::Serving;
 use crate::shared::{Rules, Shared};
 use gate_turns::Role;
@@ -14,7 +14,7 @@ use std::alloc::Global;
 use std::io;
 use std::net::Net;
 use std::os::fd::AsRawFd;
-use std::sync::atomic::{AtomicBool, AtomicU64, Ordering};
+use std::sync::atomic::Ordering;
 use std::sync::{Arc, Mutex};
 use std::time::Clock;
 
@@ -30,6 +30,21 @@ pub(crate) struct Worker {
     pub(crate) rules: Rules,
 }
 
+// The peers of a worker, of which there are none yet, and what wakes who waits for them.
+fn new_serving<R: Net + Clock>(
+    rt: &R,
+    alloc: Global,
+    rules: Rules,
+    shared: &Arc<Shared, Global>,
+) -> io::Result<(Serving, Waker)>
+    ensures { IfOk result (λ new. new.0.peers.rules ≡ rules) }
+{
+    let shared = Arc::try_clone(shared)?;
+    let (selector, waker) = Selector::new(rt, alloc)?;
+    let peers = Peers::new(rt, alloc, rules, shared, selector)?;
+    Ok((Serving::new(peers), waker))
+}
+
 impl Worker {
     fn new<R: Net + Clock>(
         rt: &R,
@@ -39,12 +54,12 @@ impl Worker {
     ) -> io::Result<Worker>
         ensures { IfOk result (λ worker. worker.rules ≡ rules) }
     {
-        let (selector, waker) = Selector::new(rt, alloc)?;
-        let peers = Peers::new(rt, alloc, rules, Arc::try_clone(shared)?, selector)?;
+        let (serving, waker) = new_serving(rt, alloc, rules, shared)?;
+        let shared = Arc::try_clone(shared)?;
         Ok(Worker {
-            serving: Mutex::new(Serving::new(peers)),
+            serving: Mutex::new(serving),
             waker,
-            shared: Arc::try_clone(shared)?,
+            shared,
             rules,
         })
     }
@@ -67,6 +82,23 @@ pub(crate) struct Port {
     rules: Rules,
 }
 
+// So many workers, which share this.
+fn new_workers<R: Net + Clock>(
+    rt: &R,
+    alloc: Global,
+    count: u32,
+    rules: Rules,
+    shared: &Arc<Shared, Global>,
+) -> io::Result<Vec<Worker>>
+    ensures { IfOk result (λ workers. vec_len workers ≡ count) }
+{
+    let mut workers = Vec::with_capacity(alloc, count as usize)?;
+    for _ in 0..count {
+        workers.push_reserved(Worker::new(rt, alloc, rules, shared)?);
+    }
+    Ok(workers)
+}
+
 impl Port {
     fn new<R: Net + Clock>(
         rt: &R,
@@ -79,24 +111,12 @@ impl Port {
         ensures rules { IfOk result (λ port. port.rules ≡ rules) }
     {
         listener.socket.set_nonblocking(true)?;
-        if listen(listener.socket.as_raw_fd(), BACKLOG) < 0 {
-            return Err(io::Error::from_raw_os_error(os::errno()));
-        }
-        let shared = Shared {
-            listener,
-            count: AtomicU64::new(0),
-            workers: AtomicU64::new(u64::from(workers)),
-            is_open: AtomicBool::new(false),
-            is_ending: AtomicBool::new(false),
-        };
-        let shared = Arc::new(alloc, shared)?;
-        let mut waiting = Vec::with_capacity(alloc, workers as usize)?;
-        for _ in 0..workers {
-            waiting.push(Worker::new(rt, alloc, rules, &shared)?)?;
-        }
+        check(listen(listener.socket.as_raw_fd(), BACKLOG))?;
+        let shared = Arc::new(alloc, Shared::new(listener, workers))?;
+        let workers = new_workers(rt, alloc, workers, rules, &shared)?;
         Ok(Port {
             shared,
-            workers: waiting,
+            workers,
             rules,
         })
     }

@@ -50,8 +50,8 @@ fn call_of(asked: Asked) -> (i32, u32, u64)
     }
 }
 
-// Whether a call of the system succeeded.
-fn check(status: i32) -> io::Result<()>
+/// Whether a call of the system succeeded.
+pub(crate) fn check(status: i32) -> io::Result<()>
     ensures { IsOk result ↔ (pos 0 ≤ℤ status) }
 {
     if status < 0 {
@@ -72,10 +72,9 @@ pub(crate) struct Selector {
 impl Selector {
     /// A selector that watches its waker alone.
     pub(crate) fn new<R: Net>(rt: &R, alloc: Global) -> io::Result<(Selector, Waker)> {
+        let events = Vec::from_elem(alloc, EpollEvent { events: 0, data: 0 }, EVENTS)?;
         let poll = Poll::new(rt)?;
         let waker = Waker::new(poll.registry(), Token(WAKER))?;
-        let mut events = Vec::with_capacity(alloc, EVENTS)?;
-        events.resize(EVENTS, EpollEvent { events: 0, data: 0 })?;
         Ok((Selector { poll, events }, waker))
     }
 

@@ -68,3 +68,18 @@ pub(crate) struct Shared {
     // Whether the daemon is to end.
     pub(crate) is_ending: AtomicBool,
 }
+
+impl Shared {
+    /// What so many workers share at this listener. Nobody is accepted yet.
+    pub(crate) fn new(listener: Listener, workers: u32) -> Shared
+        ensures { result.listener ≡ listener }
+    {
+        Shared {
+            listener,
+            count: AtomicU64::new(0),
+            workers: AtomicU64::new(u64::from(workers)),
+            is_open: AtomicBool::new(false),
+            is_ending: AtomicBool::new(false),
+        }
+    }
+}

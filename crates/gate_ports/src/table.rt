@@ -20,20 +20,31 @@ pub(crate) struct Table {
     ghost same: { vec_len peers ≡ vec_len standings },
 }
 
+// Rooms for so many operators.
+fn new_rooms(alloc: Global, count: usize) -> Result<Vec<Vec<u8>>, AllocError>
+    ensures { IfOk result (λ rooms. vec_len rooms ≡ count) }
+{
+    let mut rooms = Vec::with_capacity(alloc, count)?;
+    for _ in 0..count {
+        rooms.push_reserved(Vec::with_capacity(alloc, ROOM)?);
+    }
+    Ok(rooms)
+}
+
 impl Table {
     /// Nobody waits yet. Of so many peers there are the places and rooms from the beginning, so that they are
     /// served also once memory has run out.
     pub(crate) fn new(alloc: Global, count: usize) -> Result<Table, AllocError>
         ensures { IfOk result (λ table. table.standings.items ≡ []) }
     {
-        let mut rooms = Vec::with_capacity(alloc, count)?;
-        for _ in 0..count {
-            rooms.push(Vec::with_capacity(alloc, ROOM)?)?;
-        }
+        let standings = Vec::with_capacity(alloc, count)?;
+        let free = Vec::with_capacity(alloc, count)?;
+        let rooms = new_rooms(alloc, count)?;
+        let peers = Vec::with_capacity(alloc, count)?;
         Ok(Table {
-            peers: Vec::with_capacity(alloc, count)?,
-            standings: Vec::with_capacity(alloc, count)?,
-            free: Vec::with_capacity(alloc, count)?,
+            peers,
+            standings,
+            free,
             rooms,
         })
     }
