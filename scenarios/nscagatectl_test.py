@@ -168,7 +168,7 @@ def play_json(operator, program):
 
     status, page = read("status", "--state", "CRITICAL")
     check("the page as JSON", (status, [(row["host"], row["service"], row["state"]) for row in page["objects"]],
-                               page["gateways"][0]["name"] in operator.ports[1]), (0, [("web1", "HTTP", "CRITICAL")], True))
+                               "--pages=" + page["gateways"][0]["name"] == operator.ports[1]), (0, [("web1", "HTTP", "CRITICAL")], True))
     check("a command", read("comment", "web1", "-c", "\u00e9"),
           (0, {"status": 0, "outcome": "shown", "id": 12, "state": None, "message": "commented: web1, comment 12"}))
     check("an acknowledgement", read("ack", "web1", "HTTP", "-c", "x"),
@@ -330,6 +330,14 @@ def play_gateways_that_fail(program, daemon):
         found = json.loads(run(program, *asked, "--json", pages, f"--operators={address}")[1])
         check(f"{outcome[1]} as JSON", (found["status"], found["outcome"]), outcome)
         listener.close()
+    for asked, subject in ((["downtime", "web1", "--for", "1h", "-c", "x"], "web1"), (["shutdown"], "the gateway"),
+                           (["comment", "web1", "-c", "x"], "web1")):
+        received = []
+        listener, address = serve((b"queued 7\n", True), received)
+        check(f"{asked[0]} is queued by another gateway", run(program, *asked, "--wait=1", pages, f"--operators={address}"),
+              (1, "", f"nscagatectl: {subject}: queued, and not shown in time\n"))
+        check(f"{asked[0]} is sent once", len(received), 1)
+        listener.close()
     listener, address = serve((b"queued 18446744073709551615\n", True))
     check("the last number", run(program, "passive", "on", "web1", pages, f"--operators={address}"),
           (0, "passive checks enabled: web1, queued as 18446744073709551615; no page shows it\n", ""))
@@ -381,7 +389,8 @@ def play_checks(operator, program, daemon, folder):
         silent.close()
     now = int(time.time())
     for text, found in ((b"status %d\nclosing;%d\n" % (now, now), (1, "WARNING - a: shutting down; ")),
-                        (b"status %d\n" % (now - 90), (2, "CRITICAL - a: its page has stood still for 9"))):
+                        (b"status %d\n" % (now - 40), (0, "OK - a: 0 objects, ")),
+                        (b"status %d\n" % (now - 62), (2, "CRITICAL - a: its page has stood still for 6"))):
         listener, address = serve((text, False))
         status, output, errors = check_gateways(program, "a=" + address)
         check(f"a page {text}", ((status, output[9:9 + len(found[1])]), errors), (found, ""))
@@ -430,6 +439,7 @@ def play_tests_of_configurations(program, folder):
             (hosts, None), ("", None),
             ("# a\n" + hosts + '[[host]]\nname = "db1"\nfreshnes = 3\n', "line 10: UnknownKey freshnes: did you mean freshness"),
             ("colour = 3\n" + hosts, "line 1: UnknownKey colour"),
+            ("limit = 0", "line 1: BadValue limit"),
             ("capcty = 3\n", "line 1: UnknownKey capcty: did you mean capacity"),
             ("\nlimit = 0\nagents = \"127.0.0.1:5667\"\n" + hosts, "line 2: BadValue limit"),
             (hosts + '[[host]]\nfreshness = 3\n[[host]]\nname = "x"\n', "line 7: MissingName"),

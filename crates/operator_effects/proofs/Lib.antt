@@ -1,2 +1,1 @@
 pub mod CommandSteps
-pub mod WatchingSteps

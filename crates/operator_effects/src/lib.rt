@@ -7,11 +7,9 @@ mod ending;
 mod messages;
 mod refusing;
 mod unescaping;
-mod watching;
 
 pub use commands::{PlanFault, commands_for};
 pub use ending::{Ending, ending_of};
 pub use messages::push_message;
 pub use refusing::first_refusal;
 pub use unescaping::plain_request;
-pub use watching::{Next, Pages, watch};

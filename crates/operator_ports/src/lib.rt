@@ -1,9 +1,19 @@
-//! What `nscagatectl` asks of a gateway's ports over sockets: a command's answer, and one page after
-//! another until the time is over.
+//! A gateway that `nscagatectl` asks: its page, the answer to a command, and one page after another
+//! until one shows it; what was done there, step by step; and the gateway over sockets.
 #![tactic(auto)]
 
+mod commands;
+mod done;
+mod gateway;
+mod live;
+mod next;
 mod pages;
-mod sending;
+mod watching;
 
+pub use commands::entered_at;
+pub use done::Done;
+pub use gateway::Gateway;
+pub use live::LiveGateway;
+pub use next::Next;
 pub use pages::LivePages;
-pub use sending::{entered_at, send};
+pub use watching::watch;

@@ -1,6 +1,6 @@
 //! The pages of a gateway, one after another, until the time is over.
 
-use operator_effects::{Next, Pages};
+use crate::next::Next;
 use page_fetching::fetch_within;
 use std::alloc::Global;
 use std::net::{Net, SocketAddr, TcpListener, TcpStream};
@@ -36,8 +36,9 @@ impl<'a, R: Clock> LivePages<'a, R> {
     }
 }
 
-impl<'a, R: Net<Listener = TcpListener, Stream = TcpStream> + Clock> Pages for LivePages<'a, R> {
-    fn next(&mut self, alloc: Global) -> Next {
+impl<'a, R: Net<Listener = TcpListener, Stream = TcpStream> + Clock> LivePages<'a, R> {
+    /// The next page, after a pause.
+    pub fn next(&mut self, alloc: Global) -> Next {
         let left = match self.begun.elapsed(self.rt) {
             Ok(spent) => u64::from(self.seconds).saturating_sub(spent.as_secs()),
             Err(_) => 0,

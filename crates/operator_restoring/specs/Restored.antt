@@ -7,8 +7,8 @@ use Rattle.gate_streams.specs.Sink.{SinkState, Delivers}
 use Rattle.gate_kept.specs.Written.{IsWritten}
 use Rattle.operator_commands.specs.declared.request.Task.{Task}
 use Rattle.operator_commands.specs.declared.request.Task.TheVariants.{Restore}
-use Rattle.operator_effects.specs.declared.watching.Next.{Next}
-use Rattle.operator_effects.specs.declared.watching.Next.TheVariants.{Page, Gone, Over}
+use Rattle.operator_ports.specs.declared.next.Next.{Next}
+use Rattle.operator_ports.specs.declared.next.Next.TheVariants.{Page, Gone, Over}
 use Rattle.operator_ports.specs.Commands.{entered_at}
 use Rattle.operator_restore.specs.declared.prospect.Prospect.{Prospect}
 use Rattle.operator_restore.specs.Naming.{command_line}

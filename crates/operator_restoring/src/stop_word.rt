@@ -9,9 +9,8 @@ use gate_model::Body;
 use gate_streams::Sink;
 use kept_files::{keep, keep_page, read_file, runs};
 use operator_commands::{Options, Task};
-use operator_effects::{Next, Pages};
 use operator_lines::Reply;
-use operator_ports::{LivePages, send};
+use operator_ports::{Gateway, LiveGateway, LivePages, Next};
 use operator_setup::{ControlFault, Places, now, path_in, path_of, places_for};
 use page_fetching::fetch_within;
 use std::alloc::Global;
@@ -88,8 +87,14 @@ impl<'a, R: Net<Listener = TcpListener, Stream = TcpStream> + Clock + Files> Sto
             entered: now(self.rt)?,
             body: Body::Shutdown,
         };
-        let places = self.places;
-        let reply = send(self.rt, alloc, places.operators, places.seconds, &command);
+        let Places {
+            operators,
+            pages,
+            seconds,
+        } = self.places;
+        let mut gateway = LiveGateway::new(self.rt, alloc, operators, pages, seconds);
+        let reply = gateway.send(alloc, &command);
+        drop(gateway);
         drop(command);
         Ok(matches!(reply, Ok(Reply::Closing)))
     }

@@ -7,7 +7,7 @@ ghost use Rattle.operator_restoring.specs.Stopped.{IsAllKept, IsLogKept};
 ghost use Rattle.operator_restoring.specs.inner.Kept.{IsKeptAs};
 
 use gate_streams::Sink;
-use operator_effects::Next;
+use operator_ports::Next;
 use operator_restore::{is_whole, log_part};
 use operator_setup::{ControlFault, print};
 use status_reading::read_status_page;

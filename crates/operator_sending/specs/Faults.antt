@@ -1,14 +1,12 @@
 -- What is reported of a request that isn't carried out (`IsRequestFault`), and of a line that isn't printed. Own rules.
-use Rattle.std.specs.Prelude.{◌≡◌, ◌⊎◌, ℕ, List, Some}
+use Rattle.std.specs.Prelude.{◌≡◌, ℕ, List, Some}
 use Rattle.gate_model.specs.declared.record.Moment.{Moment}
-use Rattle.operator_commands.specs.declared.request.Options.{Options}
 use Rattle.operator_commands.specs.declared.request.Request.{Request}
 use Rattle.operator_effects.specs.declared.commands.PlanFault.{PlanFault}
 use Rattle.operator_effects.specs.declared.commands.PlanFault.TheVariants as plans
 use Rattle.operator_effects.specs.Commands.{first_fault}
 use Rattle.operator_setup.specs.declared.fault.ControlFault.{ControlFault}
 use Rattle.operator_setup.specs.declared.fault.ControlFault.TheVariants as control
-use Rattle.operator_setup.specs.Places.{IsOfFetch}
 
 -- the fault that reports it
 abbrev pub fault_of : PlanFault → ControlFault
@@ -34,6 +32,7 @@ IsFaultOn request control.BadPage = Unit {0}
 IsFaultOn request control.NoClock = Unit {0}
 IsFaultOn request fault = IsPrintFault fault
 
--- the same where the page is that of the options' ports: or there is none
-abbrev pub IsRequestFault : Options → Request → ControlFault → Type 0
-IsRequestFault options request fault = IsOfFetch options fault ⊎ IsFaultOn request fault
+-- the same where the text is that of the gateway's page: or there is none
+abbrev pub IsRequestFault : Request → ControlFault → Type 0
+IsRequestFault request (control.NoPage fault) = Unit {0}
+IsRequestFault request fault = IsFaultOn request fault

@@ -1,5 +1,4 @@
--- What a request prints, and its exit status: `IsCarriedOut`. What a gateway shows and answers isn't known here, so some
--- page and some endings are meant. Own rules.
+-- What is done at a gateway for a request, what is printed of it, and the exit status: `IsCarriedOut`. Own rules.
 use Rattle.std.specs.Prelude.{◌≡◌, ◌≢◌, ◌⊎◌, ℕ, ◌==◌, ◌||◌, Bool, true, false, List, [], ◌∷◌, ◌++◌, map, codes, Option, Some, None, if◌then◌else◌}
 use Rattle.gate_model.specs.declared.record.Moment.{Moment}
 use Rattle.gate_model.specs.declared.record.Outcome.{Outcome}
@@ -19,7 +18,10 @@ use Rattle.operator_effects.specs.Plain.{plain_request}
 use Rattle.operator_effects.specs.Refusals.{first_refusal}
 use Rattle.operator_json.specs.Endings.{ending_json}
 use Rattle.operator_ports.specs.Commands.{entered_at}
+use Rattle.operator_ports.specs.declared.next.Next.{Next}
+use Rattle.operator_ports.specs.Steps.{Step, Read, IsTextOf}
 use Rattle.operator_setup.specs.Pages.{IsPageIn}
+use Rattle.operator_sending.specs.Ended.{IsEnd}
 
 -- ---- how one command ended
 
@@ -52,37 +54,57 @@ IsReport json body ending before after =
 
 -- ---- all commands
 
--- each command was reported, up to the first that didn't end well, whose status is the exit status
-abbrev pub AreReported : Bool → List Command → ℕ → Sinks → Sinks → Type 0
-AreReported json [] status before after = (status ≡ 0) × (after ≡ before)
-AreReported json (command ∷ commands) status before after =
-    (ending : Ending) × (between : Sinks) × IsReport json command.body ending before between
-    × (((status_of ending ≡ 0) × AreReported json commands status between after)
-    ⊎ ((status_of ending ≢ 0) × (status ≡ status_of ending) × (after ≡ between)))
+-- these steps were made for the command, and how it ended by them was reported; the status is that of its end
+pub record IsReportedEnd (json : Bool) (page : PageView) (command : Command) (steps : List Step) (status : ℕ)
+    (before after : Sinks) : Type 0 where
+  pub ending : Ending
+  pub is_end : IsEnd command page steps ending
+  pub reported : IsReport json command.body ending before after
+  pub status_is : status ≡ status_of ending
 
--- the command that the gateway would refuse was reported alone, or where there is none all of them
-abbrev pub AreReportedBy : Bool → List Command → ℕ → Sinks → Sinks → Option (Command × Outcome) → Type 0
-AreReportedBy json commands status before after (Some refusal) =
-    IsReport json refusal.0.body (Refused refusal.1) before after × (status ≡ 1)
-AreReportedBy json commands status before after None = AreReported json commands status before after
+-- steps were made for each command, and its end reported, up to the first that didn't end well, whose status is the exit
+-- status: for none after it was a step made
+abbrev pub AreReported : Bool → PageView → List Command → List Step → ℕ → Sinks → Sinks → Type 0
+AreReported json page [] steps status before after = (steps ≡ []) × (status ≡ 0) × (after ≡ before)
+AreReported json page (command ∷ commands) steps status before after =
+    (own : List Step) × (rest : List Step) × (steps ≡ own ++ rest) × (one : ℕ) × (between : Sinks)
+    × IsReportedEnd json page command own one before between
+    × (((one ≡ 0) × AreReported json page commands rest status between after)
+    ⊎ ((one ≢ 0) × (status ≡ one) × (rest ≡ []) × (after ≡ between)))
+
+-- the command that the gateway would refuse was reported alone, and nothing was done at the gateway; or where there is
+-- none all of them
+abbrev pub AreReportedBy : Bool → PageView → List Command → List Step → ℕ → Sinks → Sinks → Option (Command × Outcome) → Type 0
+AreReportedBy json page commands steps status before after (Some refusal) =
+    IsReport json refusal.0.body (Refused refusal.1) before after × (status ≡ 1) × (steps ≡ [])
+AreReportedBy json page commands steps status before after None = AreReported json page commands steps status before after
 
 -- the first command that the gateway would refuse by its page, or all
-abbrev pub AreAnswered : Bool → PageView → List Command → ℕ → Sinks → Sinks → Type 0
-AreAnswered json page commands status before after =
-    AreReportedBy json commands status before after (first_refusal page commands)
+abbrev pub AreAnswered : Bool → PageView → List Command → List Step → ℕ → Sinks → Sinks → Type 0
+AreAnswered json page commands steps status before after =
+    AreReportedBy json page commands steps status before after (first_refusal page commands)
 
 -- by `--escaped` a request is meant without its escapes
 abbrev pub meant : Bool → Request → Request
 meant true given = plain_request given
 meant false given = given
 
--- the commands of the request, on some page, were reported
-pub record IsCarriedOut (json : Bool) (given : Request) (status : ℕ) (before after : Sinks) : Type 0 where
-  pub text : List ℕ
+-- the commands of the request, on the page that the text is, were carried out and reported
+pub record IsCarriedOutOn (json : Bool) (text : List ℕ) (given : Request) (steps : List Step) (status : ℕ)
+    (before after : Sinks) : Type 0 where
   pub page : StatusPage
   pub is_page : IsPageIn text page
   pub entered : Moment
   pub user : List ℕ
   pub bodies : List Body
   pub are_commands : map Some bodies ≡ commands_of (page_view page) entered user given
-  pub answered : AreAnswered json (page_view page) (map (entered_at entered) bodies) status before after
+  pub answered : AreAnswered json (page_view page) (map (entered_at entered) bodies) steps status before after
+
+-- the gateway's page was read, and then the commands of the request on this page were carried out and reported
+pub record IsCarriedOut (json : Bool) (given : Request) (steps : List Step) (status : ℕ) (before after : Sinks) : Type 0 where
+  pub first : Next
+  pub text : List ℕ
+  pub is_text : IsTextOf first text
+  pub rest : List Step
+  pub done : steps ≡ Read first ∷ rest
+  pub carried_out : IsCarriedOutOn json text given rest status before after

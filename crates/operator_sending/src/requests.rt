@@ -1,32 +1,31 @@
 //! The commands of a request, one after another.
 
-ghost use Rattle.std.specs.Prelude.{◌≡◌, IfErr, IfOk, List, MatchOption, None, Some, map};
+ghost use Rattle.std.specs.Prelude.{◌≡◌, ◌++◌, [], IfErr, IfOk, List, MatchOption, None, Some, map};
 ghost use Rattle.gate_model.specs.declared.submission.Body.{Body};
+ghost use Rattle.gate_model.specs.Act.{act_of};
 ghost use Rattle.status_reading.specs.Rows.{page_view};
 ghost use Rattle.operator_commands.specs.declared.request.Request.{Request as Asked};
 ghost use Rattle.operator_effects.specs.Commands.{commands_of};
 ghost use Rattle.operator_effects.specs.Refusals.{first_refusal};
 ghost use Rattle.operator_ports.specs.Commands.{entered_at};
-ghost use Rattle.operator_setup.specs.Pages.{IsPageIn};
+ghost use Rattle.operator_ports.specs.Steps.{Step};
+ghost use Rattle.operator_sending.specs.Ended.{IsEnd, is_watched};
 ghost use Rattle.operator_sending.specs.Faults.{fault_of, IsFaultOn, IsPrintFault, IsRequestFault};
-ghost use Rattle.operator_sending.specs.Reports.{AreAnswered, IsCarriedOut, meant, sinks};
+ghost use Rattle.operator_setup.specs.Pages.{IsPageIn};
+ghost use Rattle.operator_sending.specs.Reports.{AreAnswered, IsCarriedOut, IsCarriedOutOn, IsReportedEnd, meant, sinks};
 
 use crate::reporting::report;
 use gate_grammar::Command;
-use gate_model::{Body, Moment, Text};
+use gate_model::{Act, Body, Deed, Moment, Text};
 use gate_streams::Sink;
 use operator_commands::{Options, Request};
-use operator_effects::{
-    Ending, PlanFault, commands_for, ending_of, first_refusal, plain_request, watch,
-};
+use operator_effects::{Ending, PlanFault, commands_for, ending_of, first_refusal, plain_request};
 use operator_lines::Reply;
-use operator_ports::{LivePages, entered_at, send};
-use operator_setup::{ControlFault, Places, fetched, now, page_of};
+use operator_ports::{Gateway, entered_at, watch};
+use operator_setup::{ControlFault, now, page_of};
 use status_reading::StatusPage;
 use std::alloc::{AllocError, Global};
 use std::env;
-use std::fs::Files;
-use std::net::{Net, TcpListener, TcpStream};
 use std::rt::Env;
 use std::time::Clock;
 
@@ -47,36 +46,49 @@ fn user(rt: &(impl Env + AllocGlobal), alloc: Global) -> Result<Text, ControlFau
     Ok(Text::copied(alloc, NOBODY)?)
 }
 
-// Whether a page can show how the command ended that was answered so.
-fn is_watched(body: &Body, reply: Reply) -> bool {
+// Whether a page can show how the act ended that was answered so.
+fn is_watched(act: &Act<'_>, reply: Reply) -> bool
+    ensures { result ≡ is_watched act.now reply }
+{
     match reply {
-        Reply::Queued(_) => !matches!(body, Body::Passive { .. }),
-        Reply::Closing => matches!(body, Body::Shutdown),
+        Reply::Queued(_) => match act {
+            Act::On {
+                deed: Deed::Passive { .. },
+                ..
+            } => false,
+            _ => true,
+        },
+        Reply::Closing => match act {
+            Act::Shutdown => true,
+            _ => false,
+        },
         Reply::Full | Reply::Spent | Reply::Bad(_) => false,
     }
 }
 
-// Sends a command, and watches for its effect where this page was read before it. Whatever keeps this
-// program from the pages, what was answered is said.
-fn carry_out<R: Net<Listener = TcpListener, Stream = TcpStream> + Clock>(
-    rt: &R,
+// Sends a command, and watches for its effect where this page was read before it. `Err`: it was
+// answered so, and memory ran out while pages were read.
+fn carry_out<G: Gateway>(
     alloc: Global,
-    places: Places,
     before: &StatusPage<'_>,
     command: &Command,
-) -> Ending {
-    let reply = match send(rt, alloc, places.operators, places.seconds, command) {
+    gateway: &mut G,
+) -> Result<Ending, Reply>
+    ensures { IfOk result (λ ending. (steps : List Step)
+        × (G.done gateway.new ≡ G.done gateway.old ++ steps)
+        × IsEnd command.now (page_view before.now) steps ending) }
+{
+    let reply = match gateway.send(alloc, command) {
         Ok(reply) => reply,
-        Err(fault) => return Ending::NoAnswer(fault),
+        Err(fault) => return Ok(Ending::NoAnswer(fault)),
     };
-    if !is_watched(&command.body, reply) {
-        return ending_of(&command.body, reply, None);
+    if is_watched(&command.body.act(), reply) {
+        return match watch(alloc, before, &command.body, gateway) {
+            Ok(seen) => Ok(ending_of(&command.body, reply, seen)),
+            Err(_) => Err(reply),
+        };
     }
-    let seen = match LivePages::new(rt, places.pages, places.seconds) {
-        Ok(mut pages) => watch(alloc, before, &command.body, &mut pages).unwrap_or(None),
-        Err(_) => None,
-    };
-    ending_of(&command.body, reply, seen)
+    Ok(ending_of(&command.body, reply, None))
 }
 
 // Reports the first command that the gateway would refuse, by its page; returns the exit status.
@@ -92,7 +104,7 @@ fn objection<W: Sink, E: Sink>(
         ((first_refusal (page_view page.now) commands.now ≡ None)
         × (sinks (W.state output.new) (E.state errors.new)
         ≡ sinks (W.state output.old) (E.state errors.old)))
-        (λ status. AreAnswered json (page_view page.now) commands.now status
+        (λ status. AreAnswered json (page_view page.now) commands.now [] status
         (sinks (W.state output.old) (E.state errors.old))
         (sinks (W.state output.new) (E.state errors.new)))) }
     ensures fault { IfErr result IsPrintFault }
@@ -111,30 +123,62 @@ fn objection<W: Sink, E: Sink>(
     Ok(Some(status))
 }
 
-// Sends commands one after another, where the gateway would refuse none of them, by its page; prints
-// how each ended, and returns the exit status: that of the first that did not end well, after which
-// none is sent.
-fn send_all<R: Net<Listener = TcpListener, Stream = TcpStream> + Clock, W: Sink, E: Sink>(
-    rt: &R,
+// Sends a command, and prints how it ended; returns the exit status. Where memory ran out while pages
+// were read, what was answered is printed all the same.
+fn send_one<G: Gateway, W: Sink, E: Sink>(
     alloc: Global,
-    places: Places,
     before: &StatusPage<'_>,
-    commands: &[Command],
+    command: &Command,
     json: bool,
+    gateway: &mut G,
     output: &mut W,
     errors: &mut E,
 ) -> Result<u8, ControlFault>
-    ensures answered { IfOk result (λ status. AreAnswered json (page_view before.now) commands.now status
+    ensures reported { IfOk result (λ status. (steps : List Step)
+        × (G.done gateway.new ≡ G.done gateway.old ++ steps)
+        × IsReportedEnd json (page_view before.now) command.now steps status
         (sinks (W.state output.old) (E.state errors.old))
         (sinks (W.state output.new) (E.state errors.new))) }
     ensures fault { IfErr result IsPrintFault }
 {
-    if let Some(status) = objection(alloc, before, commands, json, output, errors)? {
-        return Ok(status);
+    let body = &command.body;
+    match carry_out(alloc, before, command, gateway) {
+        Ok(ending) => {
+            let status = report(alloc, body, ending, json, output, errors)?;
+            Ok(status)
+        }
+        Err(reply) => {
+            let ending = ending_of(body, reply, None);
+            let _status = report(alloc, body, ending, json, output, errors)?;
+            Err(ControlFault::OutOfMemory)
+        }
+    }
+}
+
+// Sends commands one after another, where the gateway would refuse none of them, by its page; prints
+// how each ended, and returns the exit status: that of the first that did not end well, after which
+// none is sent.
+fn send_all<G: Gateway, W: Sink, E: Sink>(
+    alloc: Global,
+    before: &StatusPage<'_>,
+    commands: &[Command],
+    json: bool,
+    gateway: &mut G,
+    output: &mut W,
+    errors: &mut E,
+) -> Result<u8, ControlFault>
+    ensures answered { IfOk result (λ status. (steps : List Step)
+        × (G.done gateway.new ≡ G.done gateway.old ++ steps)
+        × AreAnswered json (page_view before.now) commands.now steps status
+        (sinks (W.state output.old) (E.state errors.old))
+        (sinks (W.state output.new) (E.state errors.new))) }
+    ensures fault { IfErr result IsPrintFault }
+{
+    if let Some(refused) = objection(alloc, before, commands, json, output, errors)? {
+        return Ok(refused);
     }
     for command in commands {
-        let ending = carry_out(rt, alloc, places, before, command);
-        let status = report(alloc, &command.body, ending, json, output, errors)?;
+        let status = send_one(alloc, before, command, json, gateway, output, errors)?;
         if status != 0 {
             return Ok(status);
         }
@@ -190,21 +234,19 @@ fn found_on<'t, R: Clock + Env + AllocGlobal>(
 }
 
 // Carries out a request where this is the text of the page.
-fn on_page<
-    R: Net<Listener = TcpListener, Stream = TcpStream> + Clock + Env + AllocGlobal,
-    W: Sink,
-    E: Sink,
->(
+fn on_page<R: Clock + Env + AllocGlobal, G: Gateway, W: Sink, E: Sink>(
     rt: &R,
     alloc: Global,
-    places: Places,
     text: &[u8],
     request: Request,
     json: bool,
+    gateway: &mut G,
     output: &mut W,
     errors: &mut E,
 ) -> Result<u8, ControlFault>
-    ensures carried_out { IfOk result (λ status. IsCarriedOut json request status
+    ensures carried_out { IfOk result (λ status. (steps : List Step)
+        × (G.done gateway.new ≡ G.done gateway.old ++ steps)
+        × IsCarriedOutOn json text.now request steps status
         (sinks (W.state output.old) (E.state errors.old))
         (sinks (W.state output.new) (E.state errors.new))) }
     ensures fault { IfErr result (IsFaultOn request) }
@@ -218,12 +260,11 @@ fn on_page<
     };
     let commands = commands_of(alloc, &before, entered, user, request)?;
     let status = send_all(
-        rt,
         alloc,
-        places,
         &before,
         commands.as_slice(),
         json,
+        gateway,
         output,
         errors,
     )?;
@@ -241,44 +282,41 @@ fn unescaped(alloc: Global, options: &Options, request: Request) -> Result<Reque
     }
 }
 
-/// Carries out a request over the gateway of these options: reports the first of its commands that
-/// the gateway would refuse by its page, or else sends them and reports how each ended. Returns the
-/// exit status: that of the first command that doesn't end well, after which none is sent, or 0. An
-/// error is that of the options, of the words, of a page that doesn't come or is none, or of a device.
-pub fn carry_out_request<
-    R: Net<Listener = TcpListener, Stream = TcpStream> + Clock + Files + Env + AllocGlobal,
-    W: Sink,
-    E: Sink,
->(
+/// Carries out a request at a gateway: reads its page, reports the first of the commands that the
+/// gateway would refuse by it, or else sends them and reports how each ended. Returns the exit status:
+/// that of the first command that doesn't end well, after which none is sent, or 0. An error is that of
+/// the words, of a page that doesn't come or is none, or of a device.
+pub fn carry_out_request<R: Clock + Env + AllocGlobal, G: Gateway, W: Sink, E: Sink>(
     rt: &R,
     alloc: Global,
     options: &Options,
     request: Request,
+    gateway: &mut G,
     output: &mut W,
     errors: &mut E,
 ) -> Result<u8, ControlFault>
-    ensures carried_out { IfOk result (λ status. IsCarriedOut options.now.json
-        (meant options.now.escaped request) status
+    ensures carried_out { IfOk result (λ status. (steps : List Step)
+        × (G.done gateway.new ≡ G.done gateway.old ++ steps)
+        × IsCarriedOut options.now.json (meant options.now.escaped request) steps status
         (sinks (W.state output.old) (E.state errors.old))
         (sinks (W.state output.new) (E.state errors.new))) }
-    ensures fault { IfErr result
-        (IsRequestFault options.now (meant options.now.escaped request)) }
+    ensures fault { IfErr result (IsRequestFault (meant options.now.escaped request)) }
 {
-    let (places, text) = match fetched(rt, alloc, options) {
-        Ok(found) => found,
+    let text = match gateway.page(alloc) {
+        Ok(text) => text,
         Err(fault) => {
             drop(request);
-            return Err(fault);
+            return Err(ControlFault::NoPage(fault));
         }
     };
     let request = unescaped(alloc, options, request)?;
     let status = on_page(
         rt,
         alloc,
-        places,
         text.as_slice(),
         request,
         options.json,
+        gateway,
         output,
         errors,
     )?;

@@ -14,7 +14,7 @@ use Rattle.std.specs.Net.Socket.{socket_ip, socket_port}
 use Rattle.gate_grammar.specs.Numbers.{number_of}
 use Rattle.operator_commands.specs.declared.request.Options.{Options}
 use Rattle.operator_setup.specs.declared.fault.ControlFault.{ControlFault}
-use Rattle.operator_setup.specs.declared.fault.ControlFault.TheVariants.{BadAddress, BadWait, Unreadable, BadFile, NoPage, OutOfMemory}
+use Rattle.operator_setup.specs.declared.fault.ControlFault.TheVariants.{BadAddress, BadWait, Unreadable, BadFile, OutOfMemory}
 use Rattle.operator_setup.specs.declared.places.Places.{Places}
 
 -- 0.0.0.0 is asked at 127.0.0.1, and any other address at itself
@@ -98,8 +98,3 @@ IsOfAddresses options fault = IsOfConfiguration fault
 abbrev pub IsOfPlaces : Options → ControlFault → Type 0
 IsOfPlaces options BadWait = wait_of options.wait ≡ None
 IsOfPlaces options fault = IsOfAddresses options fault
-
--- why no page was fetched: none comes, or there are no ports
-abbrev pub IsOfFetch : Options → ControlFault → Type 0
-IsOfFetch options (NoPage fault) = Unit {0}
-IsOfFetch options fault = IsOfPlaces options fault

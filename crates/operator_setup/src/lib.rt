@@ -9,6 +9,6 @@ mod places;
 pub use devices::{now, page_of, print};
 pub use fault::{ControlFault, cause, words_fault};
 pub use places::{
-    Places, address_or, configuration, fetched, path_in, path_of, places_for, read_address,
+    Places, address_or, configuration, path_in, path_of, places_for, read_address,
     read_configuration, wait_in,
 };

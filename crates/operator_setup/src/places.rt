@@ -3,19 +3,17 @@
 ghost use Rattle.std.specs.Prelude.{◌≡◌, ◌≢◌, ◌↔◌, IfErr, IfOk, MatchOption, MatchResult, Err, None};
 ghost use Rattle.std.specs.Option.{ok_or, option_map};
 ghost use Rattle.std.specs.Str.{IsUtf8};
-ghost use Rattle.operator_setup.specs.Places.{ArePlacesOf, IsAddressOf, IsAddressText, IsAskedAt, IsAskedAtV4, IsAskedAtV6, IsAskedIp, IsNoAddress, IsNoPath, IsOfAddresses, IsOfConfiguration, IsOfFetch, IsOfPlaces, wait_of};
+ghost use Rattle.operator_setup.specs.Places.{ArePlacesOf, IsAddressOf, IsAddressText, IsAskedAt, IsAskedAtV4, IsAskedAtV6, IsAskedIp, IsNoAddress, IsNoPath, IsOfAddresses, IsOfConfiguration, IsOfPlaces, wait_of};
 
 use crate::fault::ControlFault;
 use gate_config::{Config, read_config};
 use gate_grammar::read_number;
 use gate_model::{DOCUMENT_BYTES, Text};
 use operator_commands::Options;
-use page_fetching::fetch;
 use std::alloc::Global;
 use std::fs::{File, Files};
 use std::io::Read;
-use std::net::{IpAddr, Ipv4Addr, Ipv6Addr, Net, SocketAddr, TcpListener, TcpStream};
-use std::time::Clock;
+use std::net::{IpAddr, Ipv4Addr, Ipv6Addr, SocketAddr};
 
 /// The path of the configuration where the words name none.
 const CONFIG: &str = "/etc/nscagate/gateway.toml";
@@ -236,23 +234,6 @@ pub fn places_for<F: Files>(
         pages,
         seconds,
     })
-}
-
-/// The ports of these options, and the text of their page.
-pub fn fetched<R: Net<Listener = TcpListener, Stream = TcpStream> + Clock + Files>(
-    rt: &R,
-    alloc: Global,
-    options: &Options,
-) -> Result<(Places, Vec<u8>), ControlFault>
-    ensures places { IfOk result (λ found. ArePlacesOf options.now found.0) }
-    ensures bad_wait { (result ≡ Err ControlFault.BadWait) ↔ (wait_of options.now.wait ≡ None) }
-    ensures fault { IfErr result (IsOfFetch options.now) }
-{
-    let places = places_for(rt, alloc, options)?;
-    match fetch(rt, alloc, places.pages) {
-        Ok(text) => Ok((places, text)),
-        Err(fault) => Err(ControlFault::NoPage(fault)),
-    }
 }
 
 /// `--wait`, which is 1 to 3600, by default 10; `BadWait`: it is anything else.

@@ -1,6 +1,5 @@
--- What `watch` prints: `IsWatched`, and why it ends with a fault: `IsWatchFault`. What a gateway shows isn't known here, so
--- some pages that it showed are meant. Own rules.
-use Rattle.std.specs.Prelude.{◌≡◌, ◌⊎◌, ℕ, Bool, true, false, List, [], ◌∷◌, ◌++◌, length, codes, Option, Some, None}
+-- What `watch` prints of the pages that it reads: `IsWatched`, and why it ends with a fault: `IsWatchFault`. Own rules.
+use Rattle.std.specs.Prelude.{◌≡◌, ◌⊎◌, ℕ, Bool, true, false, List, [], ◌∷◌, ◌++◌, length, map, codes, Option, Some, None}
 use Rattle.std.specs.List.{flat_map}
 use Rattle.gate_streams.specs.Sink.{SinkState, Delivers}
 use Rattle.status_export.specs.Document.{compact_text}
@@ -9,11 +8,12 @@ use Rattle.page_changes.specs.declared.comparing.Change.{Change}
 use Rattle.page_changes.specs.Changes.{changed}
 use Rattle.change_lines.specs.Lines.{line}
 use Rattle.operator_json.specs.Changes.{change_json}
-use Rattle.operator_commands.specs.declared.request.Options.{Options}
 use Rattle.operator_setup.specs.declared.fault.ControlFault.{ControlFault}
-use Rattle.operator_setup.specs.declared.fault.ControlFault.TheVariants.{BadInterval, BadPage, WriteFault, NoPage}
+use Rattle.operator_setup.specs.declared.fault.ControlFault.TheVariants.{BadInterval, NoPage}
 use Rattle.operator_setup.specs.Pages.{IsPageIn}
-use Rattle.operator_setup.specs.Places.{IsOfFetch, seconds_of}
+use Rattle.operator_setup.specs.Places.{seconds_of}
+use Rattle.operator_ports.specs.declared.next.Next.{Next}
+use Rattle.operator_ports.specs.Steps.{Step, Read, IsTextOf}
 use Rattle.operator_showing.specs.Shown.{IsShowFault}
 
 -- the seconds of `--interval`, or else 1
@@ -43,32 +43,39 @@ pub record IsChangePrinted (json : Bool) (one other : List ℕ) (before after : 
   pub printed : IsPrinted (change_lines json page next) before after
 
 -- what is other on each of these pages was printed, where the page of the first text was before them
-abbrev pub AreFollowed : Bool → List ℕ → List (List ℕ) → SinkState → SinkState → Type 0
+abbrev pub AreFollowed : Bool → List ℕ → List Next → SinkState → SinkState → Type 0
 AreFollowed json one [] before after = after ≡ before
-AreFollowed json one (other ∷ others) before after =
-    (between : SinkState) × IsChangePrinted json one other before between × AreFollowed json other others between after
+AreFollowed json one (next ∷ nexts) before after =
+    (other : List ℕ) × IsTextOf next other × (between : SinkState) × IsChangePrinted json one other before between
+    × AreFollowed json other nexts between after
 
--- what is other on each of so many pages
-abbrev pub IsFollowedFor : ℕ → Bool → List ℕ → SinkState → SinkState → Type 0
-IsFollowedFor count json one before after =
-    (others : List (List ℕ)) × (length others ≡ count) × AreFollowed json one others before after
+-- so many pages were read after this one, and what is other on each was printed
+pub record IsFollowedFor (count : ℕ) (json : Bool) (one : List ℕ) (steps : List Step) (before after : SinkState) : Type 0 where
+  pub reads : List Next
+  pub done : steps ≡ map Read reads
+  pub each : length reads ≡ count
+  pub followed : AreFollowed json one reads before after
 
--- of some page, and of so many pages after it
-abbrev pub IsWatchedFor : ℕ → Bool → SinkState → SinkState → Type 0
-IsWatchedFor count json before after = (one : List ℕ) × IsFollowedFor count json one before after
+-- a page was read, and so many after it
+pub record IsWatchedFor (count : ℕ) (json : Bool) (steps : List Step) (before after : SinkState) : Type 0 where
+  pub first : Next
+  pub text : List ℕ
+  pub is_text : IsTextOf first text
+  pub rest : List Step
+  pub done : steps ≡ Read first ∷ rest
+  pub followed : IsFollowedFor count json text rest before after
 
--- of some page, and of some pages after it
-abbrev pub IsWatched : Bool → SinkState → SinkState → Type 0
-IsWatched json before after = (count : ℕ) × IsWatchedFor count json before after
+-- no page came; or a page was read, and some after it
+abbrev pub IsWatched : Bool → List Step → SinkState → SinkState → Type 0
+IsWatched json steps before after =
+    ((steps ≡ []) × (after ≡ before)) ⊎ ((count : ℕ) × IsWatchedFor count json steps before after)
 
 -- why no further page is followed: none comes or none is in the text, or the output can't be written
 abbrev pub IsFollowFault : ControlFault → Type 0
 IsFollowFault (NoPage fault) = Unit {0}
 IsFollowFault fault = IsShowFault fault
 
--- the same, or why none is: `--interval` is none, or there are no ports
-abbrev pub IsWatchFault : Options → Option (List ℕ) → ControlFault → Type 0
-IsWatchFault options interval BadInterval = interval_of interval ≡ None
-IsWatchFault options interval BadPage = Unit {0}
-IsWatchFault options interval WriteFault = Unit {0}
-IsWatchFault options interval fault = IsOfFetch options fault
+-- the same, or why none is: `--interval` is none
+abbrev pub IsWatchFault : Option (List ℕ) → ControlFault → Type 0
+IsWatchFault interval BadInterval = interval_of interval ≡ None
+IsWatchFault interval fault = IsFollowFault fault

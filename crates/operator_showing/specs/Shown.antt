@@ -1,5 +1,5 @@
--- What `status` prints: `IsShown`. What a gateway shows isn't known here, so some page that it showed is meant.
-use Rattle.std.specs.Prelude.{◌≡◌, ◌⊎◌, ℕ, Bool, true, false, List, [], ◌∷◌, ◌++◌, Option, None, Ok}
+-- What `status` prints of the page that it reads: `IsShown`.
+use Rattle.std.specs.Prelude.{◌≡◌, ℕ, Bool, true, false, List, [], ◌∷◌, ◌++◌, Option, None, Ok}
 use Rattle.std.specs.List.{flat_map}
 use Rattle.gate_streams.specs.Sink.{SinkState, Delivers}
 use Rattle.status_reading.specs.declared.page.StatusPage.{StatusPage}
@@ -9,11 +9,11 @@ use Rattle.status_merge.specs.Asking.{Asked}
 use Rattle.status_merge.specs.Objects.{merged, objects_on, with_hosts}
 use Rattle.status_merge.specs.Selecting.{selected}
 use Rattle.status_export.specs.Document.{compact_text, status_document}
-use Rattle.operator_commands.specs.declared.request.Options.{Options}
 use Rattle.operator_setup.specs.declared.fault.ControlFault.{ControlFault}
-use Rattle.operator_setup.specs.declared.fault.ControlFault.TheVariants.{BadPage, WriteFault, OutOfMemory}
+use Rattle.operator_setup.specs.declared.fault.ControlFault.TheVariants.{NoPage, BadPage, WriteFault, OutOfMemory}
 use Rattle.operator_setup.specs.Pages.{IsPageIn}
-use Rattle.operator_setup.specs.Places.{IsOfFetch}
+use Rattle.operator_ports.specs.declared.next.Next.{Next}
+use Rattle.operator_ports.specs.Steps.{Step, Read, IsTextOf}
 use Rattle.operator_showing.specs.Choosing.{IsAskedFor, IsQueryFault, object_lines, chosen_text}
 
 -- a gateway of this name, whose page this is
@@ -60,17 +60,21 @@ pub record IsJsonShown (text name : List ℕ) (asked : Asked) (before after : Si
   pub printed : Delivers before after (json_on asked gateway)
 
 -- what is asked for was printed of the page that the text is: as it came where nothing is chosen
-abbrev pub IsShownOf : Bool → Option (List ℕ) → Option (List ℕ) → Asked → List ℕ → SinkState → SinkState → Type 0
-IsShownOf true state host asked text before after = (name : List ℕ) × IsJsonShown text name asked before after
-IsShownOf false None None asked text before after = IsPageShown text before after
-IsShownOf false state host asked text before after = IsChosenShown text asked before after
+abbrev pub IsShownOf : Bool → List ℕ → Option (List ℕ) → Option (List ℕ) → Asked → List ℕ → SinkState → SinkState → Type 0
+IsShownOf true name state host asked text before after = IsJsonShown text name asked before after
+IsShownOf false name None None asked text before after = IsPageShown text before after
+IsShownOf false name state host asked text before after = IsChosenShown text asked before after
 
--- what `--json`, `--state` and `--host` ask for was printed of some page
-pub record IsShown (json : Bool) (state host : Option (List ℕ)) (before after : SinkState) : Type 0 where
+-- the gateway's page was read, and what `--json`, `--state` and `--host` ask for was printed of it
+pub record IsShown (json : Bool) (name : List ℕ) (state host : Option (List ℕ)) (steps : List Step) (before after : SinkState)
+    : Type 0 where
+  pub first : Next
+  pub text : List ℕ
+  pub is_text : IsTextOf first text
+  pub done : steps ≡ Read first ∷ []
   pub asked : Asked
   pub is_asked : IsAskedFor state host asked
-  pub text : List ℕ
-  pub shown : IsShownOf json state host asked text before after
+  pub shown : IsShownOf json name state host asked text before after
 
 -- why a text isn't printed, or a part of it
 abbrev pub IsShowFault : ControlFault → Type 0
@@ -81,7 +85,8 @@ IsShowFault fault = ⊥
 
 -- why nothing is printed, or a part: what is asked for has a fault, no page comes or none is in the text, or the output
 -- can't be written
-abbrev pub IsStatusFault : Options → Option (List ℕ) → Option (List ℕ) → ControlFault → Type 0
-IsStatusFault options state host BadPage = Unit {0}
-IsStatusFault options state host WriteFault = Unit {0}
-IsStatusFault options state host fault = IsQueryFault state host fault ⊎ IsOfFetch options fault
+abbrev pub IsStatusFault : Option (List ℕ) → Option (List ℕ) → ControlFault → Type 0
+IsStatusFault state host (NoPage fault) = Unit {0}
+IsStatusFault state host BadPage = Unit {0}
+IsStatusFault state host WriteFault = Unit {0}
+IsStatusFault state host fault = IsQueryFault state host fault

@@ -1,9 +1,10 @@
 //! One page after another, and what is other on each.
 
-ghost use Rattle.std.specs.Prelude.{◌≡◌, ◌-◌, ◌^◌, ◌++◌, ℕ, Err, IfErr, IfOk, OnOk};
+ghost use Rattle.std.specs.Prelude.{◌≡◌, ◌-◌, ◌^◌, ◌++◌, ℕ, Err, List, IfErr, IfOk, OnOk};
 ghost use Rattle.std.specs.List.{flat_map};
 ghost use Rattle.std.specs.Option.{ok_or};
 ghost use Rattle.page_fetching.specs.declared.fetching.FetchFault.{FetchFault};
+ghost use Rattle.operator_ports.specs.Steps.{Step};
 ghost use Rattle.operator_showing.specs.Shown.{IsShowFault};
 ghost use Rattle.operator_showing.specs.Followed.{IsChangePrinted, IsFollowFault, IsFollowedFor, IsPrinted, IsWatchFault, IsWatched, IsWatchedFor, change_line, interval_of};
 
@@ -11,14 +12,11 @@ use change_lines::push_change;
 use gate_grammar::read_number;
 use gate_model::Text;
 use gate_streams::Sink;
-use operator_commands::Options;
 use operator_json::change_json;
-use operator_setup::{ControlFault, Places, fetched, page_of, print};
+use operator_ports::Gateway;
+use operator_setup::{ControlFault, page_of, print};
 use page_changes::{Change, changes};
-use page_fetching::fetch;
 use std::alloc::{AllocError, Global};
-use std::fs::Files;
-use std::net::{Net, TcpListener, TcpStream};
 use std::thread;
 use std::time::{Clock, Duration};
 
@@ -106,26 +104,30 @@ fn print_changes<W: Sink>(
 }
 
 // Prints what is other on each page, from this first one on, until there is no page.
-fn follow<R: Net<Listener = TcpListener, Stream = TcpStream> + Clock, W: Sink>(
+fn follow<R: Clock, G: Gateway, W: Sink>(
     rt: &R,
     alloc: Global,
-    places: Places,
     first: Vec<u8>,
     interval: u32,
     json: bool,
+    gateway: &mut G,
     output: &mut W,
 ) -> Result<u8, ControlFault>
     ensures followed { (fault : FetchFault) → result ≡ Err (ControlFault.NoPage fault)
-        → (count : ℕ) × IsFollowedFor count json first.items (W.state output.old) (W.state output.new) }
-    ensures endless { IfOk result (λ status. (status ≡ 0)
-        × IsFollowedFor (2 ^ 64 - 1) json first.items (W.state output.old) (W.state output.new)) }
+        → (count : ℕ) × (steps : List Step)
+        × (G.done gateway.new ≡ G.done gateway.old ++ steps)
+        × IsFollowedFor count json first.items steps (W.state output.old) (W.state output.new) }
+    ensures endless { IfOk result (λ status. (status ≡ 0) × (steps : List Step)
+        × (G.done gateway.new ≡ G.done gateway.old ++ steps)
+        × IsFollowedFor (2 ^ 64 - 1) json first.items steps
+        (W.state output.old) (W.state output.new)) }
     ensures fault { IfErr result IsFollowFault }
 {
     drop(page_of(alloc, first.as_slice())?);
     let mut before = first;
     for _turn in 0..u64::MAX {
         thread::sleep(rt, Duration::from_secs(u64::from(interval)));
-        let after = match fetch(rt, alloc, places.pages) {
+        let after = match gateway.page(alloc) {
             Ok(text) => text,
             Err(fault) => return Err(ControlFault::NoPage(fault)),
         };
@@ -135,24 +137,29 @@ fn follow<R: Net<Listener = TcpListener, Stream = TcpStream> + Clock, W: Sink>(
     Ok(0)
 }
 
-/// Prints what is other on each page of the gateway of these options, until there is none, which is
-/// the fault `NoPage`, or 2^64 - 1 were, for status 0. Between two pages lie `--interval` seconds. An
-/// error is also `BadInterval`, a fault of the options' ports, `BadPage`, `WriteFault` or `OutOfMemory`.
-#[tactic(auto, using(crate::proofs::FollowSteps::nothing))]
-pub fn run_watch<R: Net<Listener = TcpListener, Stream = TcpStream> + Clock + Files, W: Sink>(
+/// Prints what is other on each page of a gateway, until there is none, which is the fault `NoPage`, or
+/// 2^64 - 1 were, for status 0. Between two pages lie `--interval` seconds. An error is also
+/// `BadInterval`, `BadPage`, `WriteFault` or `OutOfMemory`.
+pub fn run_watch<R: Clock, G: Gateway, W: Sink>(
     rt: &R,
     alloc: Global,
-    options: &Options,
+    json: bool,
     interval: &Option<Text>,
+    gateway: &mut G,
     output: &mut W,
 ) -> Result<u8, ControlFault>
     ensures watched { (fault : FetchFault) → result ≡ Err (ControlFault.NoPage fault)
-        → IsWatched options.now.json (W.state output.old) (W.state output.new) }
-    ensures endless { IfOk result (λ status. (status ≡ 0)
-        × IsWatchedFor (2 ^ 64 - 1) options.now.json (W.state output.old) (W.state output.new)) }
-    ensures fault { IfErr result (IsWatchFault options.now interval.now) }
+        → (steps : List Step) × (G.done gateway.new ≡ G.done gateway.old ++ steps)
+        × IsWatched json steps (W.state output.old) (W.state output.new) }
+    ensures endless { IfOk result (λ status. (status ≡ 0) × (steps : List Step)
+        × (G.done gateway.new ≡ G.done gateway.old ++ steps)
+        × IsWatchedFor (2 ^ 64 - 1) json steps (W.state output.old) (W.state output.new)) }
+    ensures fault { IfErr result (IsWatchFault interval.now) }
 {
     let interval = interval_in(interval)?;
-    let (places, text) = fetched(rt, alloc, options)?;
-    follow(rt, alloc, places, text, interval, options.json, output)
+    let text = match gateway.page(alloc) {
+        Ok(text) => text,
+        Err(fault) => return Err(ControlFault::NoPage(fault)),
+    };
+    follow(rt, alloc, text, interval, json, gateway, output)
 }

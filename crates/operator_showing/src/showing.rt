@@ -1,27 +1,25 @@
 //! The status page, whole or in part, as it came or as JSON.
 
-ghost use Rattle.std.specs.Prelude.{◌≡◌, ◌||◌, is_some, IfErr, IfOk};
+ghost use Rattle.std.specs.Prelude.{◌≡◌, ◌||◌, ◌++◌, List, is_some, IfErr, IfOk};
 ghost use Rattle.status_merge.specs.Asking.{asked_by};
+ghost use Rattle.operator_ports.specs.Steps.{Step};
 ghost use Rattle.operator_showing.specs.Shown.{IsAlone, chosen_on, json_on, IsPageShown, IsChosenShown, IsJsonShown, IsShowFault, IsShown, IsStatusFault};
 
 use crate::choosing::{chosen_text, object_lines, query_in};
 use gate_model::Text;
 use gate_streams::Sink;
-use operator_commands::Options;
-use operator_setup::{ControlFault, fetched, page_of, print};
+use operator_ports::Gateway;
+use operator_setup::{ControlFault, page_of, print};
 use status_export::json_text;
-use status_merge::{Gateway, Query, merge, select};
+use status_merge::{Gateway as ShownGateway, Query, merge, select};
 use status_reading::StatusPage;
 use std::alloc::{AllocError, Global};
-use std::fs::Files;
-use std::net::{Net, TcpListener, TcpStream};
-use std::time::Clock;
 
 // A gateway of this name, whose page this is.
-fn alone<'a>(alloc: Global, name: &'a str, page: StatusPage<'a>) -> Gateway<'a>
+fn alone<'a>(alloc: Global, name: &'a str, page: StatusPage<'a>) -> ShownGateway<'a>
     ensures { IsAlone name.entry.now page.entry result }
 {
-    Gateway {
+    ShownGateway {
         name,
         page: Ok(page),
         since: &[],
@@ -34,7 +32,7 @@ fn alone<'a>(alloc: Global, name: &'a str, page: StatusPage<'a>) -> Gateway<'a>
 fn chosen_on(
     alloc: Global,
     text: &[u8],
-    gateway: Gateway<'_>,
+    gateway: ShownGateway<'_>,
     query: &Query,
 ) -> Result<Vec<u8>, AllocError>
     ensures { IfOk result (λ lines. lines.items ≡ chosen_on text.now (asked_by query.now) gateway.entry) }
@@ -45,7 +43,7 @@ fn chosen_on(
 }
 
 // A gateway as JSON, with its objects that a query chooses, and a line's end.
-fn json_on(alloc: Global, gateway: Gateway<'_>, query: &Query) -> Result<Vec<u8>, AllocError>
+fn json_on(alloc: Global, gateway: ShownGateway<'_>, query: &Query) -> Result<Vec<u8>, AllocError>
     ensures { IfOk result (λ text. text.items ≡ json_on (asked_by query.now) gateway.entry) }
 {
     let gateways = [gateway];
@@ -110,27 +108,31 @@ fn are_chosen(state: &Option<Text>, host: &Option<Text>) -> bool
     state.is_some() || host.is_some()
 }
 
-/// Prints the page of the gateway of these options: as it came, the lines of the objects of `wanted`
-/// (`--state` and `--host`), or as JSON.
-pub fn run_status<R: Net<Listener = TcpListener, Stream = TcpStream> + Clock + Files, W: Sink>(
-    rt: &R,
+/// Prints the page of a gateway: as it came, the lines of the objects of `wanted` (`--state` and
+/// `--host`), or as JSON, with this name of the gateway.
+pub fn run_status<G: Gateway, W: Sink>(
     alloc: Global,
-    options: &Options,
+    json: bool,
+    name: &str,
     wanted: (&Option<Text>, &Option<Text>),
+    gateway: &mut G,
     output: &mut W,
 ) -> Result<u8, ControlFault>
     ensures status { IfOk result (λ status. status ≡ 0) }
-    ensures shown { IfOk result (λ _. IsShown options.now.json wanted.entry.0.now wanted.entry.1.now
+    ensures shown { IfOk result (λ _. (steps : List Step)
+        × (G.done gateway.new ≡ G.done gateway.old ++ steps)
+        × IsShown json name.now wanted.entry.0.now wanted.entry.1.now steps
         (W.state output.old) (W.state output.new)) }
-    ensures fault { IfErr result
-        (IsStatusFault options.now wanted.entry.0.now wanted.entry.1.now) }
+    ensures fault { IfErr result (IsStatusFault wanted.entry.0.now wanted.entry.1.now) }
 {
     let query = query_in(alloc, wanted.0, wanted.1)?;
-    let (places, text) = fetched(rt, alloc, options)?;
+    let text = match gateway.page(alloc) {
+        Ok(text) => text,
+        Err(fault) => return Err(ControlFault::NoPage(fault)),
+    };
     let text = text.as_slice();
-    if options.json {
-        let name = places.pages.to_string(alloc)?;
-        show_json(alloc, text, name.as_str(), &query, output)
+    if json {
+        show_json(alloc, text, name, &query, output)
     } else if are_chosen(wanted.0, wanted.1) {
         show_chosen(alloc, text, &query, output)
     } else {

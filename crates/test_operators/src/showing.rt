@@ -1,5 +1,5 @@
 use gate_model::Text;
-use operator_commands::Options;
+use operator_ports::LiveGateway;
 use operator_showing::run_status;
 use std::io::Write;
 use std::net::TcpListener;
@@ -19,24 +19,15 @@ fn the_objects_that_are_asked_for_are_shown(rt: HostRuntime) {
     let alloc = rt.alloc();
     let listener = TcpListener::bind(&rt, "127.0.0.1:0").expect(&rt, "a port");
     let address = listener.local_addr().expect(&rt, "its address");
-    let pages = address.to_string(alloc).expect(&rt, "memory");
-    let options = Options {
-        config: None,
-        operators: Some(Text::copied(alloc, pages.as_bytes()).expect(&rt, "memory")),
-        pages: Some(Text::copied(alloc, pages.as_bytes()).expect(&rt, "memory")),
-        wait: None,
-        json: false,
-        escaped: false,
-    };
+    let mut gateway = LiveGateway::new(&rt, alloc, address, address, 10);
     let host = Some(Text::copied(alloc, b"db").expect(&rt, "memory"));
     let mut output = Vec::new(alloc);
     let (shown, served) = thread::join(
         &rt,
-        || run_status(&rt, alloc, &options, (&None, &host), &mut output),
+        || run_status(alloc, false, "", (&None, &host), &mut gateway, &mut output),
         || serve(&listener),
     );
     assert!(rt; served.is_ok());
     assert_eq!(rt; shown.ok(), Some(0));
     assert!(rt; output.as_slice() == b"object;db1;;DOWN;700;fresh;-;0;down\n".as_slice());
-    drop(options);
 }

@@ -1,7 +1,7 @@
 use Rattle.std.proofs.Common.{◌≡◌, ◌++◌, length, map}
 use Rattle.std.specs.Prelude.{reverse}
 use Rattle.operator_ports.specs.Commands.{entered_at}
-use Rattle.operator_ports.proofs.sending.entered_at.Given as goal
+use Rattle.operator_ports.proofs.commands.entered_at.Given as goal
 
 abbrev pub invariant-loop-body : goal.invariant-loop-body
 invariant-loop-body l =

@@ -1,6 +1,5 @@
--- What is read of a gateway's pages, one after another, until one shows a command's effect: `ComesNext`, `Shows`, and of
--- pages that are known, `IsFirstSeen`. Own rules.
-use Rattle.std.specs.Prelude.{◌≡◌, ◌≢◌, ℕ, List, [], ◌∷◌, ◌++◌, Option, Some, None, ⊤}
+-- What is read of a gateway's pages, one after another, until one shows a command's effect: `IsWatched`. Own rules.
+use Rattle.std.specs.Prelude.{◌≡◌, ◌≢◌, ◌⊎◌, ℕ, ◌-◌, ◌^◌, List, [], ◌∷◌, ◌++◌, length, Option, Some, None}
 use Rattle.std.specs.List.{AllByRecursion}
 use Rattle.gate_model.specs.declared.submission.Body.{Body}
 use Rattle.gate_model.specs.declared.submission.Body.TheVariants.{Shutdown}
@@ -10,14 +9,8 @@ use Rattle.status_reading.specs.Readable.{IsReadable}
 use Rattle.status_reading.specs.RowFaults.{IsSound}
 use Rattle.page_changes.specs.declared.effects.Effect.{Effect}
 use Rattle.page_changes.specs.Effects.{effect_of}
-use Rattle.operator_effects.specs.declared.watching.Next.{Next}
-use Rattle.operator_effects.specs.declared.watching.Next.TheVariants.{Page, Gone, Over}
-
--- what is read next is the first of these, and the others are left; after the last the time is over
-abbrev pub ComesNext : Option (List Next) → Next → Option (List Next) → Type 0
-ComesNext None next left = ⊤
-ComesNext (Some []) next left = (next ≡ Over) × (left ≡ Some [])
-ComesNext (Some (page ∷ pages)) next left = (next ≡ page) × (left ≡ Some pages)
+use Rattle.operator_ports.specs.declared.next.Next.{Next}
+use Rattle.operator_ports.specs.declared.next.Next.TheVariants.{Page, Gone, Over}
 
 -- the text is a page that shows the command, where this page was before it, and this effect
 abbrev pub ShowsIn : Body → PageView → List ℕ → Effect → Type 0
@@ -41,17 +34,22 @@ ShowsNone body before (Page text) = ShowsNoneIn body before text.items
 ShowsNone body before Gone = body ≢ Shutdown
 ShowsNone body before Over = ⊥
 
--- the first of these is what shows the command, or the time is over
-abbrev pub EndsAt : Body → PageView → Option Effect → List Next → Type 0
-EndsAt body before (Some effect) [] = ⊥
-EndsAt body before (Some effect) (next ∷ left) = Shows body before next effect
-EndsAt body before None [] = ⊤
-EndsAt body before None (next ∷ left) = next ≡ Over
+-- what was read last shows this effect, or it is that the time is over
+abbrev pub EndsAt : Body → PageView → Option Effect → Next → Type 0
+EndsAt body before (Some effect) next = Shows body before next effect
+EndsAt body before None next = next ≡ Over
 
--- of these, the first that shows the command shows this effect, or none does until the time is over
-pub record IsFirstSeen (body : Body) (before : PageView) (known : List Next) (seen : Option Effect) : Type 0 where
+-- what was read last shows this effect, or is that the time is over, and nothing before it shows the command
+pub record IsEnded (body : Body) (before : PageView) (reads : List Next) (seen : Option Effect) : Type 0 where
   pub passed : List Next
-  pub left : List Next
-  pub whole : known ≡ passed ++ left
+  pub last : Next
+  pub whole : reads ≡ passed ++ last ∷ []
   pub none : AllByRecursion (ShowsNone body before) passed
-  pub ends : EndsAt body before seen left
+  pub ends : EndsAt body before seen last
+
+-- the pages were read to the first that shows the command, with this effect, or until the time is over, and then there is
+-- none; nobody reads more than 2^64 - 1 of them
+abbrev pub IsWatched : Body → PageView → List Next → Option Effect → Type 0
+IsWatched body before reads seen =
+    IsEnded body before reads seen
+    ⊎ ((seen ≡ None) × AllByRecursion (ShowsNone body before) reads × (length reads ≡ 2 ^ 64 - 1))

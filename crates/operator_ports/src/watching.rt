@@ -1,42 +1,18 @@
 //! One page after another, until one shows a command's effect.
 
-ghost use Rattle.std.specs.Prelude.{◌≡◌, ◌≢◌, ◌<◌, ◌-◌, ◌^◌, List, Some, length, IfOk, IfSome, MatchOption};
+ghost use Rattle.std.specs.Prelude.{◌≡◌, ◌≢◌, ◌++◌, List, map, IfOk, MatchOption};
 ghost use Rattle.std.specs.Bool.{Decides};
 ghost use Rattle.status_reading.specs.Rows.{page_view};
-ghost use Rattle.operator_effects.specs.declared.watching.Next.{Next as Given};
-ghost use Rattle.operator_effects.specs.Watching.{Shows, ShowsIn, ShowsNone, ShowsNoneIn, IsFirstSeen};
+ghost use Rattle.operator_ports.specs.declared.next.Next.{Next as Given};
+ghost use Rattle.operator_ports.specs.Steps.{Read};
+ghost use Rattle.operator_ports.specs.Watching.{Shows, ShowsIn, ShowsNone, ShowsNoneIn, IsWatched};
 
+use crate::gateway::Gateway;
+use crate::next::Next;
 use gate_model::Body;
 use page_changes::{Effect, effect_of};
 use status_reading::{ReadFault, StatusPage, read_status_page};
 use std::alloc::{AllocError, Global};
-
-/// What is read next of a gateway's pages.
-#[derive(Drop)]
-pub enum Next {
-    /// The text of a page.
-    Page(Vec<u8>),
-    /// The gateway shows no page.
-    Gone,
-    /// The time is over.
-    Over,
-}
-
-/// The pages of a gateway, one after another.
-///
-/// A type that leaves the member out claims nothing by it.
-pub trait Pages {
-    ghost use Rattle.std.specs.Prelude.{List, Option, None};
-    ghost use Rattle.operator_effects.specs.declared.watching.Next.{Next as Given};
-    ghost use Rattle.operator_effects.specs.Watching.{ComesNext};
-
-    // What is read from here on, one after the other, where it is known.
-    ghost pages: { Self → Option (List Given) } = { λ _. None };
-
-    /// The next page, after a pause.
-    fn next(&mut self, alloc: Global) -> Next
-        ensures { ComesNext (pages self.old) result (pages self.new) };
-}
 
 // What a text shows of a command, where it is a page that shows its effect.
 fn seen_in(
@@ -88,22 +64,18 @@ fn is_over(next: &Next) -> bool
 /// page.
 ///
 /// A text that is no page is passed over. The only error is out of memory.
-pub fn watch<P: Pages>(
+pub fn watch<G: Gateway>(
     alloc: Global,
     before: &StatusPage<'_>,
     body: &Body,
-    pages: &mut P,
+    gateway: &mut G,
 ) -> Result<Option<Effect>, AllocError>
-    ensures seen { IfOk result (λ seen. IfSome seen (λ effect.
-        (next : Given) × Shows body.now (page_view before.now) next effect)) }
-
-    // Of known pages, it is the first that shows it, and there is none where the time is over.
-    ensures first { (known : List Given) → P.pages pages.old ≡ Some known
-        → length known < 2 ^ 64 - 1
-        → IfOk result (IsFirstSeen body.now (page_view before.now) known) }
+    ensures { IfOk result (λ seen. (reads : List Given)
+        × (G.done gateway.new ≡ G.done gateway.old ++ map Read reads)
+        × IsWatched body.now (page_view before.now) reads seen) }
 {
     for _ in 0..u64::MAX {
-        let next = pages.next(alloc);
+        let next = gateway.next(alloc)?;
         if is_over(&next) {
             return Ok(None);
         }

@@ -1,0 +1,2 @@
+pub mod DoneSteps
+pub mod WatchingSteps
