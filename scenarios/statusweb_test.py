@@ -821,7 +821,8 @@ def test_ends(now):
 
 
 GUARDS = ("content-security-policy: default-src 'none'; style-src 'self'; form-action 'self'; base-uri 'none'; frame-ancestors 'none'"
-          '\r\nx-content-type-options: nosniff\r\nreferrer-policy: no-referrer\r\nconnection: close\r\n')
+          '\r\nx-content-type-options: nosniff\r\nreferrer-policy: no-referrer\r\ncross-origin-resource-policy: same-origin'
+          '\r\nconnection: close\r\n')
 
 
 def exchange(web, sent):
@@ -874,11 +875,14 @@ def test_requests(now):
             test(f'{method} {path} is {status}', found[0].status == status, found)
             test(f'{method} {path} has the policy', found[0].getheader('content-security-policy') == policy)
         text = 'content-type: text/plain; charset=utf-8\r\ncache-control: no-store\r\n'
-        for method, host, status, allowed in [('POST', 'localhost', '405 Method Not Allowed', 'allow: GET, HEAD\r\n'),
-                                              ('GET', 'other.example', '421 Misdirected Request', '')]:
-            answer = undated(exchange(web, f'{method} / HTTP/1.1\r\nHost: {host}\r\n\r\n'.encode()))
+        for method, path, host, status, allowed, advice in [
+                ('POST', '/', 'localhost', '405 Method Not Allowed', 'allow: GET, HEAD\r\n', ''),
+                ('GET', '/', 'other.example', '421 Misdirected Request', '', ": this server doesn't answer to this name. "
+                 'Use localhost or an IP address, or start it with --host NAME\n'),
+                ('GET', '/other', 'localhost', '404 Not Found', '', ': nothing is at this path. The status is at /\n')]:
+            answer = undated(exchange(web, f'{method} {path} HTTP/1.1\r\nHost: {host}\r\n\r\n'.encode()))
             test(f'the whole answer {status}', answer == f'HTTP/1.1 {status}\r\n{allowed}{text}{GUARDS}'
-                 f'content-length: 3\r\n\r\n{status[:3]}', answer)
+                 f'content-length: {3 + len(advice)}\r\n\r\n{status[:3]}{advice}', answer)
         for path in ['/', '/status.json', '/metrics', '/changes', '/changes.json', '/changes.atom', '/style.css']:
             (whole, _), (head, body) = web.ask(path), web.ask(path, 'HEAD')
             fields = [[field for field in answer.getheaders() if field[0] not in ('date', 'content-length')]
@@ -889,7 +893,7 @@ def test_requests(now):
         test('a request of HTTP/1.0', answer.startswith(b'HTTP/1.0 200'), answer[:200])
         guards = {
             'connection': 'close', 'content-length': '0', 'cache-control': 'no-store', 'content-security-policy': policy,
-            'x-content-type-options': 'nosniff', 'referrer-policy': 'no-referrer'}
+            'x-content-type-options': 'nosniff', 'referrer-policy': 'no-referrer', 'cross-origin-resource-policy': 'same-origin'}
         for sent, line in [
                 (b'GET / HTTP/1.1\r\n', '400 Bad Request'), (b'status please\r\n', '400 Bad Request'),
                 (b'POST / HTTP/1.1\r\nHost: h\r\nContent-Length: 16385\r\n', '413 Payload Too Large'),

@@ -17,13 +17,25 @@ pub valued : (old new : List (List ℕ × List ℕ)) (name value other : List �
     → Adds old new name other
 valued old new name value other adds same = adds ∙ ap (λ (value : List ℕ). old ++ (name, value) ∷ []) same
 
-pub four : (a b c d e : List (List ℕ × List ℕ)) (n m o p v w x y : List ℕ) → Adds a b n v → Adds b c m w → Adds c d o x
+pub named : (old new : List (List ℕ × List ℕ)) (name other value : List ℕ) → Adds old new name value → name ≡ other
+    → Adds old new other value
+named old new name other value adds same = adds ∙ ap (λ (name : List ℕ). old ++ (name, value) ∷ []) same
+
+four : (a b c d e : List (List ℕ × List ℕ)) (n m o p v w x y : List ℕ) → Adds a b n v → Adds b c m w → Adds c d o x
     → Adds d e p y
     → e ≡ a ++ (n, v) ∷ (m, w) ∷ (o, x) ∷ (p, y) ∷ []
 four a b c d e n m o p v w x y first second third fourth =
     two c d e o p x y third fourth
     ∙ ap (λ known. known ++ (o, x) ∷ (p, y) ∷ []) (two a b c n m v w first second)
     ∙ append_assoc a ((n, v) ∷ (m, w) ∷ []) ((o, x) ∷ (p, y) ∷ [])
+
+pub five : (a b c d e f : List (List ℕ × List ℕ)) (n m o p q v w x y z : List ℕ) → Adds a b n v → Adds b c m w → Adds c d o x
+    → Adds d e p y → Adds e f q z
+    → f ≡ a ++ (n, v) ∷ (m, w) ∷ (o, x) ∷ (p, y) ∷ (q, z) ∷ []
+five a b c d e f n m o p q v w x y z first second third fourth fifth =
+    fifth
+    ∙ ap (λ known. known ++ (q, z) ∷ []) (four a b c d e n m o p v w x y first second third fourth)
+    ∙ append_assoc a ((n, v) ∷ (m, w) ∷ (o, x) ∷ (p, y) ∷ []) ((q, z) ∷ [])
 
 pub on_ok : {T E P Q : Type 0} (result : Result T E) → (P → Q) → OnOk result P → OnOk result Q
 on_ok (Ok value) step known = step known

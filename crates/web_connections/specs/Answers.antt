@@ -1,6 +1,6 @@
 -- The responses of a web program, by their status, header fields and body. Own rules, but for `allow`, `date` and `etag`
 -- (RFC 9110, sections 15.5.6, 6.6.1 and 8.8.3).
-use Rattle.std.specs.Prelude.{◌≡◌, ℕ, Bool, true, false, ◌||◌, nat_lt, List, [], ◌∷◌, ◌++◌, length, codes}
+use Rattle.std.specs.Prelude.{◌≡◌, ℕ, ◌==◌, Bool, true, false, ◌||◌, nat_lt, if◌then◌else◌, List, [], ◌∷◌, ◌++◌, length, codes}
 use Rattle.std.specs.List.{list_any}
 use Rattle.std.specs.Str.{bytes_eq}
 use Rattle.memchr.specs.Find.{matches}
@@ -25,7 +25,8 @@ pub record IsDated (clock : ℕ) (old new : Response) : Type 0 where
   pub moment : unix_secs date ≡ clock
   pub field : Extends ((codes "date", date_text date) ∷ []) [] old new
 
--- no script runs, nothing but the style is loaded, and no other site learns of the page
+-- no script runs, nothing but the style is loaded, and no other site learns of the page, nor loads it as a part of its own
+-- (Fetch, section 3.7)
 abbrev pub browser_fields : List (List ℕ × List ℕ)
 browser_fields = (
   codes "content-security-policy",
@@ -33,6 +34,7 @@ browser_fields = (
 )
     ∷ (codes "x-content-type-options", codes "nosniff")
     ∷ (codes "referrer-policy", codes "no-referrer")
+    ∷ (codes "cross-origin-resource-policy", codes "same-origin")
     ∷ []
 
 -- the fields of every answer, whose connection ends
@@ -70,10 +72,18 @@ IsKept kind body values response =
       | false ↦ IsResponse 200 ((codes "etag", entity_tag body) ∷ body_fields kind (codes "max-age=300")) body response
     ]
 
--- a refusal: the status, with its three digits as the text, and with these fields first
+-- what is wrong with a path or with a name in `Host`, and what to do
+abbrev pub advice_of : ℕ → List ℕ
+advice_of status =
+    if status == 404 then codes ": nothing is at this path. The status is at /\n"
+    else if status == 421
+    then codes ": this server doesn't answer to this name. Use localhost or an IP address, or start it with --host NAME\n"
+    else []
+
+-- a refusal: the status, with its three digits and that advice as the text, and with these fields first
 abbrev pub IsRefusal : ℕ → List (List ℕ × List ℕ) → Response → Type 0
 IsRefusal status fields response =
     IsResponse status
     (fields ++ body_fields (codes "text/plain; charset=utf-8") (codes "no-store"))
-    (code_digits status)
+    (code_digits status ++ advice_of status)
     response

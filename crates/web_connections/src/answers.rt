@@ -1,17 +1,17 @@
 //! Responses, each with the header fields that keep a browser from running or loading anything
 //! else.
-ghost use Rattle.std.specs.Prelude.{◌≡◌, ◌∷◌, [], IfOk, OnOk, codes, string_bytes};
+ghost use Rattle.std.specs.Prelude.{◌≡◌, ◌∷◌, [], ◌++◌, IfOk, OnOk, codes, string_bytes};
 ghost use Rattle.std.specs.List.{list_any};
 ghost use Rattle.http.specs.Request.{head_of};
 ghost use Rattle.http.specs.StatusCode.{code_digits};
 ghost use Rattle.http_header.specs.HeaderMap.{get_all};
 ghost use Rattle.http_server.specs.Response.{IsBlank, IsResponse};
-ghost use Rattle.web_connections.specs.Answers.{Extends, IsDated, guard_fields, body_fields, IsSent, entity_tag, has_tag, IsKept, IsRefusal};
+ghost use Rattle.web_connections.specs.Answers.{Extends, IsDated, guard_fields, body_fields, IsSent, entity_tag, has_tag, IsKept, advice_of, IsRefusal};
 
 use bytes::Bytes;
 use http::header::{
     ALLOW, CACHE_CONTROL, CONNECTION, CONTENT_SECURITY_POLICY, CONTENT_TYPE, DATE, ETAG,
-    IF_NONE_MATCH, REFERRER_POLICY, X_CONTENT_TYPE_OPTIONS,
+    HeaderName, IF_NONE_MATCH, REFERRER_POLICY, X_CONTENT_TYPE_OPTIONS,
 };
 use http::{HeaderValue, Request, StatusCode};
 use http_server::Response;
@@ -30,6 +30,8 @@ fn add_guards(response: &mut Response) -> Result<(), AllocError>
     response.add_header(CONTENT_SECURITY_POLICY, policy)?;
     response.add_header(X_CONTENT_TYPE_OPTIONS, HeaderValue::from_static("nosniff"))?;
     response.add_header(REFERRER_POLICY, HeaderValue::from_static("no-referrer"))?;
+    let name = HeaderName::from_static("cross-origin-resource-policy");
+    response.add_header(name, HeaderValue::from_static("same-origin"))?;
     response.add_header(CONNECTION, HeaderValue::from_static("close"))
 }
 
@@ -132,12 +134,28 @@ pub fn send_kept(
     )
 }
 
+// What is wrong, and what to do.
+fn advice_of(status: StatusCode) -> &'static str
+    ensures { result.now ≡ advice_of status }
+{
+    let code = status.as_u16();
+    if code == 404 {
+        ": nothing is at this path. The status is at /\n"
+    } else if code == 421 {
+        ": this server doesn't answer to this name. Use localhost or an IP address, or start it with --host NAME\n"
+    } else {
+        ""
+    }
+}
+
 fn fill_status(response: &mut Response, alloc: Global) -> Result<(), AllocError>
     ensures { OnOk result (Extends
         (body_fields (codes "text/plain; charset=utf-8") (codes "no-store"))
-        (code_digits response.old.status) response.old response.new) }
+        (code_digits response.old.status ++ advice_of response.old.status)
+        response.old response.new) }
 {
-    let body = Vec::from_slice(alloc, response.status.as_str().as_bytes())?;
+    let mut body = Vec::from_slice(alloc, response.status.as_str().as_bytes())?;
+    body.extend_from_slice(advice_of(response.status).as_bytes())?;
     fill(
         response,
         HeaderValue::from_static("text/plain; charset=utf-8"),

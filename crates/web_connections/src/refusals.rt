@@ -11,6 +11,7 @@ content-security-policy: default-src 'none'; style-src 'self'; form-action 'self
 frame-ancestors 'none'\r\n\
 x-content-type-options: nosniff\r\n\
 referrer-policy: no-referrer\r\n\
+cross-origin-resource-policy: same-origin\r\n\
 date: ";
 
 /// A refusal of `http_server`, which ends in an empty line, with the fields of every answer before
