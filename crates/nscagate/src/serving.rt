@@ -64,11 +64,7 @@ fn endpoint<'a, R, C>(rt: &'a R, connections: C) -> Endpoint<C, Told<'a, R>>
 {
     Endpoint {
         connections,
-        hold: LogHold {
-            rt,
-            log: None,
-            hold: TakenCount::none(),
-        },
+        hold: LogHold::new(rt, None, TakenCount::none()),
     }
 }
 
@@ -186,11 +182,7 @@ fn run_kept<R: Net<Listener = TcpListener, Stream = TcpStream> + Threads + Wait 
     };
     let lines_turn = LineTurn::new(rt, &order, &opening, items);
     let operators = KeptFirst::new(lines, lines_turn, ports.operators.connections(rt));
-    let applier = LogHold {
-        rt,
-        log: run_log,
-        hold: TakenCount::of(&order),
-    };
+    let applier = LogHold::new(rt, run_log, TakenCount::of(&order));
     match agents_endpoints(rt, alloc, &ports.agents, config.workers, packets, &order) {
         Ok(agents) => run_on(rt, alloc, config, ports, agents, operators, applier),
         Err(_) => {
