@@ -462,7 +462,8 @@ CHANGES = '''\
 <thead><tr><th scope="col">Time</th><th scope="col">Object</th><th scope="col">From</th><th scope="col">To</th>\
 <th scope="col">Gateway</th></tr></thead><tbody>
 <tr class="critical"><td class="num cell"><time datetime="AT">AT</time></td>\
-<td class="name"><a href="/?host=web%2F1"><bdi>web/1</bdi></a> <span class="soft">/</span> <bdi>HTTP</bdi></td><td class="cell" data-name="from">OK</td>\
+<td class="name"><a href="/object?host=web%2F1&amp;service=HTTP&amp;gateway=east"><bdi>web/1</bdi> <span class="soft">/</span> <bdi>HTTP</bdi></a></td>\
+<td class="cell" data-name="from">OK</td>\
 <td class="cell"><span class="badge state">CRITICAL</span></td><td class="cell soft" data-name="at">east</td></tr>
 </tbody></table>
 </main><footer><a href="/changes.json">changes.json</a> &middot; <a href="/changes.atom">changes.atom</a></footer>
@@ -473,7 +474,7 @@ FEED = '''\
 <feed xmlns="http://www.w3.org/2005/Atom"><id>nscagate:changes</id><title>nscagate</title><updated>AT</updated>\
 <author><name>statusweb</name></author><link rel="self" href="/changes.atom"/><link href="/changes"/>
 <entry><id>nscagate:change?gateway=east&amp;host=web%2F1&amp;service=HTTP&amp;moment=SECONDS&amp;from=OK&amp;to=CRITICAL</id>\
-<title>web/1 / HTTP: OK to CRITICAL at east</title><updated>AT</updated><link href="/?host=web%2F1"/></entry>
+<title>web/1 / HTTP: OK to CRITICAL at east</title><updated>AT</updated><link href="/object?host=web%2F1&amp;service=HTTP&amp;gateway=east"/></entry>
 </feed>
 '''
 
@@ -533,8 +534,74 @@ def test_changes(now):
         test('its ids and its links', len({*ids}) == 3 and ids[2] == 'nscagate:change?gateway=east&host=web%2F1&service=HTTP'
              f'&moment={now + 1}&from=OK&to=CRITICAL' and read.findtext(atom + 'updated') == moment(now + 4, 'T')
              and urllib.parse.parse_qs(urllib.parse.urlsplit(read.findall(atom + 'entry')[0].find(
-                 atom + 'link').get('href')).query) == {'host': ['web/1']}, feed)
+                 atom + 'link').get('href')).query) == {'host': ['web/1'], 'gateway': ['east']}, feed)
         test('each page links to them', b'<a href="/changes">' in web.text('/') and b'href="/changes.atom"' in web.text('/'))
+
+
+def test_links(now):
+    """A link leads to what it names, whatever bytes that has, and to nothing else."""
+    odd = b'gr\xfcn +&%'
+
+    def page(moment, service, entries=b''):
+        return b'status %d\n' % moment + b''.join(
+            b'object;%s;;UP;%d;fresh;-;0;x\nobject;%s;a b;%s;%d;fresh;-;0;x\n' % (host, moment, host, service, moment)
+            for host in (b'web1', b'web10', odd)) + entries
+    entries = b''.join(b'comment;%d;%s;%s;user;1;%d;ann;x\n' % (index, host, service, now - 9) for index, (host, service) in enumerate(
+        [(b'web1', b''), (b'web10', b'a b'), (odd, b'a b')], 1)) + b''.join(
+        b'downtime;%d;%s;%s;fixed;0;%d;%d;0;-;ann;x\n' % (index, host, service, now + 60, now + 99)
+        for index, (host, service) in enumerate([(b'web1', b'a b'), (b'web10', b''), (odd, b'')], 1))
+    texts = {name: page(now, b'OK', entries) for name in ('east', 'west')}
+    gateways = {name: shows(lambda name=name: texts[name]) for name in texts}
+
+    def rows_of(link):
+        """The status of an object's page, and its rows: of the objects, the comments, the downtime entries and the changes."""
+        response, answer = web.ask(link)
+        tables = [Tags(table).rows for table in answer.split(b'<table>')[1:]]
+        return response.status, [[row[:] for row in rows if row] for rows in tables]
+
+    def links_in(text, begin):
+        return [html.unescape(link) for link in re.findall(begin + '<a href="([^"]*)"', text.decode('latin-1'))]
+    with Web(*[(name, gateway.port) for name, gateway in gateways.items()]) as web:
+        web.text('/')
+        texts['east'] = page(now + 1, b'CRITICAL', entries)
+        count = gateways['east'].count
+        soon(lambda: gateways['east'].count >= count + 2)
+        for path, links in [
+                ('/changes', links_in(web.text('/changes'), '<td class="name">')),
+                ('/changes.atom', [entry.find('{*}link').get('href') for entry in xml.etree.ElementTree.fromstring(
+                    web.text('/changes.atom')).iter('{http://www.w3.org/2005/Atom}entry')])]:
+            found = [(status, [row[1] for row in rows[0]], [row[-1] for row in rows[0]], [row[1:] for row in rows[-1]])
+                     for status, rows in map(rows_of, links)]
+            wanted = [(200, [name + ' / a b'], ['east'], [[name + ' / a b', 'OK', 'CRITICAL', 'east']])
+                      for name in ('gr\ufffdn +&%', 'web10', 'web1')]
+            test(f'{path} leads to the objects at the gateway', sorted(found) == sorted(wanted), (links, found))
+        links = links_in(web.text('/'), '<tr><td class="name">')
+        found = [(status, rows[0][0][1]) for status, rows in map(rows_of, links)]
+        name = 'gr\ufffdn +&%'
+        test('a comment and a downtime entry lead to their objects', sorted(found) == sorted(
+            (200, one) for one in [name, name + ' / a b', 'web1', 'web1 / a b', 'web10', 'web10 / a b']), (links, found))
+        for host in (b'web1', b'web10', odd):
+            quoted = urllib.parse.quote_plus(host)
+            response, answer = web.ask(f'/object?host={quoted}&service=a+b')
+            links = links_in(answer, '</h2>') + links_in(answer, ' &middot; ')[:1]
+            shown = [shown_in(web.text(link)) for link in links]
+            test(f'an object leads to its host, and to the objects of that: {host}', links == [
+                f'/object?host={quoted}&service=', f'/?hostname={quoted}'] and shown == [
+                    [quoted] * 2, [quoted + '/a+b', quoted]], (links, shown))
+            read = web.json('/status.json?hostname=' + quoted)
+            test(f'comments and downtime by the exact name: {host}', [
+                row['host'] for table in ('objects', 'comments', 'downtimes') for row in read[table]]
+                == [host.decode('utf-8', 'replace')] * 6, read)
+        response, answer = web.ask('/object?host=web1&service=')
+        test('a host leads to no other host', links_in(answer, '</h2>') == ['/?hostname=web1'], answer)
+        test('an object of a gateway that has none is not found',
+             web.ask('/object?host=web1&service=&gateway=eas')[0].status == 404)
+        _, rows = rows_of('/object?host=web1&service=&gateway=west')
+        test('the comments of a gateway alone', [[row[-1] for row in table] for table in rows[:2]] == [
+            ['west'], ['1 at east, 1 at west']], rows)
+        heads = links_in(web.text('/?hostname=web1&host=w'), '<th scope="col">')
+        test('the order keeps the exact name', len(heads) == 3 and all(
+            link.startswith('/?hostname=web1&state=all&host=w&') and len(shown_in(web.text(link))) == 2 for link in heads), heads)
 
 
 def test_other_objects(now):
@@ -618,6 +685,11 @@ QUERIES = {
     'service=s': 'web2/ssh web1/disk',
     'output=disk+full': 'web2/ssh',
     'gateway=west': 'db web2/ssh web2',
+    'hostname=web1': 'web1/HTTP web1/disk web1',
+    'hostname=web2&hostname=db': 'db',
+    'hostname=web&host=web': '',
+    'hostname=WEB1': '',
+    'hostname=web1&host=2': '',
     'gateway=wes': '',
     'gateway=WEST': '',
     'acknowledged=yes': 'web1/HTTP',
@@ -640,7 +712,7 @@ ORDERS = {
 
 def shown_in(page):
     """The objects of a page's list, each as the link of its row names it."""
-    links = re.findall(r'<td class="name"><a href="/object\?host=([^&]*)&amp;service=([^"]*)"', page.decode())
+    links = re.findall(r'</span></td><td class="name"><a href="/object\?host=([^&]*)&amp;service=([^"]*)"', page.decode('latin-1'))
     return [host + ('/' + service if service else '') for host, service in links]
 
 
@@ -670,8 +742,9 @@ def test_filters(now):
                  'State': ['worst', 'west', '1'], 'Since': ['since', 'west', '1'], 'Last result': ['last', 'west', '1']}, heads)
         test('scripts have one order', web.json('/status.json?sort=host') == web.json())
         folded = [b'<details open>' in web.text('/?' + query)
-                  for query in ['', 'host=a&state=up', 'service=a', 'output=a', 'gateway=a', 'acknowledged=no', 'downtime=yes']]
-        test('filters that select are not folded', folded == [False] * 2 + [True] * 5, folded)
+                  for query in ['', 'host=a&state=up', 'hostname=a', 'service=a', 'output=a', 'gateway=a', 'acknowledged=no',
+                                'downtime=yes']]
+        test('filters that select are not folded', folded == [False] * 2 + [True] * 6, folded)
         text = web.text('/?service=%22%3E%3Cb%3E&acknowledged=no').decode()
         test('the form keeps what is asked', ' name="service" value="&quot;&gt;&lt;b&gt;"' in text
              and '<select name="acknowledged"><option>any</option><option>yes</option><option selected>no</option>' in text, text)
@@ -1114,7 +1187,7 @@ def main():
             test(check.__name__, False, repr(error))
     at_once(*[lambda check=check: run(check) for check in [test_words, test_pages, test_names]], *[
         lambda check=check: run(check, int(time.time())) for check in [
-            test_texts, test_faults, test_places, test_old, test_clocks, test_since, test_changes, test_other_objects, test_tiles, test_filters, test_rows, test_sharing,
+            test_texts, test_faults, test_places, test_old, test_clocks, test_since, test_changes, test_links, test_other_objects, test_tiles, test_filters, test_rows, test_sharing,
             test_descriptors, test_ends, test_requests, test_style, test_missing_objects, test_browser]])
     # What takes the processors for itself.
     run(test_idle_browsers, int(time.time()))

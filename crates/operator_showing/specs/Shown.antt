@@ -35,7 +35,7 @@ chosen_on text asked gateway = chosen_text asked (object_lines text) (objects_at
 -- the gateway as JSON, with those objects, and an LF
 abbrev pub json_on : Asked → Gateway → List ℕ
 json_on asked gateway =
-    compact_text (status_document (gateway ∷ []) (selected asked (objects_at gateway)) asked.host) ++ 10 ∷ []
+    compact_text (status_document (gateway ∷ []) (selected asked (objects_at gateway)) asked) ++ 10 ∷ []
 
 -- the text is a page, and was printed
 pub record IsPageShown (text : List ℕ) (before after : SinkState) : Type 0 where

@@ -13,6 +13,7 @@ use Rattle.status_merge.specs.declared.gateway.Gateway.{Gateway}
 use Rattle.status_merge.specs.declared.gateway.Old.{Old}
 use Rattle.status_merge.specs.declared.gateway.MergedObject.{MergedObject}
 use Rattle.status_merge.specs.declared.entries.Entry.{Entry}
+use Rattle.status_merge.specs.Asking.{Asked}
 use Rattle.status_merge.specs.Entries.{comments_on, downtimes_on}
 use Rattle.status_export.specs.Document.{optional_json, service_json, alarm_json, alarms_json, items_of, reachable_json, unreachable_json, old_json, page_json, gateway_json, object_json, comment_json, downtime_json, status_document}
 
@@ -81,10 +82,10 @@ shallow_map most f each (x ∷ xs) = omega (arith, each x, shallow_map most f ea
 
 -- ---- the document
 
-pub shallow : (gateways : List Gateway) (objects : List MergedObject) (part : List ℕ) → depth (status_document gateways objects part) ≤ max_depth
-shallow gateways objects part =
+pub shallow : (gateways : List Gateway) (objects : List MergedObject) (asked : Asked) → depth (status_document gateways objects asked) ≤ max_depth
+shallow gateways objects asked =
     let ones = shallow_map 2 gateway_json shallow_gateway gateways in
     let twos = shallow_map 1 object_json shallow_object objects in
-    let threes = shallow_map 1 comment_json shallow_comment (flat_map (comments_on part) gateways) in
-    let fours = shallow_map 1 downtime_json shallow_downtime (flat_map (downtimes_on part) gateways) in
+    let threes = shallow_map 1 comment_json shallow_comment (flat_map (comments_on asked) gateways) in
+    let fours = shallow_map 1 downtime_json shallow_downtime (flat_map (downtimes_on asked) gateways) in
     omega arith

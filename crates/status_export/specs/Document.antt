@@ -22,6 +22,7 @@ use Rattle.status_merge.specs.declared.gateway.Old.{Old}
 use Rattle.status_merge.specs.declared.gateway.MergedObject.{MergedObject}
 use Rattle.status_merge.specs.Ranks.{is_unhandled}
 use Rattle.status_merge.specs.declared.entries.Entry.{Entry}
+use Rattle.status_merge.specs.Asking.{Asked}
 use Rattle.status_merge.specs.Entries.{comments_on, downtimes_on}
 
 -- ---- JSON by lists
@@ -184,13 +185,13 @@ downtime_json entry =
 
 -- ---- the document
 
--- the gateways, these objects, and the comments and downtime entries whose host's name contains a text
-abbrev pub status_document : List Gateway → List MergedObject → List ℕ → Json
-status_document gateways objects part =
+-- the gateways, these objects, and the comments and downtime entries of the hosts that are asked for
+abbrev pub status_document : List Gateway → List MergedObject → Asked → Json
+status_document gateways objects asked =
     object (members_of (
     (codes "gateways", array (items_of (map gateway_json gateways)))
     ∷ (codes "objects", array (items_of (map object_json objects)))
-    ∷ (codes "comments", array (items_of (map comment_json (flat_map (comments_on part) gateways))))
-    ∷ (codes "downtimes", array (items_of (map downtime_json (flat_map (downtimes_on part) gateways))))
+    ∷ (codes "comments", array (items_of (map comment_json (flat_map (comments_on asked) gateways))))
+    ∷ (codes "downtimes", array (items_of (map downtime_json (flat_map (downtimes_on asked) gateways))))
     ∷ []
     ))

@@ -5,6 +5,7 @@ ghost use Rattle.std.specs.Str.{IsUtf8};
 ghost use Rattle.json.specs.Json.{array, document};
 ghost use Rattle.json.specs.Tree.{json_tokens};
 ghost use Rattle.gate_model.specs.Escaping.{escaped};
+ghost use Rattle.status_merge.specs.Asking.{asked_by};
 ghost use Rattle.status_export.specs.Document.{plain_text, acknowledgement_word, reachable_json, unreachable_json, old_json, alarms_json, page_json, gateway_json, object_json, items_of, compact_text, status_document};
 ghost use Rattle.status_export.specs.inner.Writing.{Adds, member_tokens};
 
@@ -192,11 +193,11 @@ pub fn json_text(
     query: &Query,
 ) -> Result<Vec<u8>, AllocError>
     ensures text { IfOk result (λ text. text.items
-        ≡ compact_text (status_document gateways.now objects.now (string_bytes query.now.host))) }
+        ≡ compact_text (status_document gateways.now objects.now (asked_by query.now))) }
     // A reader of JSON finds the document in the text.
     ensures utf8 { IfOk result (λ text. IsUtf8 text.items) }
     ensures read { IfOk result (λ text. document text.items
-        ≡ Some (status_document gateways.now objects.now (string_bytes query.now.host))) }
+        ≡ Some (status_document gateways.now objects.now (asked_by query.now))) }
 
     // The field that shows a text on a page stands for this text where its bytes are UTF-8.
     ensures kept { (text : List ℕ) → IsUtf8 text → plain_text (escaped text) ≡ text }

@@ -1,9 +1,10 @@
 //! Comments and downtime entries as JSON.
 
-ghost use Rattle.std.specs.Prelude.{◌≡◌, ◌∷◌, OnOk, codes, map, string_bytes};
+ghost use Rattle.std.specs.Prelude.{◌≡◌, ◌∷◌, OnOk, codes, map};
 ghost use Rattle.std.specs.List.{flat_map};
 ghost use Rattle.json.specs.Json.{array};
 ghost use Rattle.json.specs.Tree.{json_tokens};
+ghost use Rattle.status_merge.specs.Asking.{asked_by};
 ghost use Rattle.status_merge.specs.Entries.{comments_on, downtimes_on};
 ghost use Rattle.status_export.specs.Document.{items_of, comment_json, downtime_json};
 ghost use Rattle.status_export.specs.inner.Writing.{Adds, member_tokens};
@@ -68,7 +69,7 @@ pub fn push_comments(
 ) -> Result<(), AllocError>
     ensures { OnOk result (Adds writer.old writer.new (member_tokens (codes "comments")
         (array (items_of (map comment_json
-        (flat_map (comments_on (string_bytes query.now.host)) gateways.now)))))) }
+        (flat_map (comments_on (asked_by query.now)) gateways.now)))))) }
 {
     let entries = comments_of(alloc, gateways, query)?;
     writer.key("comments")?;
@@ -88,7 +89,7 @@ pub fn push_downtimes(
 ) -> Result<(), AllocError>
     ensures { OnOk result (Adds writer.old writer.new (member_tokens (codes "downtimes")
         (array (items_of (map downtime_json
-        (flat_map (downtimes_on (string_bytes query.now.host)) gateways.now)))))) }
+        (flat_map (downtimes_on (asked_by query.now)) gateways.now)))))) }
 {
     let entries = downtimes_of(alloc, gateways, query)?;
     writer.key("downtimes")?;

@@ -46,11 +46,12 @@ after-text name pairs known none =
 -- what is asked for, field by field
 pub all-asked : (query : Query) (asked : Asked) → query.choice ≡ asked.choice
     → (string_bytes query.host ≡ asked.host) × (string_bytes query.service ≡ asked.service)
-    × (string_bytes query.output ≡ asked.output) × (string_bytes query.gateway ≡ asked.gateway)
+    × (string_bytes query.output ≡ asked.output) × (query.hostname.items ≡ asked.hostname)
+    × (string_bytes query.gateway ≡ asked.gateway)
     → query.acknowledged ≡ asked.acknowledged → query.downtime ≡ asked.downtime
     → asked_by query ≡ asked
 all-asked query asked choice texts acknowledged downtime =
-    rw (choice, texts.0, texts.1, texts.2, texts.3, acknowledged, downtime) refl
+    rw (choice, texts.0, texts.1, texts.2, texts.3, texts.4, acknowledged, downtime) refl
 
 -- ---- the seconds of a text
 

@@ -8,4 +8,5 @@ pub mod StateLaws
 pub mod MarkLaws
 pub mod SelectingSteps
 pub mod EntrySteps
+pub mod ValueLaws
 pub mod AskingSteps

@@ -9,6 +9,7 @@ use Rattle.std.specs.Str.Parse.{digits_value, without_leading_plus}
 use Rattle.form_urlencoded.specs.Form.{decode}
 use Rattle.gate_model.specs.declared.state.State.{State}
 use Rattle.gate_model.specs.declared.state.State.TheVariants.{Pending, Ok, Warning, Critical, Unknown, Up, Down, Unreachable}
+use Rattle.status_merge.specs.Values.{value_in}
 use Rattle.status_merge.specs.declared.query.Query.{Query}
 use Rattle.status_merge.specs.declared.query.Choice.{Choice}
 use Rattle.status_merge.specs.declared.query.Choice.TheVariants.{All, Problems, Unhandled, Stale, In}
@@ -129,12 +130,13 @@ abbrev pub text_asked : List ℕ → List (List ℕ × List ℕ) → List ℕ
 text_asked name pairs = unwrap_or (value_of name pairs) []
 
 -- which objects are asked for: by their state; by texts that the names of the host and of the service, and the output,
--- contain; by the name of the gateway; and by their marks
+-- contain; by the exact names of the host, with any bytes, and of the gateway; and by their marks
 pub record Asked : Type 0 where
   pub choice : Choice
   pub host : List ℕ
   pub service : List ℕ
   pub output : List ℕ
+  pub hostname : List ℕ
   pub gateway : List ℕ
   pub acknowledged : Option Bool
   pub downtime : Option Bool
@@ -146,6 +148,7 @@ asked_in pairs = record {
   host = text_asked (codes "host") pairs;
   service = text_asked (codes "service") pairs;
   output = text_asked (codes "output") pairs;
+  hostname = value_in (codes "hostname") pairs;
   gateway = text_asked (codes "gateway") pairs;
   acknowledged = option_map_or mark_of (value_of (codes "acknowledged") pairs) None;
   downtime = option_map_or mark_of (value_of (codes "downtime") pairs) None;
@@ -168,6 +171,7 @@ asked_by query = record {
   host = string_bytes query.host;
   service = string_bytes query.service;
   output = string_bytes query.output;
+  hostname = query.hostname.items;
   gateway = string_bytes query.gateway;
   acknowledged = query.acknowledged;
   downtime = query.downtime;
@@ -180,6 +184,7 @@ only choice = record {
   host = [];
   service = [];
   output = [];
+  hostname = [];
   gateway = [];
   acknowledged = None;
   downtime = None;

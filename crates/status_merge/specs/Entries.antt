@@ -16,7 +16,8 @@ use Rattle.status_merge.specs.declared.entries.CommentLine.{CommentLine}
 use Rattle.status_merge.specs.declared.entries.DowntimeLine.{DowntimeLine}
 use Rattle.status_merge.specs.declared.entries.Entry.{Entry}
 use Rattle.status_merge.specs.Groups.{groups}
-use Rattle.status_merge.specs.Selecting.{has_part}
+use Rattle.status_merge.specs.Asking.{Asked}
+use Rattle.status_merge.specs.Selecting.{has_host}
 
 -- a number for each source
 abbrev pub source_number : ShownSource → ℕ
@@ -64,19 +65,19 @@ downtime_by gateway moment row = record {
   row = row;
 }
 
--- the comments of a gateway's page whose host's name contains a text, in its order; none where there is no page
-abbrev pub comments_on : List ℕ → Gateway → List (Entry ShownComment)
-comments_on part gateway = elim gateway.page [
-  | Ok page ↦ map (comment_by gateway.name page.moment) (filter (λ row. has_part row.host.now part) page.comments.items)
+-- the comments of a gateway's page on the hosts that are asked for, in its order; none where there is no page
+abbrev pub comments_on : Asked → Gateway → List (Entry ShownComment)
+comments_on asked gateway = elim gateway.page [
+  | Ok page ↦ map (comment_by gateway.name page.moment) (filter (λ row. has_host asked row.host.now) page.comments.items)
   | Err fault ↦ []
 ]
 
 -- the same of its downtime entries
-abbrev pub downtimes_on : List ℕ → Gateway → List (Entry ShownDowntime)
-downtimes_on part gateway = elim gateway.page [
+abbrev pub downtimes_on : Asked → Gateway → List (Entry ShownDowntime)
+downtimes_on asked gateway = elim gateway.page [
   | Ok page ↦
       map (downtime_by gateway.name page.moment)
-      (filter (λ row. has_part row.host.now part) page.downtimes.items)
+      (filter (λ row. has_host asked row.host.now) page.downtimes.items)
   | Err fault ↦ []
 ]
 
@@ -100,10 +101,10 @@ comment_line group = (group.0.row, map origin_of group.1)
 abbrev pub downtime_line : Entry ShownDowntime × List (Entry ShownDowntime) → ℕ × ShownDowntime × List Origin
 downtime_line group = (group.0.moment, group.0.row, map origin_of group.1)
 
--- the lines of the comments on hosts whose names contain a text, in the order of their first rows
-abbrev pub comment_lines : List ℕ → List Gateway → List (ShownComment × List Origin)
-comment_lines part gateways = map comment_line (groups same_comment (flat_map (comments_on part) gateways))
+-- the lines of the comments on the hosts that are asked for, in the order of their first rows
+abbrev pub comment_lines : Asked → List Gateway → List (ShownComment × List Origin)
+comment_lines asked gateways = map comment_line (groups same_comment (flat_map (comments_on asked) gateways))
 
 -- the same of downtime entries
-abbrev pub downtime_lines : List ℕ → List Gateway → List (ℕ × ShownDowntime × List Origin)
-downtime_lines part gateways = map downtime_line (groups same_downtime (flat_map (downtimes_on part) gateways))
+abbrev pub downtime_lines : Asked → List Gateway → List (ℕ × ShownDowntime × List Origin)
+downtime_lines asked gateways = map downtime_line (groups same_downtime (flat_map (downtimes_on asked) gateways))

@@ -5,4 +5,5 @@ pub mod Selecting
 pub mod Sorting
 pub mod Entries
 pub mod Asking
+pub mod Values
 pub mod inner

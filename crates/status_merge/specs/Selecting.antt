@@ -18,9 +18,13 @@ abbrev pub has_part : List ℕ → List ℕ → Bool
 has_part [] part = begins [] part
 has_part (byte ∷ rest) part = begins (byte ∷ rest) part || has_part rest part
 
--- whether this is the name of the gateway that is asked for, if one is
+-- whether this is the name that is asked for, if one is
 abbrev pub is_at : List ℕ → List ℕ → Bool
-is_at gateway name = (length gateway == 0) || bytes_eq name gateway
+is_at wanted name = (length wanted == 0) || bytes_eq name wanted
+
+-- whether a host is asked for: its name contains the text, and is the exact one
+abbrev pub has_host : Asked → List ℕ → Bool
+has_host asked host = has_part host asked.host && is_at asked.hostname host
 
 -- whether a mark is as it is asked for, if it is
 abbrev pub is_as : Option Bool → Bool → Bool
@@ -40,7 +44,7 @@ has_choice (In state) object = is_same_state object.row.state state
 abbrev pub is_selected : Asked → MergedObject → Bool
 is_selected asked object =
     has_choice asked.choice object
-    && has_part object.row.host.now asked.host
+    && has_host asked object.row.host.now
     && has_part object.row.service.now asked.service
     && has_part object.row.output.now asked.output
     && is_at asked.gateway object.gateway.now

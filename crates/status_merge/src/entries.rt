@@ -1,9 +1,10 @@
 //! Comments and downtime entries of several gateways: those that differ in id and gateway alone are
 //! one.
 
-ghost use Rattle.std.specs.Prelude.{◌≡◌, ◌++◌, IfOk, OnOk, map, string_bytes};
+ghost use Rattle.std.specs.Prelude.{◌≡◌, ◌++◌, IfOk, OnOk, map};
 ghost use Rattle.std.specs.List.{flat_map};
 ghost use Rattle.status_reading.specs.declared.rows.ShownSource.{ShownSource};
+ghost use Rattle.status_merge.specs.Asking.{asked_by};
 ghost use Rattle.status_merge.specs.Entries.{origin_of, source_number, comments_on, downtimes_on, comment_view, downtime_view, comment_lines, downtime_lines};
 
 use crate::gateway::Gateway;
@@ -168,7 +169,7 @@ fn add_comments<'a>(
     query: &Query,
 ) -> Result<(), AllocError>
     ensures { OnOk result (entries.new.items
-        ≡ entries.old.items ++ comments_on (string_bytes query.now.host) gateway.now) }
+        ≡ entries.old.items ++ comments_on (asked_by query.now) gateway.now) }
 {
     let Ok(page) = &gateway.page else {
         return Ok(());
@@ -195,7 +196,7 @@ fn add_downtimes<'a>(
     query: &Query,
 ) -> Result<(), AllocError>
     ensures { OnOk result (entries.new.items
-        ≡ entries.old.items ++ downtimes_on (string_bytes query.now.host) gateway.now) }
+        ≡ entries.old.items ++ downtimes_on (asked_by query.now) gateway.now) }
 {
     let Ok(page) = &gateway.page else {
         return Ok(());
@@ -223,7 +224,7 @@ pub fn comments_of<'a>(
     query: &Query,
 ) -> Result<Vec<Entry<'a, ShownComment<'a>>>, AllocError>
     ensures { IfOk result (λ entries. entries.items
-        ≡ flat_map (comments_on (string_bytes query.now.host)) gateways.now) }
+        ≡ flat_map (comments_on (asked_by query.now)) gateways.now) }
 {
     let mut entries = Vec::new(alloc);
     for gateway in gateways {
@@ -240,7 +241,7 @@ pub fn downtimes_of<'a>(
     query: &Query,
 ) -> Result<Vec<Entry<'a, ShownDowntime<'a>>>, AllocError>
     ensures { IfOk result (λ entries. entries.items
-        ≡ flat_map (downtimes_on (string_bytes query.now.host)) gateways.now) }
+        ≡ flat_map (downtimes_on (asked_by query.now)) gateways.now) }
 {
     let mut entries = Vec::new(alloc);
     for gateway in gateways {
@@ -260,7 +261,7 @@ pub fn merge_comments<'a>(
     query: &Query,
 ) -> Result<Vec<CommentLine<'a>>, AllocError>
     ensures { IfOk result (λ lines. map comment_view lines.items
-        ≡ comment_lines (string_bytes query.now.host) gateways.now) }
+        ≡ comment_lines (asked_by query.now) gateways.now) }
 {
     let entries = comments_of(alloc, gateways, query)?;
     let mut lines = Vec::new(alloc);
@@ -285,7 +286,7 @@ pub fn merge_downtimes<'a>(
     query: &Query,
 ) -> Result<Vec<DowntimeLine<'a>>, AllocError>
     ensures { IfOk result (λ lines. map downtime_view lines.items
-        ≡ downtime_lines (string_bytes query.now.host) gateways.now) }
+        ≡ downtime_lines (asked_by query.now) gateways.now) }
 {
     let entries = downtimes_of(alloc, gateways, query)?;
     let mut lines = Vec::new(alloc);

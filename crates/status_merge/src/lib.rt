@@ -11,6 +11,7 @@ mod query;
 mod ranks;
 mod selecting;
 mod sorting;
+mod values;
 
 pub use counts::{Counts, count};
 pub use entries::{
@@ -21,5 +22,6 @@ pub use gateway::{Gateway, MergedObject, Old};
 pub use merging::{age_of, merge};
 pub use query::{Choice, Query, Sort, choice_name, mark_name, read_query, sort_name};
 pub use ranks::{is_made, is_unhandled, rank};
-pub use selecting::{page_rows, select};
+pub use selecting::{is_at, page_rows, select};
 pub use sorting::sort_rows;
+pub use values::value_in;

@@ -5,6 +5,7 @@ ghost use Rattle.status_merge.specs.declared.query.Choice.TheVariants.{All};
 ghost use Rattle.status_merge.specs.declared.query.Sort.TheVariants.{Worst};
 ghost use Rattle.status_merge.specs.Asking.{choice_word, choice_of, state_of, mark_word, mark_of, sort_word, sort_of, number_of, in_range, refresh_of, page_of, asked_in, asked_by, only, sort_asked, page_asked, refresh_asked};
 
+use crate::values::value_in;
 use form_urlencoded::parse;
 use status_reading::State;
 use std::alloc::{AllocError, Global};
@@ -42,6 +43,8 @@ pub struct Query {
     pub host: String,
     pub service: String,
     pub output: String,
+    /// The name of its host, exactly, as pages write it; empty: any.
+    pub hostname: Vec<u8>,
     /// The name of its gateway, exactly; empty: any.
     pub gateway: String,
     /// Whether it is acknowledged, and whether it is in downtime.
@@ -68,6 +71,7 @@ impl Query {
             host: String::new(alloc),
             service: String::new(alloc),
             output: String::new(alloc),
+            hostname: Vec::new(alloc),
             gateway: String::new(alloc),
             acknowledged: None,
             downtime: None,
@@ -311,8 +315,8 @@ fn add_pair(
     Ok(())
 }
 
-/// Reads the query of a URL: `state`, `host`, `service`, `output`, `gateway`, `acknowledged`,
-/// `downtime`, `sort`, `page` and `refresh`, each with its default.
+/// Reads the query of a URL: `state`, `host`, `hostname`, `service`, `output`, `gateway`,
+/// `acknowledged`, `downtime`, `sort`, `page` and `refresh`, each with its default.
 ///
 /// Other names are skipped. Of a name that comes twice the last counts. An unknown word is the
 /// default. The only error is out of memory.
@@ -329,5 +333,6 @@ pub fn read_query(alloc: Global, text: &str, refresh: u32) -> Result<Query, Allo
         let (name, value) = pair?;
         add_pair(alloc, &mut query, name.as_str(), value.as_str(), refresh)?;
     }
+    query.hostname = value_in(alloc, "hostname", text)?;
     Ok(query)
 }

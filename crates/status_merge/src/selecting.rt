@@ -1,8 +1,8 @@
-ghost use Rattle.std.specs.Prelude.{◌≡◌, ◌++◌, IfOk, OnOk, string_bytes};
+ghost use Rattle.std.specs.Prelude.{◌≡◌, ◌++◌, IfOk, OnOk};
 ghost use Rattle.std.specs.List.{flat_map};
 ghost use Rattle.std.specs.Str.{str_eq_ignore_ascii_case};
 ghost use Rattle.status_merge.specs.Asking.{asked_by};
-ghost use Rattle.status_merge.specs.Selecting.{begins, has_part, is_at, is_as, has_choice, is_selected, of_rank, selected, page_rows};
+ghost use Rattle.status_merge.specs.Selecting.{begins, has_part, is_at, has_host, is_as, has_choice, is_selected, of_rank, selected, page_rows};
 
 use crate::gateway::MergedObject;
 use crate::query::{Choice, Query};
@@ -36,10 +36,11 @@ fn has_part(text: &[u8], part: &[u8]) -> bool
     begins(&[], part)
 }
 
-fn is_at(gateway: &str, name: &str) -> bool
-    ensures { result ≡ is_at gateway.now name.now }
+/// Whether this is the name that is asked for; where that is empty, each is.
+pub fn is_at(wanted: &[u8], name: &[u8]) -> bool
+    ensures { result ≡ is_at wanted.now name.now }
 {
-    gateway.is_empty() || name == gateway
+    wanted.is_empty() || name == wanted
 }
 
 fn is_as(asked: Option<bool>, is: bool) -> bool
@@ -65,11 +66,11 @@ fn has_choice(choice: Choice, object: &MergedObject<'_>) -> bool
     }
 }
 
-/// Whether a host's name contains the text that a query asks for.
+/// Whether a host's name contains the text that a query asks for, and is the exact one.
 pub(crate) fn takes_host(query: &Query, host: &[u8]) -> bool
-    ensures { result ≡ has_part host.now (string_bytes query.now.host) }
+    ensures { result ≡ has_host (asked_by query.now) host.now }
 {
-    has_part(host, query.host.as_str().as_bytes())
+    has_part(host, query.host.as_str().as_bytes()) && is_at(query.hostname.as_slice(), host)
 }
 
 fn is_selected(query: &Query, object: &MergedObject<'_>) -> bool
@@ -80,7 +81,7 @@ fn is_selected(query: &Query, object: &MergedObject<'_>) -> bool
         && takes_host(query, row.host)
         && has_part(row.service, query.service.as_str().as_bytes())
         && has_part(row.output, query.output.as_str().as_bytes())
-        && is_at(query.gateway.as_str(), object.gateway)
+        && is_at(query.gateway.as_str().as_bytes(), object.gateway.as_bytes())
         && is_as(query.acknowledged, is_made(row.acknowledgement))
         && is_as(query.downtime, row.depth > 0)
 }

@@ -4,7 +4,7 @@ use Rattle.form_urlencoded.specs.Form.{raw_pairs}
 use Rattle.status_memory.specs.declared.history.GatewayChange.{GatewayChange}
 use Rattle.status_merge.specs.declared.gateway.Gateway.{Gateway}
 use Rattle.status_view.specs.declared.one_object.ObjectAsked.{ObjectAsked}
-use Rattle.status_view.specs.Links.{value_in}
+use Rattle.status_merge.specs.Values.{value_in}
 use Rattle.status_view.specs.OneObject.{IsObjectPage}
 use Rattle.page_watching.specs.declared.watching.Seen.{Seen}
 use Rattle.status_serving.specs.declared.headings.Heading.{Heading}
@@ -18,6 +18,7 @@ pub record AsksFor (heading : Heading) (gateways : List Gateway) (changes : List
   pub refresh : asked.refresh ≡ heading.refresh
   pub host : asked.host.now ≡ value_in (codes "host") (raw_pairs query)
   pub service : asked.service.now ≡ value_in (codes "service") (raw_pairs query)
+  pub gateway : asked.gateway.now ≡ value_in (codes "gateway") (raw_pairs query)
   pub pages : asked.gateways.now ≡ gateways
   pub kept : asked.changes.now ≡ changes
 

@@ -72,10 +72,6 @@ objects_of gateways = with_hosts (merged (flat_map objects_on gateways))
 abbrev pub asked_of : List Gateway → List ℕ → List MergedObject
 asked_of gateways query = selected (asked_in (raw_pairs query)) (objects_of gateways)
 
--- the text that the hosts of comments and of downtime entries contain
-abbrev pub host_asked : List ℕ → List ℕ
-host_asked query = (asked_in (raw_pairs query)).host
-
 -- a page of these gateways for a query at this clock shows this
 pub record Views (heading : Heading) (gateways : List Gateway) (query : List ℕ) (now : ℕ) (view : View) : Type 0 where
   pub title : view.title.now ≡ heading.title.now
@@ -92,8 +88,8 @@ pub record Views (heading : Heading) (gateways : List Gateway) (query : List ℕ
   pub rows : List MergedObject
   pub in_order : IsInOrder (sort_asked (raw_pairs query)) (asked_of gateways query) rows
   pub objects : view.objects.now ≡ page_rows (page_asked (raw_pairs query)) rows
-  pub comments : map comment_view view.comments.now ≡ comment_lines (host_asked query) gateways
-  pub downtimes : map downtime_view view.downtimes.now ≡ downtime_lines (host_asked query) gateways
+  pub comments : map comment_view view.comments.now ≡ comment_lines (asked_in (raw_pairs query)) gateways
+  pub downtimes : map downtime_view view.downtimes.now ≡ downtime_lines (asked_in (raw_pairs query)) gateways
 
 -- the page for a browser at this clock
 abbrev pub IsPage : Heading → List Gateway → List ℕ → ℕ → List ℕ → Type 0
@@ -104,7 +100,7 @@ IsPage heading gateways query clock body =
 -- the same as JSON
 abbrev pub json_body : List Gateway → List ℕ → List ℕ
 json_body gateways query =
-    compact_text (status_document gateways (asked_of gateways query) (host_asked query))
+    compact_text (status_document gateways (asked_of gateways query) (asked_in (raw_pairs query)))
 
 -- the metrics of all objects
 abbrev pub metrics_body : List Gateway → List ℕ

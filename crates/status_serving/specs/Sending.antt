@@ -7,7 +7,8 @@ use Rattle.form_urlencoded.specs.Form.{raw_pairs}
 use Rattle.http_server.specs.declared.response.Response.{Response}
 use Rattle.status_reading.specs.declared.rows.ShownObject.{ShownObject}
 use Rattle.status_merge.specs.declared.gateway.Gateway.{Gateway}
-use Rattle.status_view.specs.Links.{value_in}
+use Rattle.status_merge.specs.Values.{value_in}
+use Rattle.status_merge.specs.Selecting.{is_at}
 use Rattle.page_watching.specs.declared.places.Place.{Place}
 use Rattle.page_watching.specs.declared.watching.Seen.{Seen}
 use Rattle.page_watching.specs.Watching.{seen_place}
@@ -45,12 +46,16 @@ has_object host service gateway = elim gateway.page [
   | Err cause ↦ false
 ]
 
+-- whether a gateway is asked for by this name, or by none, and its page shows this object
+abbrev pub shows_at : List ℕ → List ℕ → List ℕ → Gateway → Bool
+shows_at at host service gateway = is_at at gateway.name.now && has_object host service gateway
+
 -- the status code of the page of the object that a query names: no page of a gateway shows it, so it isn't found (RFC
 -- 9110, section 15.5.5)
 abbrev pub object_code : List Seen → List Gateway → List (List ℕ × List ℕ) → ℕ
 object_code seen gateways pairs =
     if list_any is_reached seen
-    then (if list_any (has_object (value_in (codes "host") pairs) (value_in (codes "service") pairs)) gateways
+    then (if list_any (shows_at (value_in (codes "gateway") pairs) (value_in (codes "host") pairs) (value_in (codes "service") pairs)) gateways
     then 200 else 404)
     else 503
 

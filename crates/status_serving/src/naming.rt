@@ -29,6 +29,7 @@ fn object_text(
         refresh: heading.refresh,
         host: name.host.as_slice(),
         service: name.service.as_slice(),
+        gateway: name.gateway.as_slice(),
         gateways,
         changes,
     };

@@ -6,7 +6,7 @@ ghost use Rattle.http.specs.Request.{head_of};
 ghost use Rattle.http_header.specs.HeaderMap.{get_all};
 ghost use Rattle.http_server.specs.Response.{IsBlank};
 ghost use Rattle.web_connections.specs.Answers.{IsKept};
-ghost use Rattle.status_serving.specs.Sending.{is_reached, reached_code, status_code, is_named, has_object, object_code, IsStatusOf, AreChangesOf, IsObjectOf};
+ghost use Rattle.status_serving.specs.Sending.{is_reached, reached_code, status_code, is_named, has_object, shows_at, object_code, IsStatusOf, AreChangesOf, IsObjectOf};
 
 use crate::bodies::{Form, gateways_of, status_body, status_kind};
 use crate::changing::{ChangesForm, changes_body, kind_of};
@@ -16,7 +16,7 @@ use bytes::Bytes;
 use http::{HeaderValue, Request, StatusCode};
 use http_server::Response;
 use page_watching::{Seen, Watch};
-use status_merge::Gateway;
+use status_merge::{Gateway, is_at};
 use status_reading::ShownObject;
 use status_view::{STYLE, read_object_name};
 use std::alloc::{AllocError, Global};
@@ -103,12 +103,19 @@ fn has_object(host: &[u8], service: &[u8], gateway: &Gateway<'_>) -> bool
     }
 }
 
-fn is_any_showing(host: &[u8], service: &[u8], gateways: &[Gateway<'_>]) -> bool
-    ensures { result ≡ list_any (has_object host.now service.now) gateways.now }
+// Whether a gateway is asked for, and its page shows the object of these names.
+fn shows_at(at: &[u8], host: &[u8], service: &[u8], gateway: &Gateway<'_>) -> bool
+    ensures { result ≡ shows_at at.now host.now service.now gateway.now }
+{
+    is_at(at, gateway.name.as_bytes()) && has_object(host, service, gateway)
+}
+
+fn is_any_showing(at: &[u8], host: &[u8], service: &[u8], gateways: &[Gateway<'_>]) -> bool
+    ensures { result ≡ list_any (shows_at at.now host.now service.now) gateways.now }
 {
     gateways
         .iter()
-        .any(|gateway| has_object(host, service, gateway))
+        .any(|gateway| shows_at(at, host, service, gateway))
 }
 
 // No page of a gateway shows the object that a query names: there is none.
@@ -124,7 +131,8 @@ fn object_code(
         return Ok(StatusCode::SERVICE_UNAVAILABLE);
     }
     let name = read_object_name(alloc, query)?;
-    if is_any_showing(name.host.as_slice(), name.service.as_slice(), gateways) {
+    let at = name.gateway.as_slice();
+    if is_any_showing(at, name.host.as_slice(), name.service.as_slice(), gateways) {
         Ok(StatusCode::OK)
     } else {
         Ok(StatusCode::NOT_FOUND)

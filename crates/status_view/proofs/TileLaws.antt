@@ -111,7 +111,7 @@ every_text : (text : List ℕ) → has_part text [] ≡ true
 every_text [] = refl
 every_text (byte ∷ rest) = refl
 
-all_true : (taken : Bool) → taken ≡ taken && true && true && true && true && true && true
+all_true : (taken : Bool) → taken ≡ taken && (true && true) && true && true && true && true && true
 all_true true = refl
 all_true false = refl
 

@@ -30,24 +30,21 @@ from_name (Some state) = state_name state
 
 -- ---- the page
 
--- the row of the change of this index: its moment, its object, the states before and after it, and its gateway
+-- the row of the change of this index: its moment, its object, with the link to its page for the gateway, the states
+-- before and after it, and the gateway
 unfoldable pub change_nodes : ℕ → ChangeShape → List NodeView
 change_nodes index row =
     (Markup (codes "<tr class=\"") ∷ Markup (choice_word (In row.to)) ∷ [])
     ++ (Markup (codes "\"><td class=\"num cell\">") ∷ [])
     ++ time_nodes row.moment
-    ++ (Markup (codes "</td><td class=\"name\"><a href=\"/?host=")
-    ∷ Text (slot.Change index text.HostInLink)
+    ++ (Markup (codes "</td><td class=\"name\"><a href=\"")
+    ∷ Text (slot.Change index text.Link)
     ∷ Markup (codes "\"><bdi>")
     ∷ Text (slot.Change index text.Host)
-    ∷ Markup (codes "</bdi></a>")
     ∷ [])
     ++ nodes_if (not row.is_host)
-    (Markup (codes " <span class=\"soft\">/</span> <bdi>")
-    ∷ Text (slot.Change index text.Service)
-    ∷ Markup (codes "</bdi>")
-    ∷ [])
-    ++ (Markup (codes "</td><td class=\"cell\" data-name=\"from\">")
+    (Markup (codes "</bdi> <span class=\"soft\">/</span> <bdi>") ∷ Text (slot.Change index text.Service) ∷ [])
+    ++ (Markup (codes "</bdi></a></td><td class=\"cell\" data-name=\"from\">")
     ∷ Markup (from_name row.from)
     ∷ Markup (codes "</td><td class=\"cell\"><span class=\"badge state\">")
     ∷ Markup (state_name row.to)
@@ -113,15 +110,15 @@ feed_title_nodes index row =
     ∷ Markup (codes "</title>")
     ∷ [])
 
--- the entry of the change of this index, with the link to the host's objects
+-- the entry of the change of this index, with the link to the object's page for the gateway
 unfoldable pub feed_entry_nodes : ℕ → ChangeShape → List NodeView
 feed_entry_nodes index row =
     feed_id_nodes index row
     ++ feed_title_nodes index row
     ++ (Markup (codes "<updated>") ∷ [])
     ++ instant_nodes (codes "T") row.moment
-    ++ (Markup (codes "</updated><link href=\"/?host=")
-    ∷ Text (slot.Change index text.HostInLink)
+    ++ (Markup (codes "</updated><link href=\"")
+    ∷ Text (slot.Change index text.Link)
     ∷ Markup (codes "\"/></entry>\n")
     ∷ [])
 

@@ -28,7 +28,7 @@ use Rattle.status_view.specs.declared.layout.AskedText.TheVariants as asked
 use Rattle.status_view.specs.declared.layout.Slot.{Slot}
 use Rattle.status_view.specs.declared.layout.Slot.TheVariants as slot
 use Rattle.status_view.specs.Layout.{Piece, Markup, Number, Text, NodeView}
-use Rattle.status_view.specs.Links.{object_link, page_query}
+use Rattle.status_view.specs.Links.{object_link, object_link_at, hosts_link, page_query}
 
 -- a text of the item of this index; nothing where there is none
 abbrev pub text_at : {X : Type 0} → (X → List ℕ) → List X → ℕ → List ℕ
@@ -53,9 +53,10 @@ performance_of output = after_first (λ byte. byte == 124) output
 -- a text of an object's row
 abbrev pub object_text : ObjectText → MergedObject → List ℕ
 object_text object.Host shown = plain_bytes shown.row.host.now
-object_text object.HostInLink shown = byte_serialize shown.row.host.now
 object_text object.Service shown = plain_bytes shown.row.service.now
 object_text object.Link shown = object_link shown.row.host.now shown.row.service.now
+object_text object.HostLink shown = object_link shown.row.host.now []
+object_text object.HostsLink shown = hosts_link shown.row.host.now
 object_text object.Output shown = plain_bytes (words_of shown.row.output.now)
 object_text object.Performance shown = plain_bytes (performance_of shown.row.output.now)
 object_text object.Gateway shown = shown.gateway.now
@@ -64,6 +65,7 @@ object_text object.Gateway shown = shown.gateway.now
 abbrev pub entry_text : EntryText → List ℕ → List ℕ → List ℕ → List ℕ → List Origin → List ℕ
 entry_text entry.Host host service author words origins = plain_bytes host
 entry_text entry.Service host service author words origins = plain_bytes service
+entry_text entry.Link host service author words origins = object_link host service
 entry_text entry.Author host service author words origins = plain_bytes author
 entry_text entry.Words host service author words origins = plain_bytes words
 entry_text (entry.Gateway index) host service author words origins = text_at (λ origin. origin.gateway.now) origins index
@@ -86,10 +88,13 @@ change_text change.Service shown = utf8_lossy (plain_bytes shown.change.now.serv
 change_text change.ServiceInLink shown = byte_serialize shown.change.now.service.items
 change_text change.Gateway shown = shown.gateway.now
 change_text change.GatewayInLink shown = byte_serialize shown.gateway.now
+change_text change.Link shown =
+    object_link_at shown.change.now.host.items shown.change.now.service.items shown.gateway.now
 
 -- a text that a query asks for
 abbrev pub asked_text : AskedText → Asked → List ℕ
 asked_text asked.Host query = query.host
+asked_text asked.Hostname query = query.hostname
 asked_text asked.Service query = query.service
 asked_text asked.Output query = query.output
 asked_text asked.Gateway query = query.gateway

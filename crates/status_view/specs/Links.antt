@@ -1,10 +1,9 @@
--- The link to the page of one object: `object_link`; and what its query names: `value_in`. The query that asks for a page of
--- the list in an order: `page_query`. Own rules, but for the form of the queries (URL Standard, section 5).
-use Rattle.std.specs.Prelude.{ℕ, List, [], ◌∷◌, ◌++◌, map, filter, None, unwrap_or, codes}
-use Rattle.std.specs.List.{last_or}
-use Rattle.std.specs.Str.{bytes_eq}
+-- The links to the page of one object (`object_link`), also for one gateway (`object_link_at`), and to the list of the
+-- objects of one host (`hosts_link`). The query that asks for a page of the list in an order: `page_query`. Own rules, but
+-- for the form of the queries (URL Standard, section 5).
+use Rattle.std.specs.Prelude.{ℕ, List, [], ◌∷◌, ◌++◌, codes}
 use Rattle.std.specs.Fmt.{decimal}
-use Rattle.form_urlencoded.specs.Form.{decode, byte_serialize, extend_pairs}
+use Rattle.form_urlencoded.specs.Form.{byte_serialize, extend_pairs}
 use Rattle.status_merge.specs.declared.query.Sort.{Sort}
 use Rattle.status_merge.specs.Asking.{Asked, choice_word, mark_word, sort_word}
 
@@ -17,17 +16,25 @@ object_query host service =
 unfoldable pub object_link : List ℕ → List ℕ → List ℕ
 object_link host service = codes "/object?" ++ object_query host service
 
--- the value of the last of these encoded pairs that has this name; nothing where none has it
-abbrev pub value_in : List ℕ → List (List ℕ × List ℕ) → List ℕ
-value_in name pairs =
-    unwrap_or
-    (last_or None
-    (map (λ (pair : List ℕ × List ℕ). decode pair.1) (filter (λ pair. bytes_eq (decode pair.0) name) pairs)))
-    []
+-- the query for the gateway of a name alone
+unfoldable pub object_query_at : List ℕ → List ℕ → List ℕ → List ℕ
+object_query_at host service gateway =
+    object_query host service ++ codes "&gateway=" ++ byte_serialize gateway
+
+unfoldable pub object_link_at : List ℕ → List ℕ → List ℕ → List ℕ
+object_link_at host service gateway = codes "/object?" ++ object_query_at host service gateway
+
+-- the query for the objects of the host of an exact name
+unfoldable pub hosts_query : List ℕ → List ℕ
+hosts_query host = codes "hostname=" ++ byte_serialize host
+
+unfoldable pub hosts_link : List ℕ → List ℕ
+hosts_link host = codes "/?" ++ hosts_query host
 
 -- what the query that asks for a page of these objects in this order, and again after these seconds, names and values
-abbrev pub page_pairs : Asked → ℕ → Sort → ℕ → List (List ℕ × List ℕ)
-page_pairs asked refresh sort page =
+-- beside the exact name of the host
+abbrev pub text_pairs : Asked → ℕ → Sort → ℕ → List (List ℕ × List ℕ)
+text_pairs asked refresh sort page =
     (codes "state", choice_word asked.choice)
     ∷ (codes "host", asked.host)
     ∷ (codes "service", asked.service)
@@ -39,6 +46,10 @@ page_pairs asked refresh sort page =
     ∷ (codes "refresh", decimal refresh)
     ∷ (codes "page", decimal page)
     ∷ []
+
+-- with that
+abbrev pub page_pairs : Asked → ℕ → Sort → ℕ → List (List ℕ × List ℕ)
+page_pairs asked refresh sort page = (codes "hostname", asked.hostname) ∷ text_pairs asked refresh sort page
 
 unfoldable pub page_query : Asked → ℕ → Sort → ℕ → List ℕ
 page_query asked refresh sort page = extend_pairs [] (page_pairs asked refresh sort page)

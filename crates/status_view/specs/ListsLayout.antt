@@ -60,13 +60,17 @@ unfoldable pub entry_marks_nodes : EntryMarks → List NodeView
 entry_marks_nodes (Comment row) = comment_nodes row
 entry_marks_nodes (Downtime row) = window_nodes row ++ began_nodes row.moment row.begin
 
--- the beginning of a row: the host, and the service where the entry is on one
+-- the beginning of a row: the host, and the service where the entry is on one, as the link to the object's page
 unfoldable pub entry_name_nodes : EntryList → ℕ → Bool → List NodeView
 entry_name_nodes list index is_host =
-    (Markup (codes "<tr><td class=\"name\"><bdi>") ∷ Text (Entry list index text.Host) ∷ [])
+    (Markup (codes "<tr><td class=\"name\"><a href=\"")
+    ∷ Text (Entry list index text.Link)
+    ∷ Markup (codes "\"><bdi>")
+    ∷ Text (Entry list index text.Host)
+    ∷ [])
     ++ nodes_if (not is_host)
     (Markup (codes "</bdi> <span class=\"soft\">/</span> <bdi>") ∷ Text (Entry list index text.Service) ∷ [])
-    ++ (Markup (codes "</bdi></td><td class=\"cell\">") ∷ [])
+    ++ (Markup (codes "</bdi></a></td><td class=\"cell\">") ∷ [])
 
 -- the author and the text
 unfoldable pub words_nodes : EntryList → ℕ → List NodeView

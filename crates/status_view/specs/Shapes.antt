@@ -168,10 +168,11 @@ downtime_shape line = record {
   ids = map (λ origin. origin.id) line.origins.items;
 }
 
--- whether more is asked for than a state and a host
+-- whether more is asked for than a state and a part of a host's name
 abbrev pub has_filters : Asked → Bool
 has_filters asked =
-    not (length asked.service == 0)
+    not (length asked.hostname == 0)
+    || not (length asked.service == 0)
     || not (length asked.output == 0)
     || not (length asked.gateway == 0)
     || is_some asked.acknowledged

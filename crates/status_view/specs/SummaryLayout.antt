@@ -154,7 +154,8 @@ filters_nodes shape =
     (Markup (codes " <details") ∷ [])
     ++ nodes_if shape.filters (Markup (codes " open") ∷ [])
     ++ (Markup (codes "><summary>Filters</summary>") ∷ [])
-    ++ text_nodes (codes "<label>Service <input name=\"service\" value=\"") asked.Service
+    ++ text_nodes (codes "<label>Host, exactly <input name=\"hostname\" value=\"") asked.Hostname
+    ++ text_nodes (codes " <label>Service <input name=\"service\" value=\"") asked.Service
     ++ text_nodes (codes " <label>Output <input name=\"output\" value=\"") asked.Output
     ++ text_nodes (codes " <label>Gateway <input name=\"gateway\" value=\"") asked.Gateway
     ++ mark_nodes (codes " <label>Acknowledged <select name=\"acknowledged\">") shape.acknowledged

@@ -75,22 +75,20 @@ fn lay_out_change(layout: &mut Layout, row: &ChangeShape, index: usize) -> Resul
     layout.put(&[Node::Markup("\"><td class=\"num cell\">")])?;
     lay_out_time(layout, row.moment)?;
     layout.put(&[
-        Node::Markup("</td><td class=\"name\"><a href=\"/?host="),
-        Node::Slot(Slot::Change(index, ChangeText::HostInLink)),
+        Node::Markup("</td><td class=\"name\"><a href=\""),
+        Node::Slot(Slot::Change(index, ChangeText::Link)),
         Node::Markup("\"><bdi>"),
         Node::Slot(Slot::Change(index, ChangeText::Host)),
-        Node::Markup("</bdi></a>"),
     ])?;
     layout.put_if(
         !row.is_host,
         &[
-            Node::Markup(" <span class=\"soft\">/</span> <bdi>"),
+            Node::Markup("</bdi> <span class=\"soft\">/</span> <bdi>"),
             Node::Slot(Slot::Change(index, ChangeText::Service)),
-            Node::Markup("</bdi>"),
         ],
     )?;
     layout.put(&[
-        Node::Markup("</td><td class=\"cell\" data-name=\"from\">"),
+        Node::Markup("</bdi></a></td><td class=\"cell\" data-name=\"from\">"),
         Node::Markup(from_name(row.from)),
         Node::Markup("</td><td class=\"cell\"><span class=\"badge state\">"),
         Node::Markup(state_name(row.to)),
@@ -228,8 +226,8 @@ fn lay_out_feed_entry(
     layout.put(&[Node::Markup("<updated>")])?;
     lay_out_instant(layout, "T", row.moment)?;
     layout.put(&[
-        Node::Markup("</updated><link href=\"/?host="),
-        Node::Slot(Slot::Change(index, ChangeText::HostInLink)),
+        Node::Markup("</updated><link href=\""),
+        Node::Slot(Slot::Change(index, ChangeText::Link)),
         Node::Markup("\"/></entry>\n"),
     ])
 }

@@ -7,11 +7,11 @@ ghost use Rattle.std.specs.Str.Lossy.{utf8_lossy};
 ghost use Rattle.status_reading.specs.Plain.{plain_bytes};
 ghost use Rattle.status_merge.specs.Asking.{asked_by};
 ghost use Rattle.status_view.specs.Layout.{node_view};
-ghost use Rattle.status_view.specs.Links.{object_link, page_query};
+ghost use Rattle.status_view.specs.Links.{object_link, object_link_at, hosts_link, page_query};
 ghost use Rattle.status_view.specs.Filling.{old_cause, cause_text, words_of, performance_of, object_text, entry_text, change_text, asked_text, slot_text, with_text, filled, piece_bytes, html_bytes};
 
 use crate::layout::{AskedText, ChangeText, EntryList, EntryText, Layout, Node, ObjectText, Slot};
-use crate::links::{object_link, page_query, push_value};
+use crate::links::{hosts_link, object_link, object_link_at, page_query, push_value};
 use crate::view::View;
 use html_text::Html;
 use status_memory::GatewayChange;
@@ -31,6 +31,31 @@ fn put_link(alloc: Global, html: &mut Html, host: &[u8], service: &[u8]) -> Resu
     ensures { OnOk result (html.new ≡ html.old ++ html_text (object_link host.now service.now)) }
 {
     html.text(object_link(alloc, host, service)?.as_str().as_bytes())
+}
+
+// The same for the gateway of a name alone.
+fn put_link_at(
+    alloc: Global,
+    html: &mut Html,
+    host: &[u8],
+    service: &[u8],
+    gateway: &str,
+) -> Result<(), AllocError>
+    ensures { OnOk result (html.new
+        ≡ html.old ++ html_text (object_link_at host.now service.now gateway.now)) }
+{
+    html.text(
+        object_link_at(alloc, host, service, gateway)?
+            .as_str()
+            .as_bytes(),
+    )
+}
+
+// The link to the list of the objects of a host.
+fn put_hosts_link(alloc: Global, html: &mut Html, host: &[u8]) -> Result<(), AllocError>
+    ensures { OnOk result (html.new ≡ html.old ++ html_text (hosts_link host.now)) }
+{
+    html.text(hosts_link(alloc, host)?.as_str().as_bytes())
 }
 
 // A text as a value in a URL's query.
@@ -97,9 +122,10 @@ fn put_object(
 {
     match text {
         ObjectText::Host => put_field(alloc, html, shown.row.host),
-        ObjectText::HostInLink => put_in_link(alloc, html, shown.row.host),
         ObjectText::Service => put_field(alloc, html, shown.row.service),
         ObjectText::Link => put_link(alloc, html, shown.row.host, shown.row.service),
+        ObjectText::HostLink => put_link(alloc, html, shown.row.host, b""),
+        ObjectText::HostsLink => put_hosts_link(alloc, html, shown.row.host),
         ObjectText::Output => put_field(alloc, html, words_of(shown.row.output)),
         ObjectText::Performance => put_field(alloc, html, performance_of(shown.row.output)),
         ObjectText::Gateway => html.text(shown.gateway.as_bytes()),
@@ -129,6 +155,7 @@ fn put_entry(
     match text {
         EntryText::Host => put_field(alloc, html, entry.host),
         EntryText::Service => put_field(alloc, html, entry.service),
+        EntryText::Link => put_link(alloc, html, entry.host, entry.service),
         EntryText::Author => put_field(alloc, html, entry.author),
         EntryText::Words => put_field(alloc, html, entry.words),
         EntryText::Gateway(index) => match entry.origins.get(index) {
@@ -206,6 +233,13 @@ fn put_change(
         ChangeText::ServiceInLink => put_in_link(alloc, html, shown.change.service.as_slice()),
         ChangeText::Gateway => html.text(shown.gateway.as_bytes()),
         ChangeText::GatewayInLink => put_in_link(alloc, html, shown.gateway.as_bytes()),
+        ChangeText::Link => put_link_at(
+            alloc,
+            html,
+            shown.change.host.as_slice(),
+            shown.change.service.as_slice(),
+            shown.gateway,
+        ),
     }
 }
 
@@ -214,13 +248,13 @@ fn put_asked(html: &mut Html, query: &Query, text: AskedText) -> Result<(), Allo
     ensures { OnOk result
         (html.new ≡ html.old ++ html_text (asked_text text (asked_by query.now))) }
 {
-    let asked = match text {
-        AskedText::Host => &query.host,
-        AskedText::Service => &query.service,
-        AskedText::Output => &query.output,
-        AskedText::Gateway => &query.gateway,
-    };
-    html.text(asked.as_str().as_bytes())
+    match text {
+        AskedText::Host => html.text(query.host.as_str().as_bytes()),
+        AskedText::Hostname => html.text(query.hostname.as_slice()),
+        AskedText::Service => html.text(query.service.as_str().as_bytes()),
+        AskedText::Output => html.text(query.output.as_str().as_bytes()),
+        AskedText::Gateway => html.text(query.gateway.as_str().as_bytes()),
+    }
 }
 
 // The query that asks for a page of the list in an order.

@@ -216,11 +216,12 @@ fn urgent_in(objects: &[MergedObject<'_>]) -> usize
     objects.iter().filter(|object| rank(object) < 5).count()
 }
 
-// Whether a query asks for more than a state and a host.
+// Whether a query asks for more than a state and a part of a host's name.
 fn has_filters(query: &Query) -> bool
     ensures { result ≡ has_filters (asked_by query.now) }
 {
-    !query.service.is_empty()
+    !query.hostname.is_empty()
+        || !query.service.is_empty()
         || !query.output.is_empty()
         || !query.gateway.is_empty()
         || query.acknowledged.is_some()

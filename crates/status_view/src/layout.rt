@@ -9,11 +9,11 @@ use std::marker::Model;
 #[derive(Clone, Copy)]
 pub enum ObjectText {
     Host,
-    /// The host's name as a value in a URL's query.
-    HostInLink,
     Service,
-    /// The link to the page of the object.
+    /// The link to the page of the object, to that of its host, and to the list of its host's objects.
     Link,
+    HostLink,
+    HostsLink,
     /// An output's words, and its performance data.
     Output,
     Performance,
@@ -33,13 +33,16 @@ pub enum EntryList {
 pub enum EntryText {
     Host,
     Service,
+    /// The link to the page of its object.
+    Link,
     Author,
     Words,
     /// The name of the gateway of this index among those that have the entry.
     Gateway(usize),
 }
 
-/// A text of a change; three as values in a URL's query.
+/// A text of a change; three as values in a URL's query, and the link to the page of its object for its
+/// gateway.
 #[derive(Clone, Copy)]
 pub enum ChangeText {
     Host,
@@ -49,12 +52,14 @@ pub enum ChangeText {
     /// The name of its gateway.
     Gateway,
     GatewayInLink,
+    Link,
 }
 
 /// A text that the query asks for.
 #[derive(Clone, Copy)]
 pub enum AskedText {
     Host,
+    Hostname,
     Service,
     Output,
     Gateway,

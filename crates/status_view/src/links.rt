@@ -1,23 +1,26 @@
-//! The link to the page of one object, and the query that asks for a page of the list.
+//! The links to the page of one object and to the objects of one host, and the query that asks for a page
+//! of the list.
 
-ghost use Rattle.std.specs.Prelude.{◌≡◌, ◌^◌, ◌<◌, ◌≤◌, ◌++◌, IfOk, OnOk, codes, string_bytes, if◌then◌else◌};
-ghost use Rattle.std.specs.Str.{bytes_eq};
-ghost use Rattle.form_urlencoded.specs.Form.{append_pair, byte_serialize, decode, raw_pairs};
-ghost use Rattle.status_merge.specs.Asking.{asked_by, asked_in, sort_asked, page_asked};
-ghost use Rattle.status_view.specs.Links.{object_query, object_link, value_in, page_query};
+ghost use Rattle.std.specs.Prelude.{◌≡◌, ◌^◌, ◌<◌, ◌≤◌, [], ◌++◌, All, IfOk, OnOk, codes, string_bytes};
+ghost use Rattle.form_urlencoded.specs.Form.{append_pair, byte_serialize, raw_pairs};
+ghost use Rattle.status_merge.specs.declared.query.Choice.TheVariants as choices;
+ghost use Rattle.status_merge.specs.Asking.{asked_by, asked_in, only, sort_asked, page_asked};
+ghost use Rattle.status_merge.specs.Values.{value_in};
+ghost use Rattle.status_view.specs.Links.{object_query, object_link, object_query_at, object_link_at, hosts_query, hosts_link, page_query};
 ghost use Rattle.status_view.specs.inner.Pairs.{IsTextPair};
 
-use form_urlencoded::{Serializer, byte_serialize, raw_pairs};
-use percent_encoding::percent_decode;
-use status_merge::{Query, Sort, choice_name, mark_name, sort_name};
+use form_urlencoded::{Serializer, byte_serialize};
+use status_merge::{Query, Sort, choice_name, mark_name, sort_name, value_in};
 use std::alloc::{AllocError, Global};
 
-/// The names of an object, as the pages of its gateways write them.
+/// The names of an object, as the pages of its gateways write them, and of the gateway that is asked for.
 #[derive(Drop)]
 pub struct ObjectName {
     pub host: Vec<u8>,
     /// Empty for a host.
     pub service: Vec<u8>,
+    /// Empty for every gateway.
+    pub gateway: Vec<u8>,
 }
 
 /// Appends a text as a value in a URL's query.
@@ -50,6 +53,40 @@ pub fn object_link(alloc: Global, host: &[u8], service: &[u8]) -> Result<String,
     Ok(link)
 }
 
+/// The same for the gateway of a name alone: `/object?host=..&service=..&gateway=..`.
+pub fn object_link_at(
+    alloc: Global,
+    host: &[u8],
+    service: &[u8],
+    gateway: &str,
+) -> Result<String, AllocError>
+    ensures link { IfOk result (λ link.
+        string_bytes link ≡ object_link_at host.now service.now gateway.now) }
+    ensures read { let pairs = raw_pairs (object_query_at host.now service.now gateway.now) in
+        IfOk result (λ _. (value_in (codes "host") pairs ≡ host.now)
+        × (value_in (codes "service") pairs ≡ service.now)
+        × (value_in (codes "gateway") pairs ≡ gateway.now)) }
+{
+    let mut link = object_link(alloc, host, service)?;
+    link.push_str("&gateway=")?;
+    push_value(&mut link, gateway.as_bytes())?;
+    Ok(link)
+}
+
+/// The link to the list of the objects of a host, by its name as pages write it: `/?hostname=..`. The
+/// only error is out of memory. Own rule.
+pub fn hosts_link(alloc: Global, host: &[u8]) -> Result<String, AllocError>
+    ensures link { IfOk result (λ link. string_bytes link ≡ hosts_link host.now) }
+
+    // Its query asks for the objects of this host, whatever bytes its name has, and of no other.
+    ensures read { IfOk result (λ _. asked_in (raw_pairs (hosts_query host.now))
+        ≡ record (only choices.All) { hostname = host.now }) }
+{
+    let mut link = String::from_str(alloc, "/?hostname=")?;
+    push_value(&mut link, host)?;
+    Ok(link)
+}
+
 // Appends a name and a value to a query.
 fn push_pair(form: &mut Serializer, name: &str, value: &str) -> Result<(), AllocError>
     ensures pair { OnOk result (form.new
@@ -57,6 +94,17 @@ fn push_pair(form: &mut Serializer, name: &str, value: &str) -> Result<(), Alloc
     ensures texts { IsTextPair (name.now, value.now) }
 {
     form.append_pair(name, value)
+}
+
+// The form whose first pair is the exact name of a host.
+fn begin_form(alloc: Global, host: &[u8]) -> Result<Serializer, AllocError>
+    ensures form { IfOk result (λ form.
+        form ≡ record { prefix = []; form = append_pair [] (codes "hostname") host.now }) }
+    ensures bytes { IfOk result (λ _. All (λ byte. byte < 256) host.now) }
+{
+    let mut text = String::from_str(alloc, "hostname=")?;
+    push_value(&mut text, host)?;
+    Ok(Serializer::new(text))
 }
 
 /// The query of a URL that asks for a page, from 1, of the objects that a query asks for, in an order.
@@ -76,7 +124,7 @@ pub fn page_query(
         1 ≤ page → page < 2 ^ 32 → IfOk result (λ _. (asked_in pairs ≡ asked_by query.now)
         × (sort_asked pairs ≡ sort) × (page_asked pairs ≡ page)) }
 {
-    let mut form = Serializer::new(String::new(alloc));
+    let mut form = begin_form(alloc, query.hostname.as_slice())?;
     push_pair(&mut form, "state", choice_name(query.choice))?;
     push_pair(&mut form, "host", query.host.as_str())?;
     push_pair(&mut form, "service", query.service.as_str())?;
@@ -94,43 +142,7 @@ pub fn page_query(
     Ok(form.finish())
 }
 
-// The bytes that an encoded name or value stands for.
-fn decoded(alloc: Global, text: &[u8]) -> Result<Vec<u8>, AllocError>
-    ensures { IfOk result (λ bytes. bytes.items ≡ decode text.now) }
-{
-    let mut spaced = Vec::with_capacity(alloc, text.len())?;
-    for byte in text {
-        spaced.push(if *byte == b'+' { b' ' } else { *byte })?;
-    }
-    let mut bytes = Vec::new(alloc);
-    percent_decode(spaced.as_slice()).append_to(&mut bytes)?;
-    Ok(bytes)
-}
-
-// Takes one pair of a query into account.
-fn add_pair(
-    alloc: Global,
-    names: &mut ObjectName,
-    name: &[u8],
-    value: &[u8],
-) -> Result<(), AllocError>
-    ensures host { OnOk result (names.new.host.items
-        ≡ (if bytes_eq (decode name.now) (codes "host") then decode value.now
-        else names.old.host.items)) }
-    ensures service { OnOk result (names.new.service.items
-        ≡ (if bytes_eq (decode name.now) (codes "service") then decode value.now
-        else names.old.service.items)) }
-{
-    let name = decoded(alloc, name)?;
-    if name.as_slice() == b"host".as_slice() {
-        names.host = decoded(alloc, value)?;
-    } else if name.as_slice() == b"service".as_slice() {
-        names.service = decoded(alloc, value)?;
-    }
-    Ok(())
-}
-
-/// Reads the query of an object's page: `host` and `service`, each empty where it is missing.
+/// Reads the query of an object's page: `host`, `service` and `gateway`, each empty where it is missing.
 ///
 /// Other names are skipped. Of a name that comes twice the last counts. The only error is out of
 /// memory.
@@ -139,13 +151,12 @@ pub fn read_object_name(alloc: Global, query: &str) -> Result<ObjectName, AllocE
         names.host.items ≡ value_in (codes "host") (raw_pairs query.now)) }
     ensures service { IfOk result (λ names.
         names.service.items ≡ value_in (codes "service") (raw_pairs query.now)) }
+    ensures gateway { IfOk result (λ names.
+        names.gateway.items ≡ value_in (codes "gateway") (raw_pairs query.now)) }
 {
-    let mut names = ObjectName {
-        host: Vec::new(alloc),
-        service: Vec::new(alloc),
-    };
-    for (name, value) in raw_pairs(query.as_bytes()) {
-        add_pair(alloc, &mut names, name, value)?;
-    }
-    Ok(names)
+    Ok(ObjectName {
+        host: value_in(alloc, "host", query)?,
+        service: value_in(alloc, "service", query)?,
+        gateway: value_in(alloc, "gateway", query)?,
+    })
 }

@@ -105,7 +105,9 @@ fn lay_out_name(
     ensures { OnOk result (layout.new ≡ layout.old ++ entry_name_nodes list index is_host) }
 {
     layout.put(&[
-        Node::Markup("<tr><td class=\"name\"><bdi>"),
+        Node::Markup("<tr><td class=\"name\"><a href=\""),
+        Node::Slot(Slot::Entry(list, index, EntryText::Link)),
+        Node::Markup("\"><bdi>"),
         Node::Slot(Slot::Entry(list, index, EntryText::Host)),
     ])?;
     layout.put_if(
@@ -115,7 +117,7 @@ fn lay_out_name(
             Node::Slot(Slot::Entry(list, index, EntryText::Service)),
         ],
     )?;
-    layout.put(&[Node::Markup("</bdi></td><td class=\"cell\">")])
+    layout.put(&[Node::Markup("</bdi></a></td><td class=\"cell\">")])
 }
 
 #[tactic(auto, unfolding(crate::specs::ListsLayout::words_nodes))]

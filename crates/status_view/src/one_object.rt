@@ -6,7 +6,7 @@ ghost use Rattle.status_merge.specs.Entries.{comment_view, downtime_view};
 ghost use Rattle.status_view.specs.Shapes.{shape_view, page_shape};
 ghost use Rattle.status_view.specs.ChangesLayout.{change_shape};
 ghost use Rattle.status_view.specs.Filling.{filled, html_bytes};
-ghost use Rattle.status_view.specs.OneObject.{is_asked, rows_on, is_comment_on, is_downtime_of, changes_asked, IsObjectPage, name_nodes, rows_nodes, object_head_nodes, object_page_nodes};
+ghost use Rattle.status_view.specs.OneObject.{is_asked, is_from, rows_on, are_from, is_comment_on, is_downtime_of, is_change_of, changes_asked, IsObjectPage, name_nodes, rows_nodes, object_head_nodes, object_page_nodes};
 
 use crate::changes::{ChangeShape, change_shapes, lay_out_changes_table};
 use crate::filling::fill;
@@ -20,7 +20,8 @@ use crate::view::View;
 use html_text::Html;
 use status_memory::GatewayChange;
 use status_merge::{
-    CommentLine, DowntimeLine, Gateway, MergedObject, Query, merge, merge_comments, merge_downtimes,
+    CommentLine, DowntimeLine, Gateway, MergedObject, Origin, Query, is_at, merge, merge_comments,
+    merge_downtimes,
 };
 use std::alloc::{AllocError, Global};
 use std::slice::from_ref;
@@ -37,6 +38,8 @@ pub struct ObjectAsked<'a> {
     pub host: &'a [u8],
     /// That of the service, which a host has empty.
     pub service: &'a [u8],
+    /// That of the gateway whose row and entries are shown; empty: every gateway.
+    pub gateway: &'a [u8],
     pub gateways: &'a [Gateway<'a>],
     /// The changes of states of all objects, the newest first.
     pub changes: &'a [GatewayChange<'a>],
@@ -48,7 +51,13 @@ fn is_asked(asked: &ObjectAsked<'_>, host: &[u8], service: &[u8]) -> bool
     host == asked.host && service == asked.service
 }
 
-// Appends the object's row on the page of a gateway, where that shows it.
+fn is_from(asked: &ObjectAsked<'_>, gateway: &str) -> bool
+    ensures { result ≡ is_from asked.now gateway.now }
+{
+    is_at(asked.gateway, gateway.as_bytes())
+}
+
+// Appends the object's row on the page of a gateway, where that is asked for and shows it.
 fn add_rows<'a>(
     alloc: Global,
     rows: &mut Vec<MergedObject<'a>>,
@@ -58,6 +67,9 @@ fn add_rows<'a>(
     ensures { OnOk result
         (rows.new.items ≡ rows.old.items ++ rows_on asked.now gateway.now) }
 {
+    if !is_from(asked, gateway.name) {
+        return Ok(());
+    }
     let objects = merge(alloc, from_ref(gateway))?;
     for object in objects.as_slice() {
         if is_asked(asked, object.row.host, object.row.service) {
@@ -79,12 +91,30 @@ fn rows_of<'a>(alloc: Global, asked: &ObjectAsked<'a>) -> Result<Vec<MergedObjec
     Ok(rows)
 }
 
+fn are_from(asked: &ObjectAsked<'_>, origins: &[Origin<'_>]) -> bool
+    ensures { result ≡ are_from asked.now origins.now }
+{
+    origins.iter().any(|origin| is_from(asked, origin.gateway))
+}
+
+fn is_comment_on(asked: &ObjectAsked<'_>, line: &CommentLine<'_>) -> bool
+    ensures { result ≡ is_comment_on asked.now (comment_view line.now) }
+{
+    is_asked(asked, line.row.host, line.row.service) && are_from(asked, line.origins.as_slice())
+}
+
+fn is_downtime_of(asked: &ObjectAsked<'_>, line: &DowntimeLine<'_>) -> bool
+    ensures { result ≡ is_downtime_of asked.now (downtime_view line.now) }
+{
+    is_asked(asked, line.row.host, line.row.service) && are_from(asked, line.origins.as_slice())
+}
+
 // Leaves the comments on the object.
 fn retain_comments(lines: &mut Vec<CommentLine<'_>>, asked: &ObjectAsked<'_>)
     ensures { map comment_view lines.new.items
         ≡ filter (is_comment_on asked.now) (map comment_view lines.old.items) }
 {
-    lines.retain(|comment| is_asked(asked, comment.row.host, comment.row.service));
+    lines.retain(|line| is_comment_on(asked, line));
 }
 
 // Leaves the downtime entries of the object.
@@ -92,7 +122,15 @@ fn retain_downtimes(lines: &mut Vec<DowntimeLine<'_>>, asked: &ObjectAsked<'_>)
     ensures { map downtime_view lines.new.items
         ≡ filter (is_downtime_of asked.now) (map downtime_view lines.old.items) }
 {
-    lines.retain(|entry| is_asked(asked, entry.row.host, entry.row.service));
+    lines.retain(|line| is_downtime_of(asked, line));
+}
+
+fn is_change_of(asked: &ObjectAsked<'_>, shown: &GatewayChange<'_>) -> bool
+    ensures { result ≡ is_change_of asked.now shown.now }
+{
+    let change = shown.change;
+    is_asked(asked, change.host.as_slice(), change.service.as_slice())
+        && is_from(asked, shown.gateway)
 }
 
 // The changes of the object's state.
@@ -104,8 +142,7 @@ fn changes_of<'a>(
 {
     let mut changes = Vec::new(alloc);
     for shown in asked.changes {
-        let change = shown.change;
-        if is_asked(asked, change.host.as_slice(), change.service.as_slice()) {
+        if is_change_of(asked, shown) {
             changes.push(*shown)?;
         }
     }
@@ -126,9 +163,18 @@ fn lay_out_name(layout: &mut Layout, is_host: bool) -> Result<(), AllocError>
             Node::Slot(Slot::Object(0, ObjectText::Service)),
         ],
     )?;
+    layout.put(&[Node::Markup("</bdi></h2>")])?;
+    layout.put_if(
+        !is_host,
+        &[
+            Node::Markup("<a href=\""),
+            Node::Slot(Slot::Object(0, ObjectText::HostLink)),
+            Node::Markup("\">its host</a> &middot; "),
+        ],
+    )?;
     layout.put(&[
-        Node::Markup("</bdi></h2><a href=\"/?host="),
-        Node::Slot(Slot::Object(0, ObjectText::HostInLink)),
+        Node::Markup("<a href=\""),
+        Node::Slot(Slot::Object(0, ObjectText::HostsLink)),
         Node::Markup("\">objects of the host</a></caption>\n"),
     ])
 }
@@ -185,7 +231,8 @@ fn view_page(alloc: Global, view: &View<'_>) -> Result<Html, AllocError>
 }
 
 /// The page of one object, by its exact names: its row on the page of each gateway that shows it,
-/// who acknowledged it and why, its comments, its downtime entries and its changes.
+/// who acknowledged it and why, its comments, its downtime entries and its changes; for a gateway's
+/// name those of that gateway alone.
 ///
 /// Where no page shows it, it says so. The only error is out of memory.
 pub fn object_page(alloc: Global, asked: &ObjectAsked<'_>) -> Result<Html, AllocError>

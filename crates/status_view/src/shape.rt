@@ -83,7 +83,7 @@ pub struct EntryShape {
 #[derive(Drop)]
 pub struct PageShape {
     pub choice: Choice,
-    /// Whether the query asks for more than a state and a host, and what it asks of the marks.
+    /// Whether the query asks for more than a state and a part of a host's name, and what it asks of the marks.
     pub filters: bool,
     pub acknowledged: Option<bool>,
     pub downtime: Option<bool>,

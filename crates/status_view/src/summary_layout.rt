@@ -284,7 +284,9 @@ fn lay_out_filters(layout: &mut Layout, shape: &PageShape) -> Result<(), AllocEr
     layout.put(&[Node::Markup(" <details")])?;
     layout.put_if(shape.filters, &[Node::Markup(" open")])?;
     layout.put(&[Node::Markup("><summary>Filters</summary>")])?;
-    let service = "<label>Service <input name=\"service\" value=\"";
+    let hostname = "<label>Host, exactly <input name=\"hostname\" value=\"";
+    lay_out_text(layout, hostname, AskedText::Hostname)?;
+    let service = " <label>Service <input name=\"service\" value=\"";
     lay_out_text(layout, service, AskedText::Service)?;
     let output = " <label>Output <input name=\"output\" value=\"";
     lay_out_text(layout, output, AskedText::Output)?;

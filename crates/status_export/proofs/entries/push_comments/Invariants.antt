@@ -1,7 +1,8 @@
-use Rattle.std.proofs.Common.{◌≡◌, ◌++◌, drop, map, codes, string_bytes}
+use Rattle.std.proofs.Common.{◌≡◌, ◌++◌, drop, map, codes}
 use Rattle.std.specs.List.{flat_map}
 use Rattle.json.specs.Json.{array}
 use Rattle.json.specs.Tree.{items_tokens}
+use Rattle.status_merge.specs.Asking.{asked_by}
 use Rattle.status_merge.specs.Entries.{comments_on}
 use Rattle.status_export.specs.Document.{comment_json, items_of}
 use Rattle.status_export.specs.inner.Writing.{member_tokens}
@@ -12,5 +13,5 @@ invariant-loop-entry l = record {
   before : l.writer.before ≡ l.fn.writer.before;
   added : l.writer.tokens ++ items_tokens (items_of (map comment_json (drop l.entry-index l.entry-items)))
       ≡ l.fn.writer.tokens
-      ++ member_tokens (codes "comments") (array (items_of (map comment_json (flat_map (comments_on (string_bytes l.query.host)) l.gateways))));
+      ++ member_tokens (codes "comments") (array (items_of (map comment_json (flat_map (comments_on (asked_by l.query)) l.gateways))));
 }

@@ -1,11 +1,12 @@
-use Rattle.std.proofs.Common.{◌≡◌, ◌++◌, drop, filter, map, string_bytes}
+use Rattle.std.proofs.Common.{◌≡◌, ◌++◌, drop, filter, map}
+use Rattle.status_merge.specs.Asking.{asked_by}
 use Rattle.status_merge.specs.Entries.{comment_by}
-use Rattle.status_merge.specs.Selecting.{has_part}
+use Rattle.status_merge.specs.Selecting.{has_host}
 use Rattle.status_merge.proofs.entries.add_comments.Given as goal
 
 abbrev pub invariant-loop-row : goal.invariant-loop-row
 invariant-loop-row l =
     l.entries.items
-    ++ map (comment_by l.gateway.name l.page.moment) (filter (λ row. has_part row.host.now (string_bytes l.query.host)) (drop l.row-index l.row-items))
+    ++ map (comment_by l.gateway.name l.page.moment) (filter (λ row. has_host (asked_by l.query) row.host.now) (drop l.row-index l.row-items))
     ≡ l.fn.entries.items
-    ++ map (comment_by l.gateway.name l.page.moment) (filter (λ row. has_part row.host.now (string_bytes l.query.host)) l.row-items)
+    ++ map (comment_by l.gateway.name l.page.moment) (filter (λ row. has_host (asked_by l.query) row.host.now) l.row-items)

@@ -9,7 +9,6 @@ use Rattle.status_serving.proofs.bodies.html_body.Goals as goal
 pub returns : goal.returns
 returns c =
     let asked = c.in_ok-query.ensures in
-    let host = ap (λ (asked : Asked). asked.host) asked.asked in
     let gateways = c.args.gateways.now in
     let chosen = c.in_ok-rows.ensures
     ∙ selected_as _ _ _ _ asked.asked (c.as_slice.ensures.value ∙ c.in_ok-all.ensures.merged) in
@@ -45,7 +44,7 @@ returns c =
           ∙ ap (λ (page : ℕ). page_rows page c.as_slice-3.result.now) asked.page
           ∙ ap (page_rows _) c.as_slice-3.ensures.value;
       comments = ap (map comment_view) c.as_slice-4.ensures.value ∙ c.in_ok-comments.ensures
-          ∙ ap (λ host. comment_lines host gateways) host;
+          ∙ ap (λ (wanted : Asked). comment_lines wanted gateways) asked.asked;
       downtimes = ap (map downtime_view) c.as_slice-5.ensures.value ∙ c.in_ok-downtimes.ensures
-          ∙ ap (λ host. downtime_lines host gateways) host;
+          ∙ ap (λ (wanted : Asked). downtime_lines wanted gateways) asked.asked;
     }) (c.into_bytes.ensures ∙ c.in_ok-html_page.ensures.page)

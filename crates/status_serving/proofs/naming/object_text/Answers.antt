@@ -11,6 +11,7 @@ returns c =
       refresh = c.args.heading.now.refresh;
       host = c.as_slice.result;
       service = c.as_slice-2.result;
+      gateway = c.as_slice-3.result;
       gateways = c.args.gateways;
       changes = c.args.changes;
     } in (
@@ -21,6 +22,7 @@ returns c =
         refresh = refl;
         host = c.as_slice.ensures.value ∙ c.in_ok-name.ensures.host;
         service = c.as_slice-2.ensures.value ∙ c.in_ok-name.ensures.service;
+        gateway = c.as_slice-3.ensures.value ∙ c.in_ok-name.ensures.gateway;
         pages = refl;
         kept = refl;
       },

@@ -1,7 +1,7 @@
-use Rattle.std.proofs.Common.{ap, refl, sym, ◌∙◌}
+use Rattle.std.proofs.Common.{◌<◌, ap, refl, sym, ◌∙◌, All}
 use Rattle.std.proofs.lemmas.List.Elements.{All-from_recursion}
 use Rattle.status_merge.specs.Asking.{asked_by, choice_of, mark_of, sort_of}
-use Rattle.status_view.specs.Links.{page_pairs, page_query}
+use Rattle.status_view.specs.Links.{text_pairs, page_query}
 use Rattle.status_view.specs.inner.Pairs.{IsTextPair}
 use Rattle.status_view.proofs.QueryLaws.{query_read, valued}
 use Rattle.status_view.proofs.links.page_query.Goals as goal
@@ -21,7 +21,8 @@ returns-clause-query c =
       c.in_ok-push_pair-3.ensures.pair,
       c.in_ok-push_pair-2.ensures.pair,
       c.in_ok-push_pair.ensures.pair,
-      c.new-form.ensures,
+      c.in_ok-form.ensures.form,
+      c.as_slice.ensures.value,
       c.as_str-6.ensures.value,
       c.in_ok-to_string-2.ensures.ok,
       c.as_str-5.ensures.value,
@@ -34,14 +35,13 @@ returns-clause-query c =
       c.as_str-2.ensures.value,
       c.as_str.ensures.value,
       c.choice_name.ensures.word,
-      c.new.ensures.bytes,
     ) refl
 
 pub returns-clause-read : goal.returns-clause-read
 returns-clause-read c =
     let query = c.args.query.now in
     let asked = asked_by query in
-    let texts = All-from_recursion IsTextPair (page_pairs asked query.refresh c.args.sort c.args.page) (
+    let texts = All-from_recursion IsTextPair (text_pairs asked query.refresh c.args.sort c.args.page) (
       valued _ _ _ c.choice_name.ensures.word c.push_pair.ensures.texts,
       (
         valued _ _ _ c.as_str.ensures.value c.push_pair-2.ensures.texts,
@@ -69,7 +69,8 @@ returns-clause-read c =
         ),
       ),
     ) in
-    λ least small. query_read asked query.refresh c.args.sort c.args.page texts
+    let bytes : All (λ byte. byte < 256) asked.hostname = rw c.as_slice.ensures.value at c.in_ok-form.ensures.bytes in
+    λ least small. query_read asked query.refresh c.args.sort c.args.page texts bytes
     (ap choice_of (sym c.choice_name.ensures.word) ∙ c.choice_name.ensures.read)
     (ap mark_of (sym c.mark_name.ensures.word) ∙ c.mark_name.ensures.read)
     (ap mark_of (sym c.mark_name-2.ensures.word) ∙ c.mark_name-2.ensures.read)

@@ -21,7 +21,7 @@ page_of asked html view shows page = (view, shows, page)
 pub returns : goal.returns
 returns c =
     let asked = c.args.asked.now in
-    let host = ap (λ (query : Asked). query.host) c.new-query.ensures.asked in
+    let every = c.new-query.ensures.asked in
     let view : View = record {
       title = asked.title;
       clock = asked.clock;
@@ -44,9 +44,9 @@ returns c =
       pages = refl;
       objects = c.as_slice-2.ensures.value ∙ c.in_ok-rows.ensures;
       comments = ap (map comment_view) c.as_slice-3.ensures.value ∙ c.retain_comments.ensures
-          ∙ ap (filter (is_comment_on asked)) (c.in_ok-comments.ensures ∙ ap (λ host. comment_lines host asked.gateways.now) host);
+          ∙ ap (filter (is_comment_on asked)) (c.in_ok-comments.ensures ∙ ap (λ (wanted : Asked). comment_lines wanted asked.gateways.now) every);
       downtimes = ap (map downtime_view) c.as_slice-4.ensures.value ∙ c.retain_downtimes.ensures
-          ∙ ap (filter (is_downtime_of asked)) (c.in_ok-downtimes.ensures ∙ ap (λ host. downtime_lines host asked.gateways.now) host);
+          ∙ ap (filter (is_downtime_of asked)) (c.in_ok-downtimes.ensures ∙ ap (λ (wanted : Asked). downtime_lines wanted asked.gateways.now) every);
       changes = c.as_slice-5.ensures.value ∙ c.in_ok-changes.ensures;
     }) page)
     c.view_page.ensures

@@ -11,6 +11,7 @@ returns c =
     (rw (
       c.in_ok-lay_out_mark-2.ensures,
       c.in_ok-lay_out_mark.ensures,
+      c.in_ok-lay_out_text-4.ensures,
       c.in_ok-lay_out_text-3.ensures,
       c.in_ok-lay_out_text-2.ensures,
       c.in_ok-lay_out_text.ensures,

@@ -1,6 +1,6 @@
 use Rattle.std.proofs.Common.{◌≡◌, ◌++◌, drop, map}
 use Rattle.form_urlencoded.specs.Form.{plus_to_space}
-use Rattle.status_view.proofs.links.decoded.Given as goal
+use Rattle.status_merge.proofs.values.decoded.Given as goal
 
 abbrev pub invariant-loop-byte : goal.invariant-loop-byte
 invariant-loop-byte l =
