@@ -664,16 +664,20 @@ def test_tiles(now):
             (b'a', b'3', b'PENDING', b'fresh'), (b'a', b'4', b'UNKNOWN', b'fresh'), (b'b', b'', b'PENDING', b'fresh'),
             (b'b', b'1', b'OK', b'stale'), (b'c', b'', b'UNREACHABLE', b'fresh'), (b'd', b'', b'UP', b'fresh')])
     with Web(('east', shows(page).port)) as web:
-        text = web.text('/?host=a&refresh=0').decode()
-        tiles = re.findall('<a class="tile [^>]* href="([^"]*)"><b>([0-9]+)</b> ([a-z]+)', text)
-        wanted = dict(unhandled=2, stale=2, pending=2, objects=9, down=1, unreachable=1, up=1, critical=1, warning=1,
-                      unknown=1, ok=1)
-        test('the tiles', {name: int(number) for _, number, name in tiles} == wanted, tiles)
-        for link, number, name in tiles:
-            shown = web.text(html.unescape(link))
-            test(f'the tile {name}', f'</h2>{number} of 9 shown' in shown.decode() and b'http-equiv' not in shown, shown[:2000])
-        test('the title counts what needs attention', '<title>(3) nscagate' in text, text[:400])
-        test('the rows that do not are dimmed', text.count('<tr class="') == 5 and text.count(' handled"') == 4, text)
+        for query, numbers, head in [('?refresh=0', [2, 2, 2, 9, 1, 1, 1, 1, 1, 1, 1], 'State'),
+                                     ('?host=A&state=up&sort=since&refresh=0', [1, 1, 1, 5, 1, 0, 0, 1, 1, 1, 0], 'Since'),
+                                     ('?hostname=b&service=1&gateway=east&refresh=0', [0, 1, 0, 1, 0, 0, 0, 0, 0, 0, 1], 'State')]:
+            text = web.text('/' + query).decode()
+            tiles = re.findall('<a class="tile [^>]* href="([^"]*)"><b>([0-9]+)</b> ([a-z]+)', text)
+            test(f'the tiles of {query}', [int(number) for _, number, _ in tiles] == numbers and [name for _, _, name in tiles] == [
+                'unhandled', 'stale', 'pending', 'objects', 'down', 'unreachable', 'up', 'critical', 'warning', 'unknown', 'ok'], tiles)
+            for link, number, name in tiles:
+                shown = web.text(html.unescape(link)).decode()
+                test(f'the tile {name} of {query}', f'</h2>{number} of 9 shown' in shown and 'http-equiv' not in shown
+                     and f'ending">{head}</th>' in shown, shown[:2000])
+            test(f'the title counts what needs attention: {query}', '<title>(3) nscagate' in text, text[:400])
+        text = web.text('/?hostname=a&refresh=0').decode()
+        test('the rows that need none are dimmed', text.count('<tr class="') == 5 and text.count(' handled"') == 4, text)
 
 
 # What a query selects of the two gateways below, in the order of the list.
@@ -741,13 +745,61 @@ def test_filters(now):
              and {name: order['sort'] + order['gateway'] + order['page'] for name, order in orders.items()} == {
                  'State': ['worst', 'west', '1'], 'Since': ['since', 'west', '1'], 'Last result': ['last', 'west', '1']}, heads)
         test('scripts have one order', web.json('/status.json?sort=host') == web.json())
-        folded = [b'<details open>' in web.text('/?' + query)
-                  for query in ['', 'host=a&state=up', 'hostname=a', 'service=a', 'output=a', 'gateway=a', 'acknowledged=no',
-                                'downtime=yes']]
-        test('filters that select are not folded', folded == [False] * 2 + [True] * 6, folded)
-        text = web.text('/?service=%22%3E%3Cb%3E&acknowledged=no').decode()
+        for query, wanted in [
+                ('', ''), ('state=PROBLEMS&sort=host&page=2', 'state problems'), ('host=a+%3C', 'host has a <'),
+                ('hostname=a&service=b', 'host is a service has b'), ('output=a&gateway=east', 'output has a gateway is east'),
+                ('acknowledged=no&downtime=yes&host=', 'acknowledged no in downtime yes')]:
+            lines = [line for line in Tags(web.text('/?' + query)).text.split('\n') if line.startswith('Filter')]
+            test(f'what is asked for is named: {query}', lines == [('Filter ' + wanted).strip()], lines)
+        text = web.text('/?service=%22%3E%3Cb%3E&acknowledged=no&filters=OPEN').decode()
         test('the form keeps what is asked', ' name="service" value="&quot;&gt;&lt;b&gt;"' in text
              and '<select name="acknowledged"><option>any</option><option>yes</option><option selected>no</option>' in text, text)
+
+
+def test_form(now):
+    """What is typed into the form is never lost: it stands on a page that isn't loaded again alone."""
+    class Fields(html.parser.HTMLParser):
+        """The fields of a page's form, as a browser sends them."""
+        def __init__(self, page):
+            super().__init__(convert_charrefs=True)
+            self.fields, self.select, self.selected = {}, None, False
+            self.feed(page.decode())
+
+        def handle_starttag(self, tag, attributes):
+            attributes = dict(attributes)
+            if tag == 'input':
+                self.fields[attributes['name']] = attributes['value']
+            if tag == 'select':
+                self.select = attributes['name']
+            self.selected = tag == 'option' and 'selected' in attributes
+
+        def handle_data(self, data):
+            if self.selected:
+                self.fields[self.select] = data
+            self.selected = False
+    with Web(('east', shows(east(now)).port), words=['--refresh', '40']) as web:
+        for query, fields in [
+                ('', {}), ('refresh=7', {'refresh': '7'}), ('state=down&host=%3Ca&sort=last&page=2', {'state': 'down', 'host': '<a', 'sort': 'last'}),
+                ('hostname=w&service=s&output=o&gateway=east&acknowledged=no&downtime=yes', {
+                    'hostname': 'w', 'service': 's', 'output': 'o', 'gateway': 'east', 'acknowledged': 'no', 'downtime': 'yes'})]:
+            page = web.text('/?' + query)
+            test(f'a page that is loaded again has no form: {query}', b'http-equiv="refresh"' in page and b'<form' not in page, page)
+            link = html.unescape(re.search('<a href="([^"]*)">Filter</a>', page.decode())[1])
+            form = web.text(link)
+            test(f'a page with the form is not: {query}', b'http-equiv' not in form and b'>Filter</a>' not in form, form)
+            found = Fields(form).fields
+            test(f'the form has what was asked: {query}', found == {
+                'sort': 'worst', 'state': 'all', 'host': '', 'hostname': '', 'service': '', 'output': '', 'gateway': '',
+                'acknowledged': 'any', 'downtime': 'any', 'refresh': '40', **fields}, found)
+            again = web.text('/?' + urllib.parse.urlencode(found))
+            seconds = fields.get('refresh', '40')
+            test(f'what it asks is loaded again: {query}', f'content="{seconds}"'.encode() in again and b'<form' not in again
+                 and shown_in(again) == shown_in(web.text('/?' + query + '&page=1')), again)
+        page = web.text('/?refresh=0')
+        test('a page that is never loaded again has the form', b'http-equiv' not in page and b'<form' in page
+             and Fields(page).fields['refresh'] == '0', page)
+    with Web(('east', shows(east(now)).port), words=['--refresh', '0']) as web:
+        test('so has each, where none is loaded again', b'<form' in web.text('/') and b'http-equiv' not in web.text('/'))
 
 
 def test_rows(now):
@@ -765,8 +817,8 @@ def test_rows(now):
              == '<b aria-current="page">1</b> <a>2</a> <a>3</a>', links)
         pages = [web.text(link) for link in others]
         test('they show the rest', [name for other in pages for name in shown_in(other)] == names[500:], others)
-        test('they keep the query', all(b'content="7"' in other and b'value="HOST"' in other
-                                        and b'name="sort" value="host"' in other
+        test('they keep the query', all(b'content="7"' in other and b'host has <bdi>HOST</bdi>' in other
+                                        and b'aria-sort="ascending">Object' in other
                                         and b'<b aria-current="page">%d</b>' % number in other
                                         for number, other in enumerate(pages, 2)), others)
         test('500 rows are one page', b'class="pages"' not in web.text('/?host=host00')
@@ -1187,7 +1239,7 @@ def main():
             test(check.__name__, False, repr(error))
     at_once(*[lambda check=check: run(check) for check in [test_words, test_pages, test_names]], *[
         lambda check=check: run(check, int(time.time())) for check in [
-            test_texts, test_faults, test_places, test_old, test_clocks, test_since, test_changes, test_links, test_other_objects, test_tiles, test_filters, test_rows, test_sharing,
+            test_texts, test_faults, test_places, test_old, test_clocks, test_since, test_changes, test_links, test_other_objects, test_tiles, test_filters, test_form, test_rows, test_sharing,
             test_descriptors, test_ends, test_requests, test_style, test_missing_objects, test_browser]])
     # What takes the processors for itself.
     run(test_idle_browsers, int(time.time()))

@@ -19,7 +19,8 @@ use Rattle.status_memory.specs.declared.alarm.Alarm.TheVariants.{NoPage, NoNewPa
 use Rattle.status_view.specs.Layout.{nodes_if}
 use Rattle.status_view.specs.Shapes.{GatewayShapeView, PageShapeView}
 use Rattle.status_view.specs.HeadLayout.{refresh_nodes, unhandled_nodes, document_nodes, page_moment_nodes, gateway_nodes, title_nodes, alarm_begin, missing_nodes, closing_nodes, still_nodes, ahead_nodes, old_nodes, fewer_nodes, other_nodes, alarm_nodes, alarms_of, alarms_nodes}
-use Rattle.status_view.specs.SummaryLayout.{kept_nodes, TileView, tile_nodes, group_nodes, all_tiles, host_tiles, service_tiles, summary_nodes, option_nodes, mark_option_nodes, mark_nodes, text_nodes, filters_nodes, form_choices, form_nodes}
+use Rattle.status_view.specs.SummaryLayout.{TileView, tile_nodes, group_nodes, all_tiles, host_tiles, service_tiles, summary_nodes}
+use Rattle.status_view.specs.AskedLayout.{option_nodes, mark_option_nodes, mark_nodes, text_nodes, texts_nodes, form_choices, form_nodes, choice_nodes, asked_text_nodes, asked_texts_nodes, asked_mark_nodes, asked_nodes, filter_nodes}
 use Rattle.page_tags.specs.Tags.{InText, InDouble}
 use Rattle.page_tags.proofs.Placing.{run, place_after, plain, joined, run_if, same, each}
 use Rattle.page_tags.proofs.Times.{span, time}
@@ -135,13 +136,9 @@ alarms gateways = each (λ item. alarms_of item.0 item.1) InText (λ item. gatew
 
 -- ---- counts
 
-kept : (shape : PageShapeView) → run InDouble (kept_nodes shape) ≡ Some InDouble
-unfolding kept_nodes
-kept shape = simp (run_if, same)
-
 tile : (shape : PageShapeView) (one : TileView) → list_any is_markup one.name ≡ false → run InText (tile_nodes shape one) ≡ Some InText
 unfolding tile_nodes
-tile shape one is = simp (joined, run_if, same, kept shape, plain InDouble (choice_word one.choice) (choice_plain one.choice), plain InText one.name is)
+tile shape one is = simp (joined, run_if, same, plain InDouble (choice_word one.choice) (choice_plain one.choice), plain InText one.name is)
 
 group : (shape : PageShapeView) (name : List ℕ) (tiles : List TileView) → list_any is_markup name ≡ false
     → run InText (flat_map (tile_nodes shape) tiles) ≡ Some InText
@@ -195,19 +192,16 @@ text : (begin : List ℕ) (what : AskedText) → place_after InText begin ≡ In
 unfolding text_nodes
 text begin what is = simp is
 
-filters : (shape : PageShapeView) → run InText (filters_nodes shape) ≡ Some InText
-unfolding filters_nodes
-filters shape =
+texts : run InText texts_nodes ≡ Some InText
+unfolding texts_nodes
+texts =
     simp (
       joined,
-      run_if,
-      same,
-      text (codes "<label>Host, exactly <input name=\"hostname\" value=\"") asked.Hostname refl,
+      text (codes " <label>Host <input name=\"host\" value=\"") asked.Host refl,
+      text (codes " <label>Host, exactly <input name=\"hostname\" value=\"") asked.Hostname refl,
       text (codes " <label>Service <input name=\"service\" value=\"") asked.Service refl,
       text (codes " <label>Output <input name=\"output\" value=\"") asked.Output refl,
       text (codes " <label>Gateway <input name=\"gateway\" value=\"") asked.Gateway refl,
-      marks (codes " <label>Acknowledged <select name=\"acknowledged\">") shape.acknowledged refl,
-      marks (codes " <label>In downtime <select name=\"downtime\">") shape.downtime refl,
     )
 
 sort_plain : (order : Sort) → list_any is_markup (sort_word order) ≡ false
@@ -216,6 +210,54 @@ sort_plain sort.Host = refl
 sort_plain sort.Since = refl
 sort_plain sort.Last = refl
 
-pub form : (shape : PageShapeView) → run InText (form_nodes shape) ≡ Some InText
+form : (shape : PageShapeView) → run InText (form_nodes shape) ≡ Some InText
 unfolding form_nodes
-form shape = simp (joined, each (option_nodes shape.choice) InText (option shape.choice) form_choices, filters shape, plain InDouble (sort_word shape.sort) (sort_plain shape.sort))
+form shape =
+    simp (
+      joined,
+      each (option_nodes shape.choice) InText (option shape.choice) form_choices,
+      texts,
+      marks (codes " <label>Acknowledged <select name=\"acknowledged\">") shape.acknowledged refl,
+      marks (codes " <label>In downtime <select name=\"downtime\">") shape.downtime refl,
+      plain InDouble (sort_word shape.sort) (sort_plain shape.sort),
+    )
+
+-- ---- what is asked for
+
+choice : (one : Choice) → run InText (choice_nodes one) ≡ Some InText
+unfolding choice_nodes
+choice one = simp (run_if, same, plain InText (choice_word one) (choice_plain one))
+
+asked_text : (begin : List ℕ) (is : Bool) (what : AskedText) → place_after InText begin ≡ InText → run InText (asked_text_nodes begin is what) ≡ Some InText
+unfolding asked_text_nodes
+asked_text begin is what stays = simp (run_if, same, stays)
+
+asked_mark : (begin : List ℕ) (mark : Option Bool) → place_after InText begin ≡ InText → run InText (asked_mark_nodes begin mark) ≡ Some InText
+unfolding asked_mark_nodes
+asked_mark begin mark stays = simp (run_if, same, stays, plain InText (mark_word mark) (mark_plain mark))
+
+asked_texts : (shape : PageShapeView) → run InText (asked_texts_nodes shape) ≡ Some InText
+unfolding asked_texts_nodes
+asked_texts shape =
+    simp (
+      joined,
+      asked_text (codes " <span class=\"badge\">host has <bdi>") shape.texts.host asked.Host refl,
+      asked_text (codes " <span class=\"badge\">host is <bdi>") shape.texts.hostname asked.Hostname refl,
+      asked_text (codes " <span class=\"badge\">service has <bdi>") shape.texts.service asked.Service refl,
+      asked_text (codes " <span class=\"badge\">output has <bdi>") shape.texts.output asked.Output refl,
+      asked_text (codes " <span class=\"badge\">gateway is <bdi>") shape.texts.gateway asked.Gateway refl,
+    )
+
+asked_for : (shape : PageShapeView) → run InText (asked_nodes shape) ≡ Some InText
+unfolding asked_nodes
+asked_for shape =
+    simp (
+      joined,
+      choice shape.choice,
+      asked_texts shape,
+      asked_mark (codes " <span class=\"badge\">acknowledged ") shape.acknowledged refl,
+      asked_mark (codes " <span class=\"badge\">in downtime ") shape.downtime refl,
+    )
+
+pub filter_part : (shape : PageShapeView) → run InText (filter_nodes shape) ≡ Some InText
+filter_part shape = simp (run_if, same, form shape, asked_for shape)

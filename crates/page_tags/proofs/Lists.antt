@@ -32,13 +32,13 @@ use Rattle.status_view.specs.Shapes.{GatewayShapeView, EntryShapeView, PageShape
 use Rattle.status_view.specs.ObjectsLayout.{object_name_nodes, acknowledgement_nodes, reason_nodes, marks_nodes, ago_nodes, over_nodes, since_nodes, age_nodes, output_nodes, object_nodes, direction, column_nodes, objects_table, number_nodes, numbers_nodes, pages_nodes, to_marks_nodes, objects_nodes}
 use Rattle.status_view.specs.ListsLayout.{comment_nodes, duration_nodes, window_nodes, began_nodes, entry_marks_nodes, entry_name_nodes, words_nodes, origin_nodes, entry_nodes, list_head, entries_table, entries_nodes}
 use Rattle.status_view.specs.ListsLayout as lists
-use Rattle.status_view.specs.Page.{head_nodes, end_nodes, page_nodes}
+use Rattle.status_view.specs.Page.{seconds_of, head_nodes, end_nodes, page_nodes}
 use Rattle.status_view.specs.ChangesLayout.{from_name, change_nodes, changes_table, changes_nodes, feed_id_nodes, feed_title_nodes, feed_entry_nodes, updated_at, feed_nodes}
 use Rattle.status_view.specs.OneObject.{name_nodes, rows_nodes, object_head_nodes, object_page_nodes}
 use Rattle.page_tags.specs.Tags.{InText, InDouble, HasOwnTags}
 use Rattle.page_tags.proofs.Placing.{run, place_after, plain, joined, run_if, same, each, own_tags}
 use Rattle.page_tags.proofs.Times.{span, instant, time}
-use Rattle.page_tags.proofs.Heads.{state_plain, choice_plain, document, title, alarms, summary, form}
+use Rattle.page_tags.proofs.Heads.{state_plain, choice_plain, document, title, alarms, summary, filter_part}
 
 -- ---- objects
 
@@ -204,7 +204,7 @@ end = refl
 
 head : (shape : PageShapeView) → run InText (head_nodes shape) ≡ Some InText
 unfolding head_nodes
-head shape = simp (joined, document shape.refresh shape.urgent, title shape.gateways, alarms shape.gateways, summary shape, form shape)
+head shape = simp (joined, document (seconds_of shape) shape.urgent, title shape.gateways, alarms shape.gateways, summary shape, filter_part shape)
 
 page : (shape : PageShapeView) → run InText (page_nodes shape) ≡ Some InText
 unfolding page_nodes

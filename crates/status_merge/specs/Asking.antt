@@ -164,6 +164,14 @@ page_asked pairs = option_map_or page_of (value_of (codes "page") pairs) 1
 abbrev pub refresh_asked : ℕ → List (List ℕ × List ℕ) → ℕ
 refresh_asked default pairs = option_map_or (refresh_of default) (value_of (codes "refresh") pairs) default
 
+-- whether the word asks for the form
+abbrev pub is_open : List ℕ → Bool
+is_open word = str_eq_ignore_ascii_case word (codes "open")
+
+-- whether the page is to have the form
+abbrev pub form_asked : List (List ℕ × List ℕ) → Bool
+form_asked pairs = option_map_or is_open (value_of (codes "filters") pairs) false
+
 -- those that a query that was read asks for
 abbrev pub asked_by : Query → Asked
 asked_by query = record {
@@ -176,6 +184,10 @@ asked_by query = record {
   acknowledged = query.acknowledged;
   downtime = query.downtime;
 }
+
+-- the same with this choice
+abbrev pub with_choice : Choice → Asked → Asked
+with_choice choice asked = record asked { choice = choice }
 
 -- those of a choice alone
 abbrev pub only : Choice → Asked

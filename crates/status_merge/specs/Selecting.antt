@@ -40,16 +40,23 @@ has_choice Unhandled object = is_unhandled object
 has_choice Stale object = object.row.stale
 has_choice (In state) object = is_same_state object.row.state state
 
--- whether an object is one of those that are asked for
-abbrev pub is_selected : Asked → MergedObject → Bool
-is_selected asked object =
-    has_choice asked.choice object
-    && has_host asked object.row.host.now
+-- whether an object is one of those that are asked for, whatever its state
+abbrev pub is_filtered : Asked → MergedObject → Bool
+is_filtered asked object =
+    has_host asked object.row.host.now
     && has_part object.row.service.now asked.service
     && has_part object.row.output.now asked.output
     && is_at asked.gateway object.gateway.now
     && is_as asked.acknowledged (is_made object.row.acknowledgement)
     && is_as asked.downtime (nat_lt 0 object.row.depth)
+
+-- whether an object is one of those that are asked for
+abbrev pub is_selected : Asked → MergedObject → Bool
+is_selected asked object = has_choice asked.choice object && is_filtered asked object
+
+-- those that are asked for, whatever their states
+abbrev pub filtered : Asked → List MergedObject → List MergedObject
+filtered asked objects = filter (is_filtered asked) objects
 
 -- the selected objects of a rank
 abbrev pub of_rank : Asked → List MergedObject → ℕ → List MergedObject

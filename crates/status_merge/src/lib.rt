@@ -22,6 +22,6 @@ pub use gateway::{Gateway, MergedObject, Old};
 pub use merging::{age_of, merge};
 pub use query::{Choice, Query, Sort, choice_name, mark_name, read_query, sort_name};
 pub use ranks::{is_made, is_unhandled, rank};
-pub use selecting::{is_at, page_rows, select};
+pub use selecting::{filter_rows, is_at, page_rows, select};
 pub use sorting::sort_rows;
 pub use values::value_in;

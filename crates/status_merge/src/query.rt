@@ -1,9 +1,9 @@
-ghost use Rattle.std.specs.Prelude.{◌≡◌, IfOk, OnOk, codes, if◌then◌else◌, string_bytes};
+ghost use Rattle.std.specs.Prelude.{◌≡◌, false, IfOk, OnOk, codes, if◌then◌else◌, string_bytes};
 ghost use Rattle.std.specs.Str.{bytes_eq};
 ghost use Rattle.form_urlencoded.specs.Form.{raw_pairs};
 ghost use Rattle.status_merge.specs.declared.query.Choice.TheVariants.{All};
 ghost use Rattle.status_merge.specs.declared.query.Sort.TheVariants.{Worst};
-ghost use Rattle.status_merge.specs.Asking.{choice_word, choice_of, state_of, mark_word, mark_of, sort_word, sort_of, number_of, in_range, refresh_of, page_of, asked_in, asked_by, only, sort_asked, page_asked, refresh_asked};
+ghost use Rattle.status_merge.specs.Asking.{choice_word, choice_of, state_of, mark_word, mark_of, sort_word, sort_of, number_of, in_range, refresh_of, page_of, asked_in, asked_by, only, sort_asked, page_asked, refresh_asked, is_open, form_asked};
 
 use crate::values::value_in;
 use form_urlencoded::parse;
@@ -56,6 +56,8 @@ pub struct Query {
     pub page: u32,
     /// The seconds after which the browser asks again; 0: it doesn't.
     pub refresh: u32,
+    /// Whether the page has the form by which another query is asked.
+    pub form: bool,
 }
 
 impl Query {
@@ -65,6 +67,7 @@ impl Query {
         ensures sort { result.sort ≡ Worst }
         ensures page { result.page ≡ 1 }
         ensures refresh { result.refresh ≡ refresh }
+        ensures form { result.form ≡ false }
     {
         Query {
             choice: Choice::All,
@@ -78,6 +81,7 @@ impl Query {
             sort: Sort::Worst,
             page: 1,
             refresh,
+            form: false,
         }
     }
 }
@@ -209,6 +213,12 @@ fn sort_of(word: &str) -> Sort
     }
 }
 
+fn is_open(word: &str) -> bool
+    ensures { result ≡ is_open word.now }
+{
+    word.eq_ignore_ascii_case("open")
+}
+
 fn number_of(text: &str) -> Option<u32>
     ensures { result ≡ number_of text.now }
 {
@@ -291,6 +301,8 @@ fn add_pair(
     ensures refresh { OnOk result (query.new.refresh
         ≡ (if bytes_eq name.now (codes "refresh") then refresh_of refresh value.now
         else query.old.refresh)) }
+    ensures form { OnOk result (query.new.form
+        ≡ (if bytes_eq name.now (codes "filters") then is_open value.now else query.old.form)) }
 {
     set(&mut query.choice, "state", name, choice_of(value));
     add_text(alloc, &mut query.host, "host", name, value)?;
@@ -312,11 +324,12 @@ fn add_pair(
         name,
         refresh_of(value, refresh),
     );
+    set(&mut query.form, "filters", name, is_open(value));
     Ok(())
 }
 
 /// Reads the query of a URL: `state`, `host`, `hostname`, `service`, `output`, `gateway`,
-/// `acknowledged`, `downtime`, `sort`, `page` and `refresh`, each with its default.
+/// `acknowledged`, `downtime`, `sort`, `page`, `refresh` and `filters`, each with its default.
 ///
 /// Other names are skipped. Of a name that comes twice the last counts. An unknown word is the
 /// default. The only error is out of memory.
@@ -326,6 +339,7 @@ pub fn read_query(alloc: Global, text: &str, refresh: u32) -> Result<Query, Allo
     ensures page { IfOk result (λ query. query.page ≡ page_asked (raw_pairs text.now)) }
     ensures refresh { IfOk result (λ query.
         query.refresh ≡ refresh_asked refresh (raw_pairs text.now)) }
+    ensures form { IfOk result (λ query. query.form ≡ form_asked (raw_pairs text.now)) }
 {
     let mut query = Query::new(alloc, refresh);
     let mut pairs = parse(alloc, text.as_bytes());

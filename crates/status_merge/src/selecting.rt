@@ -2,7 +2,7 @@ ghost use Rattle.std.specs.Prelude.{◌≡◌, ◌++◌, IfOk, OnOk};
 ghost use Rattle.std.specs.List.{flat_map};
 ghost use Rattle.std.specs.Str.{str_eq_ignore_ascii_case};
 ghost use Rattle.status_merge.specs.Asking.{asked_by};
-ghost use Rattle.status_merge.specs.Selecting.{begins, has_part, is_at, has_host, is_as, has_choice, is_selected, of_rank, selected, page_rows};
+ghost use Rattle.status_merge.specs.Selecting.{begins, has_part, is_at, has_host, is_as, has_choice, is_filtered, is_selected, filtered, of_rank, selected, page_rows};
 
 use crate::gateway::MergedObject;
 use crate::query::{Choice, Query};
@@ -73,17 +73,40 @@ pub(crate) fn takes_host(query: &Query, host: &[u8]) -> bool
     has_part(host, query.host.as_str().as_bytes()) && is_at(query.hostname.as_slice(), host)
 }
 
-fn is_selected(query: &Query, object: &MergedObject<'_>) -> bool
-    ensures { result ≡ is_selected (asked_by query.now) object.now }
+fn is_filtered(query: &Query, object: &MergedObject<'_>) -> bool
+    ensures { result ≡ is_filtered (asked_by query.now) object.now }
 {
     let row = &object.row;
-    has_choice(query.choice, object)
-        && takes_host(query, row.host)
+    takes_host(query, row.host)
         && has_part(row.service, query.service.as_str().as_bytes())
         && has_part(row.output, query.output.as_str().as_bytes())
         && is_at(query.gateway.as_str().as_bytes(), object.gateway.as_bytes())
         && is_as(query.acknowledged, is_made(row.acknowledgement))
         && is_as(query.downtime, row.depth > 0)
+}
+
+fn is_selected(query: &Query, object: &MergedObject<'_>) -> bool
+    ensures { result ≡ is_selected (asked_by query.now) object.now }
+{
+    has_choice(query.choice, object) && is_filtered(query, object)
+}
+
+/// The objects that a query selects whatever their states, in their order. The only error is out of
+/// memory.
+pub fn filter_rows<'a>(
+    alloc: Global,
+    objects: &[MergedObject<'a>],
+    query: &Query,
+) -> Result<Vec<MergedObject<'a>>, AllocError>
+    ensures { IfOk result (λ found. found.items ≡ filtered (asked_by query.now) objects.now) }
+{
+    let mut found = Vec::new(alloc);
+    for object in objects {
+        if is_filtered(query, object) {
+            found.push(*object)?;
+        }
+    }
+    Ok(found)
 }
 
 // Appends the selected objects of a rank.

@@ -15,7 +15,7 @@ use Rattle.status_memory.specs.Memory.{age_of, old_alarm, alarms_of}
 use Rattle.status_merge.specs.declared.gateway.Gateway.{Gateway}
 use Rattle.status_merge.specs.declared.gateway.Old.{Old}
 use Rattle.status_merge.specs.declared.gateway.MergedObject.{MergedObject}
-use Rattle.status_merge.specs.Asking.{asked_in, asked_by, sort_asked, page_asked, refresh_asked}
+use Rattle.status_merge.specs.Asking.{asked_in, asked_by, sort_asked, page_asked, refresh_asked, form_asked}
 use Rattle.status_merge.specs.Objects.{objects_on, merged, with_hosts}
 use Rattle.status_merge.specs.Selecting.{selected, page_rows}
 use Rattle.status_merge.specs.Sorting.{IsInOrder}
@@ -82,6 +82,7 @@ pub record Views (heading : Heading) (gateways : List Gateway) (query : List ℕ
   pub sort : view.query.now.sort ≡ sort_asked (raw_pairs query)
   pub page : view.query.now.page ≡ page_asked (raw_pairs query)
   pub seconds : view.query.now.refresh ≡ refresh_asked heading.refresh (raw_pairs query)
+  pub form : view.query.now.form ≡ form_asked (raw_pairs query)
   pub pages : view.gateways.now ≡ gateways
   pub all : view.all.now ≡ objects_of gateways
   pub selected : view.selected ≡ length (asked_of gateways query)

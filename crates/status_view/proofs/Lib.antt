@@ -2,6 +2,7 @@ pub mod CalendarSteps
 pub mod LayoutSteps
 pub mod TileLaws
 pub mod FillingSteps
+pub mod FormLaws
 pub mod LinkLaws
 pub mod FilterSteps
 pub mod PageSteps

@@ -1,10 +1,10 @@
 -- The number of a tile is the length of what its link selects: each object has one rank, from 0 to 10, so a selection has
 -- each object that its choice takes once; and a state is one of hosts or one of services.
-use Rattle.std.proofs.Common.{◌≡◌, ℕ, ◌+◌, ◌≤◌, ◌⊎◌, inl, inr, zero, suc, Bool, true, false, ◌&&◌, ◌==◌, not, cond, nat_lt, List, [], ◌∷◌, length, filter, count_by, Option, Some, None, refl, ap, sym, ◌∙◌, arith, rules}
+use Rattle.std.proofs.Common.{◌≡◌, ℕ, ◌+◌, ◌≤◌, ◌⊎◌, inl, inr, zero, suc, Bool, true, false, ◌&&◌, ◌==◌, not, cond, if◌then◌else◌, nat_lt, List, [], ◌∷◌, length, filter, count_by, Option, Some, None, refl, ap, sym, ◌∙◌, arith, rules}
 use Rattle.std.specs.List.{All, flat_map, slice_index_or}
 use Rattle.std.proofs.lemmas.Bool.{lt-ltb, ne_eqb}
 use Rattle.std.proofs.lemmas.List.{length-append}
-use Rattle.std.proofs.lemmas.List.Elements.{All-from_recursion, All-head, All-tail}
+use Rattle.std.proofs.lemmas.List.Elements.{All-from_recursion, All-head, All-tail, All-filter}
 use Rattle.std.proofs.lemmas.List.Sums.{sum_by-cons}
 use Rattle.std.proofs.lemmas.List.Recursion.{is_count_by}
 use Rattle.std.proofs.Math.Bool.{and-true}
@@ -18,9 +18,9 @@ use Rattle.status_merge.specs.declared.gateway.MergedObject.{MergedObject}
 use Rattle.status_merge.specs.declared.query.Choice.{Choice}
 use Rattle.status_merge.specs.declared.query.Choice.TheVariants as choice
 use Rattle.status_merge.specs.Objects.{HasOwnState}
-use Rattle.status_merge.specs.Asking.{Asked, only}
+use Rattle.status_merge.specs.Asking.{Asked, asked_by, with_choice}
 use Rattle.status_merge.specs.Ranks.{is_unhandled, severity, rank, is_host_in, is_service_in}
-use Rattle.status_merge.specs.Selecting.{has_part, has_choice, is_selected, selected}
+use Rattle.status_merge.specs.Selecting.{has_choice, is_filtered, is_selected, filtered, selected}
 use Rattle.status_view.specs.declared.view.View.{View}
 use Rattle.status_view.specs.Shapes.{page_shape}
 use Rattle.status_view.specs.SummaryLayout.{all_tiles, host_tiles, service_tiles, tiles_of, CountsSelected}
@@ -105,21 +105,6 @@ selected_count asked objects =
     ∙ step (is_selected asked one) (length (selected asked rest)))
     objects
 
--- ---- no text restricts the objects
-
-every_text : (text : List ℕ) → has_part text [] ≡ true
-every_text [] = refl
-every_text (byte ∷ rest) = refl
-
-all_true : (taken : Bool) → taken ≡ taken && (true && true) && true && true && true && true && true
-all_true true = refl
-all_true false = refl
-
-taken_by : (choice : Choice) (object : MergedObject) → has_choice choice object ≡ is_selected (only choice) object
-taken_by choice object =
-    rw (every_text object.row.host.now, every_text object.row.service.now, every_text object.row.output.now)
-    (all_true (has_choice choice object))
-
 -- ---- counts
 
 same_count : {X : Type 0} (one other : X → Bool) (objects : List X) → All (λ object. one object ≡ other object) objects
@@ -138,12 +123,32 @@ everything {X} (object ∷ objects) =
     sum_by-cons (λ (object : X). 1) object objects in
     omega (arith, more, everything objects)
 
-chosen : (choice : Choice) (objects : List MergedObject)
-    → count_by (λ object. has_choice choice object) objects ≡ length (selected (only choice) objects)
-chosen choice objects =
-    same_count (λ object. has_choice choice object) (is_selected (only choice)) objects
-    (λ k other inside. taken_by choice (slice_index_or objects k other))
-    ∙ sym (selected_count (only choice) objects)
+one_of : (taken kept : Bool) (n m : ℕ) → n ≡ m → cond (taken && kept) 1 0 + m ≡ cond kept (cond taken 1 0 + n) n
+one_of true true n m same = ap (λ k. 1 + k) (sym same)
+one_of true false n m same = omega (arith, same)
+one_of false true n m same = omega (arith, same)
+one_of false false n m same = omega (arith, same)
+
+kept_first : {X : Type 0} (taken : X → Bool) (kept : Bool) (object : X) (rest : List X)
+    → count_by taken (if kept then object ∷ rest else rest) ≡ cond kept (cond (taken object) 1 0 + count_by taken rest) (count_by taken rest)
+kept_first taken true object rest = sum_by-cons (λ object. cond (taken object) 1 0) object rest
+kept_first taken false object rest = refl
+
+-- how many of those that one test leaves another takes
+count_kept : {X : Type 0} (taken kept : X → Bool) (objects : List X)
+    → count_by taken (filter kept objects) ≡ count_by (λ object. taken object && kept object) objects
+count_kept taken kept [] = refl
+count_kept taken kept (object ∷ objects) =
+    kept_first taken (kept object) object (filter kept objects)
+    ∙ sym (one_of (taken object) (kept object) (count_by taken (filter kept objects)) (count_by (λ object. taken object && kept object) objects) (count_kept taken kept objects))
+    ∙ sym (sum_by-cons (λ object. cond (taken object && kept object) 1 0) object objects)
+
+chosen : (asked : Asked) (choice : Choice) (objects : List MergedObject)
+    → count_by (λ object. has_choice choice object) (filtered asked objects)
+    ≡ length (selected (with_choice choice asked) objects)
+chosen asked choice objects =
+    count_kept (λ object. has_choice choice object) (is_filtered asked) objects
+    ∙ sym (selected_count (with_choice choice asked) objects)
 
 -- ---- states of hosts and of services
 
@@ -196,52 +201,57 @@ service_tile last state (byte ∷ rest) wanted above below is =
 
 -- ---- the tiles
 
-hosts_chosen : (state : State) (objects : List MergedObject) → 5 ≤ number_of_state state → All HasOwnState objects
-    → count_by (is_host_in state) objects ≡ length (selected (only (choice.In state)) objects)
-hosts_chosen state objects high own =
-    same_count (is_host_in state) (λ object. has_choice (choice.In state) object) objects
+hosts_chosen : (asked : Asked) (state : State) (objects : List MergedObject) → 5 ≤ number_of_state state
+    → All HasOwnState (filtered asked objects)
+    → count_by (is_host_in state) (filtered asked objects) ≡ length (selected (with_choice (choice.In state) asked) objects)
+hosts_chosen asked state objects high own =
+    same_count (is_host_in state) (λ object. has_choice (choice.In state) object) (filtered asked objects)
     (λ k other inside.
-    let object = slice_index_or objects k other in
+    let object = slice_index_or (filtered asked objects) k other in
     host_tile object.row.last object.row.state object.row.service.now (number_of_state state) high (own k other inside))
-    ∙ chosen (choice.In state) objects
+    ∙ chosen asked (choice.In state) objects
 
-services_chosen : (state : State) (objects : List MergedObject) → 1 ≤ number_of_state state → number_of_state state ≤ 4
-    → All HasOwnState objects
-    → count_by (is_service_in state) objects ≡ length (selected (only (choice.In state)) objects)
-services_chosen state objects above below own =
-    same_count (is_service_in state) (λ object. has_choice (choice.In state) object) objects
+services_chosen : (asked : Asked) (state : State) (objects : List MergedObject) → 1 ≤ number_of_state state
+    → number_of_state state ≤ 4
+    → All HasOwnState (filtered asked objects)
+    → count_by (is_service_in state) (filtered asked objects)
+    ≡ length (selected (with_choice (choice.In state) asked) objects)
+services_chosen asked state objects above below own =
+    same_count (is_service_in state) (λ object. has_choice (choice.In state) object) (filtered asked objects)
     (λ k other inside.
-    let object = slice_index_or objects k other in
+    let object = slice_index_or (filtered asked objects) k other in
     service_tile object.row.last object.row.state object.row.service.now (number_of_state state) above below (own k other inside))
-    ∙ chosen (choice.In state) objects
+    ∙ chosen asked (choice.In state) objects
 
 pub tiles_count : (view : View) → All HasOwnState view.all.now
-    → All (CountsSelected view.all.now) (tiles_of (page_shape view))
+    → All (CountsSelected (asked_by view.query.now) view.all.now) (tiles_of (page_shape view))
 unfolding all_tiles host_tiles service_tiles
-tiles_count view own =
+tiles_count view all =
+    let asked = asked_by view.query.now in
     let objects = view.all.now in
-    All-from_recursion (CountsSelected objects) (tiles_of (page_shape view)) (
-      chosen choice.Unhandled objects,
+    let own = All-filter (is_filtered asked) HasOwnState objects all in
+    All-from_recursion (CountsSelected asked objects) (tiles_of (page_shape view)) (
+      chosen asked choice.Unhandled objects,
       (
-        chosen choice.Stale objects,
+        chosen asked choice.Stale objects,
         (
-          chosen (choice.In Pending) objects,
+          chosen asked (choice.In Pending) objects,
           (
-            everything objects ∙ chosen choice.All objects,
+            everything (filtered asked objects) ∙ chosen asked choice.All objects,
             (
-              hosts_chosen Down objects (omega arith) own,
+              hosts_chosen asked Down objects (omega arith) own,
               (
-                hosts_chosen Unreachable objects (omega arith) own,
+                hosts_chosen asked Unreachable objects (omega arith) own,
                 (
-                  hosts_chosen Up objects (omega arith) own,
+                  hosts_chosen asked Up objects (omega arith) own,
                   (
-                    services_chosen Critical objects (omega arith) (omega arith) own,
+                    services_chosen asked Critical objects (omega arith) (omega arith) own,
                     (
-                      services_chosen Warning objects (omega arith) (omega arith) own,
+                      services_chosen asked Warning objects (omega arith) (omega arith) own,
                       (
-                        services_chosen Unknown objects (omega arith) (omega arith) own,
+                        services_chosen asked Unknown objects (omega arith) (omega arith) own,
                         (
-                          services_chosen Ok objects (omega arith) (omega arith) own,
+                          services_chosen asked Ok objects (omega arith) (omega arith) own,
                           tt,
                         ),
                       ),

@@ -14,7 +14,7 @@ use Rattle.status_merge.specs.declared.gateway.MergedObject.{MergedObject}
 use Rattle.status_merge.specs.declared.entries.Origin.{Origin}
 use Rattle.status_merge.specs.declared.entries.CommentLine.{CommentLine}
 use Rattle.status_merge.specs.declared.entries.DowntimeLine.{DowntimeLine}
-use Rattle.status_merge.specs.Asking.{Asked, asked_by}
+use Rattle.status_merge.specs.Asking.{Asked, asked_by, with_choice}
 use Rattle.status_view.specs.declared.view.View.{View}
 use Rattle.status_view.specs.declared.layout.ObjectText.{ObjectText}
 use Rattle.status_view.specs.declared.layout.ObjectText.TheVariants as object
@@ -106,6 +106,8 @@ slot_text view (slot.Asked what) = asked_text what (asked_by view.query.now)
 slot_text view (slot.Query page) =
     page_query (asked_by view.query.now) view.query.now.refresh view.query.now.sort page
 slot_text view (slot.Sorted sort) = page_query (asked_by view.query.now) view.query.now.refresh sort 1
+slot_text view (slot.Chosen choice) =
+    page_query (with_choice choice (asked_by view.query.now)) view.query.now.refresh view.query.now.sort 1
 slot_text view (slot.Gateway i) = text_at (λ gateway. gateway.name.now) view.gateways.now i
 slot_text view (slot.Cause i) = text_at cause_text view.gateways.now i
 slot_text view (slot.Object i what) = text_at (object_text what) view.objects.now i

@@ -5,6 +5,7 @@ pub mod Links
 pub mod Times
 pub mod HeadLayout
 pub mod SummaryLayout
+pub mod AskedLayout
 pub mod ObjectsLayout
 pub mod ListsLayout
 pub mod ChangesLayout

@@ -195,7 +195,7 @@ objects_nodes shape =
     (Markup (codes "<table><caption><h2>Hosts and services</h2>")
     ∷ Number (length shape.objects)
     ∷ Markup (codes " of ")
-    ∷ Number shape.counts.objects
+    ∷ Number shape.all
     ∷ Markup (codes " shown")
     ∷ [])
     ++ to_marks_nodes shape.marks shape.page

@@ -1,5 +1,5 @@
 -- What decides the markup of a page: `page_shape`. A shape has states, marks, moments, counts and ids, and no text.
-use Rattle.std.specs.Prelude.{ℕ, Bool, true, false, not, ◌==◌, ◌&&◌, ◌||◌, nat_lt, if◌then◌else◌, List, map, filter, length, count_by, Option, Some, None, is_some, Ok, Err}
+use Rattle.std.specs.Prelude.{ℕ, Bool, true, false, not, ◌==◌, ◌&&◌, ◌||◌, nat_lt, if◌then◌else◌, List, map, filter, length, count_by, Option, Some, None, Ok, Err}
 use Rattle.std.specs.List.{list_any, enumerate_from, last_or}
 use Rattle.std.specs.Str.{bytes_eq}
 use Rattle.gate_model.specs.declared.state.State.TheVariants.{Pending}
@@ -15,13 +15,16 @@ use Rattle.status_merge.specs.declared.entries.DowntimeLine.{DowntimeLine}
 use Rattle.status_merge.specs.declared.counts.Counts.{Counts}
 use Rattle.status_merge.specs.declared.query.Choice.{Choice}
 use Rattle.status_merge.specs.declared.query.Sort.{Sort}
+use Rattle.status_merge.specs.declared.query.Query.{Query}
 use Rattle.status_merge.specs.Asking.{Asked, asked_by}
+use Rattle.status_merge.specs.Selecting.{filtered}
 use Rattle.status_merge.specs.Ranks.{is_made, rank, counts_of}
 use Rattle.status_view.specs.declared.shape.GatewayShape.{GatewayShape}
 use Rattle.status_view.specs.declared.shape.ObjectShape.{ObjectShape}
 use Rattle.status_view.specs.declared.shape.EntryMarks.{EntryMarks}
 use Rattle.status_view.specs.declared.shape.EntryMarks.TheVariants.{Comment, Downtime}
 use Rattle.status_view.specs.declared.shape.EntryShape.{EntryShape}
+use Rattle.status_view.specs.declared.shape.AskedShape.{AskedShape}
 use Rattle.status_view.specs.declared.shape.PageShape.{PageShape}
 use Rattle.status_view.specs.declared.view.View.{View}
 
@@ -41,7 +44,7 @@ pub record EntryShapeView : Type 0 where
 -- a page's
 pub record PageShapeView : Type 0 where
   pub choice : Choice
-  pub filters : Bool
+  pub texts : AskedShape
   pub acknowledged : Option Bool
   pub downtime : Option Bool
   pub sort : Sort
@@ -49,7 +52,8 @@ pub record PageShapeView : Type 0 where
   pub selected : ℕ
   pub marks : Bool
   pub refresh : ℕ
-  pub keeps_refresh : Bool
+  pub form : Bool
+  pub all : ℕ
   pub counts : Counts
   pub pending : ℕ
   pub urgent : ℕ
@@ -69,7 +73,7 @@ entry_shape_view shape = record { is_host = shape.is_host; marks = shape.marks; 
 abbrev pub shape_view : PageShape → PageShapeView
 shape_view shape = record {
   choice = shape.choice;
-  filters = shape.filters;
+  texts = shape.texts;
   acknowledged = shape.acknowledged;
   downtime = shape.downtime;
   sort = shape.sort;
@@ -77,7 +81,8 @@ shape_view shape = record {
   selected = shape.selected;
   marks = shape.marks;
   refresh = shape.refresh;
-  keeps_refresh = shape.keeps_refresh;
+  form = shape.form;
+  all = shape.all;
   counts = shape.counts;
   pending = shape.pending;
   urgent = shape.urgent;
@@ -168,21 +173,30 @@ downtime_shape line = record {
   ids = map (λ origin. origin.id) line.origins.items;
 }
 
--- whether more is asked for than a state and a part of a host's name
-abbrev pub has_filters : Asked → Bool
-has_filters asked =
-    not (length asked.hostname == 0)
-    || not (length asked.service == 0)
-    || not (length asked.output == 0)
-    || not (length asked.gateway == 0)
-    || is_some asked.acknowledged
-    || is_some asked.downtime
+-- which texts are asked for
+abbrev pub asked_shape : Asked → AskedShape
+asked_shape asked = record {
+  host = not (length asked.host == 0);
+  hostname = not (length asked.hostname == 0);
+  service = not (length asked.service == 0);
+  output = not (length asked.output == 0);
+  gateway = not (length asked.gateway == 0);
+}
 
--- the shape of a page: the counts are those of all objects, and the rows those of its page
+-- whether a page has the form: where it is asked for, or where the page isn't loaded again
+abbrev pub has_form : Query → Bool
+has_form query = query.form || (query.refresh == 0)
+
+-- the objects that a query takes, whatever their states
+abbrev pub counted : View → List MergedObject
+counted view = filtered (asked_by view.query.now) view.all.now
+
+-- the shape of a page: the counts are those of the objects that its query takes whatever their states, and the rows those of
+-- its page
 abbrev pub page_shape : View → PageShapeView
 page_shape view = record {
   choice = view.query.now.choice;
-  filters = has_filters (asked_by view.query.now);
+  texts = asked_shape (asked_by view.query.now);
   acknowledged = view.query.now.acknowledged;
   downtime = view.query.now.downtime;
   sort = view.query.now.sort;
@@ -190,9 +204,10 @@ page_shape view = record {
   selected = view.selected;
   marks = view.marks;
   refresh = view.query.now.refresh;
-  keeps_refresh = not (view.query.now.refresh == view.refresh);
-  counts = counts_of view.all.now;
-  pending = count_by (λ object. is_same_state object.row.state Pending) view.all.now;
+  form = has_form view.query.now;
+  all = length view.all.now;
+  counts = counts_of (counted view);
+  pending = count_by (λ object. is_same_state object.row.state Pending) (counted view);
   urgent = count_by is_urgent view.all.now;
   gateways = map gateway_shape view.gateways.now;
   objects = map (object_shape view.comments.now) view.objects.now;

@@ -5,7 +5,7 @@ ghost use Rattle.form_urlencoded.specs.Form.{byte_serialize};
 ghost use Rattle.html_text.specs.Escaping.{html_text};
 ghost use Rattle.std.specs.Str.Lossy.{utf8_lossy};
 ghost use Rattle.status_reading.specs.Plain.{plain_bytes};
-ghost use Rattle.status_merge.specs.Asking.{asked_by};
+ghost use Rattle.status_merge.specs.Asking.{asked_by, with_choice};
 ghost use Rattle.status_view.specs.Layout.{node_view};
 ghost use Rattle.status_view.specs.Links.{object_link, object_link_at, hosts_link, page_query};
 ghost use Rattle.status_view.specs.Filling.{old_cause, cause_text, words_of, performance_of, object_text, entry_text, change_text, asked_text, slot_text, with_text, filled, piece_bytes, html_bytes};
@@ -15,7 +15,7 @@ use crate::links::{hosts_link, object_link, object_link_at, page_query, push_val
 use crate::view::View;
 use html_text::Html;
 use status_memory::GatewayChange;
-use status_merge::{Gateway, MergedObject, Old, Origin, Query, Sort};
+use status_merge::{Choice, Gateway, MergedObject, Old, Origin, Query, Sort};
 use status_reading::plain_bytes;
 use std::alloc::{AllocError, Global};
 
@@ -257,18 +257,23 @@ fn put_asked(html: &mut Html, query: &Query, text: AskedText) -> Result<(), Allo
     }
 }
 
-// The query that asks for a page of the list in an order.
+// The query that asks for a page of the list of the objects of a choice in an order.
 fn put_query(
     alloc: Global,
     html: &mut Html,
     query: &Query,
+    choice: Choice,
     sort: Sort,
     page: usize,
 ) -> Result<(), AllocError>
-    ensures { OnOk result (html.new ≡ html.old
-        ++ html_text (page_query (asked_by query.now) query.now.refresh sort page)) }
+    ensures { let asked = with_choice choice (asked_by query.now) in OnOk result
+        (html.new ≡ html.old ++ html_text (page_query asked query.now.refresh sort page)) }
 {
-    html.text(page_query(alloc, query, sort, page)?.as_str().as_bytes())
+    html.text(
+        page_query(alloc, query, choice, sort, page)?
+            .as_str()
+            .as_bytes(),
+    )
 }
 
 fn fill_slot(alloc: Global, html: &mut Html, view: &View<'_>, slot: Slot) -> Result<(), AllocError>
@@ -277,8 +282,12 @@ fn fill_slot(alloc: Global, html: &mut Html, view: &View<'_>, slot: Slot) -> Res
     match slot {
         Slot::Title => html.text(view.title.as_bytes()),
         Slot::Asked(text) => put_asked(html, view.query, text),
-        Slot::Query(page) => put_query(alloc, html, view.query, view.query.sort, page),
-        Slot::Sorted(sort) => put_query(alloc, html, view.query, sort, 1),
+        Slot::Query(page) => {
+            let query = view.query;
+            put_query(alloc, html, query, query.choice, query.sort, page)
+        }
+        Slot::Sorted(sort) => put_query(alloc, html, view.query, view.query.choice, sort, 1),
+        Slot::Chosen(choice) => put_query(alloc, html, view.query, choice, view.query.sort, 1),
         Slot::Gateway(index) => match view.gateways.get(index) {
             Some(gateway) => html.text(gateway.name.as_bytes()),
             None => html.text(b""),

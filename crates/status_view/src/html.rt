@@ -1,24 +1,26 @@
-ghost use Rattle.std.specs.Prelude.{◌≡◌, map, count_by, IfOk};
+ghost use Rattle.std.specs.Prelude.{◌≡◌, [], true, map, count_by, IfOk};
 ghost use Rattle.std.specs.List.{All, list_any};
 ghost use Rattle.std.specs.Str.{bytes_eq};
 ghost use Rattle.gate_model.specs.State.{is_same_state};
 ghost use Rattle.status_merge.specs.Asking.{asked_by};
 ghost use Rattle.status_view.specs.declared.view.View.{View as Shown};
-ghost use Rattle.status_view.specs.Shapes.{entry_shape_view, gateway_shape_view, shape_view, moment_of, gateway_shape, is_urgent, is_reason, is_reason_of, reason_of, object_shape, comment_shape, downtime_shape, has_filters, page_shape};
+ghost use Rattle.status_view.specs.Shapes.{entry_shape_view, gateway_shape_view, shape_view, moment_of, gateway_shape, is_urgent, is_reason, is_reason_of, reason_of, object_shape, comment_shape, downtime_shape, asked_shape, has_form, page_shape};
 ghost use Rattle.status_view.specs.SummaryLayout.{tiles_of, CountsSelected};
 ghost use Rattle.status_merge.specs.Objects.{HasOwnState};
-ghost use Rattle.status_view.specs.Page.{page_nodes};
+ghost use Rattle.status_view.specs.HeadLayout.{refresh_nodes};
+ghost use Rattle.status_view.specs.Page.{seconds_of, page_nodes};
 ghost use Rattle.status_view.specs.Filling.{filled, html_bytes, without_texts};
 
 use crate::filling::fill;
 use crate::shape::{
-    CommentMarks, DowntimeMarks, EntryMarks, EntryShape, GatewayShape, ObjectShape, PageShape,
-    lay_out,
+    AskedShape, CommentMarks, DowntimeMarks, EntryMarks, EntryShape, GatewayShape, ObjectShape,
+    PageShape, lay_out,
 };
 use crate::view::View;
 use html_text::Html;
 use status_merge::{
-    CommentLine, DowntimeLine, Gateway, MergedObject, Origin, Query, count, is_made, rank,
+    CommentLine, DowntimeLine, Gateway, MergedObject, Origin, Query, count, filter_rows, is_made,
+    rank,
 };
 use status_reading::{ShownSource, State};
 use std::alloc::{AllocError, Global};
@@ -216,26 +218,33 @@ fn urgent_in(objects: &[MergedObject<'_>]) -> usize
     objects.iter().filter(|object| rank(object) < 5).count()
 }
 
-// Whether a query asks for more than a state and a part of a host's name.
-fn has_filters(query: &Query) -> bool
-    ensures { result ≡ has_filters (asked_by query.now) }
+fn asked_shape(query: &Query) -> AskedShape
+    ensures { result ≡ asked_shape (asked_by query.now) }
 {
-    !query.hostname.is_empty()
-        || !query.service.is_empty()
-        || !query.output.is_empty()
-        || !query.gateway.is_empty()
-        || query.acknowledged.is_some()
-        || query.downtime.is_some()
+    AskedShape {
+        host: !query.host.is_empty(),
+        hostname: !query.hostname.is_empty(),
+        service: !query.service.is_empty(),
+        output: !query.output.is_empty(),
+        gateway: !query.gateway.is_empty(),
+    }
 }
 
-/// What decides the markup of a page. The counts are those of all objects, whatever the query
-/// selects. The only error is out of memory.
+fn has_form(query: &Query) -> bool
+    ensures { result ≡ has_form query.now }
+{
+    query.form || query.refresh == 0
+}
+
+/// What decides the markup of a page. The counts are those of the objects that the query takes,
+/// whatever their states. The only error is out of memory.
 pub fn shape_of(alloc: Global, view: &View<'_>) -> Result<PageShape, AllocError>
     ensures { IfOk result (λ shape. shape_view shape ≡ page_shape view.entry.now) }
 {
+    let counted = filter_rows(alloc, view.all, view.query)?;
     Ok(PageShape {
         choice: view.query.choice,
-        filters: has_filters(view.query),
+        texts: asked_shape(view.query),
         acknowledged: view.query.acknowledged,
         downtime: view.query.downtime,
         sort: view.query.sort,
@@ -243,9 +252,10 @@ pub fn shape_of(alloc: Global, view: &View<'_>) -> Result<PageShape, AllocError>
         selected: view.selected,
         marks: view.marks,
         refresh: view.query.refresh,
-        keeps_refresh: view.query.refresh != view.refresh,
-        counts: count(view.all),
-        pending: pending_in(view.all),
+        form: has_form(view.query),
+        all: view.all.len(),
+        counts: count(counted.as_slice()),
+        pending: pending_in(counted.as_slice()),
         urgent: urgent_in(view.all),
         gateways: gateway_shapes(alloc, view.gateways)?,
         objects: object_shapes(alloc, view.comments, view.objects)?,
@@ -260,8 +270,13 @@ pub fn html_page(alloc: Global, view: &View<'_>) -> Result<Html, AllocError>
         IfOk result (λ html. html ≡ html_bytes (filled view (page_nodes (page_shape view)))) }
 
     // The number of each tile is the length of what its link selects.
-    ensures tiles { let view = view.entry.now in All HasOwnState view.all.now
-        → All (CountsSelected view.all.now) (tiles_of (page_shape view)) }
+    ensures tiles { let view = view.entry.now in let asked = asked_by view.query.now in
+        All HasOwnState view.all.now
+        → All (CountsSelected asked view.all.now) (tiles_of (page_shape view)) }
+
+    // A page with the form is not loaded again.
+    ensures typed { let shape = page_shape view.entry.now in
+        shape.form ≡ true → refresh_nodes (seconds_of shape) ≡ [] }
 
     // The texts have no part in the markup: any view of the same shape has a page with the same
     // markup and the same numbers, and its texts at the same places.

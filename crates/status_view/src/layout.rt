@@ -1,7 +1,7 @@
 ghost use Rattle.std.specs.Prelude.{◌≡◌, [], ◌++◌, map, OnOk};
 ghost use Rattle.status_view.specs.Layout.{node_view, nodes_if};
 
-use status_merge::Sort;
+use status_merge::{Choice, Sort};
 use std::alloc::{AllocError, Global};
 use std::marker::Model;
 
@@ -74,6 +74,8 @@ pub enum Slot {
     Query(usize),
     /// The query of a URL that asks for its first page in this order.
     Sorted(Sort),
+    /// The query of a URL that asks for the first page of the objects of this choice.
+    Chosen(Choice),
     /// The name of the gateway of this index.
     Gateway(usize),
     /// Why there is no page of the gateway of this index.

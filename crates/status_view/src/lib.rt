@@ -4,6 +4,7 @@
 //! given no text. `fill` puts the texts into the slots that it left.
 #![tactic(auto)]
 
+mod asked_layout;
 mod calendar;
 mod changes;
 mod filling;

@@ -4,13 +4,13 @@
 ghost use Rattle.std.specs.Prelude.{◌≡◌, ◌^◌, ◌<◌, ◌≤◌, [], ◌++◌, All, IfOk, OnOk, codes, string_bytes};
 ghost use Rattle.form_urlencoded.specs.Form.{append_pair, byte_serialize, raw_pairs};
 ghost use Rattle.status_merge.specs.declared.query.Choice.TheVariants as choices;
-ghost use Rattle.status_merge.specs.Asking.{asked_by, asked_in, only, sort_asked, page_asked};
+ghost use Rattle.status_merge.specs.Asking.{asked_by, asked_in, only, with_choice, sort_asked, page_asked};
 ghost use Rattle.status_merge.specs.Values.{value_in};
 ghost use Rattle.status_view.specs.Links.{object_query, object_link, object_query_at, object_link_at, hosts_query, hosts_link, page_query};
 ghost use Rattle.status_view.specs.inner.Pairs.{IsTextPair};
 
 use form_urlencoded::{Serializer, byte_serialize};
-use status_merge::{Query, Sort, choice_name, mark_name, sort_name, value_in};
+use status_merge::{Choice, Query, Sort, choice_name, mark_name, sort_name, value_in};
 use std::alloc::{AllocError, Global};
 
 /// The names of an object, as the pages of its gateways write them, and of the gateway that is asked for.
@@ -107,25 +107,26 @@ fn begin_form(alloc: Global, host: &[u8]) -> Result<Serializer, AllocError>
     Ok(Serializer::new(text))
 }
 
-/// The query of a URL that asks for a page, from 1, of the objects that a query asks for, in an order.
-/// The only error is out of memory. Own rule.
+/// The query of a URL that asks for a page, from 1, of the objects of a choice that a query asks for
+/// beside, in an order. The only error is out of memory. Own rule.
 pub fn page_query(
     alloc: Global,
     query: &Query,
+    choice: Choice,
     sort: Sort,
     page: usize,
 ) -> Result<String, AllocError>
-    ensures query { IfOk result (λ text.
-        string_bytes text ≡ page_query (asked_by query.now) query.now.refresh sort page) }
+    ensures query { let asked = with_choice choice (asked_by query.now) in IfOk result (λ text.
+        string_bytes text ≡ page_query asked query.now.refresh sort page) }
 
-    // It is read as what was asked for, as this order, and as this page.
-    ensures read { let pairs = raw_pairs
-        (page_query (asked_by query.now) query.now.refresh sort page) in
-        1 ≤ page → page < 2 ^ 32 → IfOk result (λ _. (asked_in pairs ≡ asked_by query.now)
+    // It is read as what was asked for, with this choice, as this order, and as this page.
+    ensures read { let asked = with_choice choice (asked_by query.now) in
+        let pairs = raw_pairs (page_query asked query.now.refresh sort page) in
+        1 ≤ page → page < 2 ^ 32 → IfOk result (λ _. (asked_in pairs ≡ asked)
         × (sort_asked pairs ≡ sort) × (page_asked pairs ≡ page)) }
 {
     let mut form = begin_form(alloc, query.hostname.as_slice())?;
-    push_pair(&mut form, "state", choice_name(query.choice))?;
+    push_pair(&mut form, "state", choice_name(choice))?;
     push_pair(&mut form, "host", query.host.as_str())?;
     push_pair(&mut form, "service", query.service.as_str())?;
     push_pair(&mut form, "output", query.output.as_str())?;

@@ -369,7 +369,7 @@ pub fn lay_out_objects(layout: &mut Layout, shape: &PageShape) -> Result<(), All
         Node::Markup("<table><caption><h2>Hosts and services</h2>"),
         Node::Number(rows.len() as u64),
         Node::Markup(" of "),
-        Node::Number(shape.counts.objects as u64),
+        Node::Number(shape.all as u64),
         Node::Markup(" shown"),
     ])?;
     lay_out_to_marks(layout, shape.marks, shape.page)?;

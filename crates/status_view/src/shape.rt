@@ -1,12 +1,13 @@
 ghost use Rattle.std.specs.Prelude.{◌≡◌, ◌++◌, OnOk, IfOk};
 ghost use Rattle.status_view.specs.Shapes.{shape_view};
-ghost use Rattle.status_view.specs.Page.{head_nodes, end_nodes, page_nodes};
+ghost use Rattle.status_view.specs.Page.{seconds_of, head_nodes, end_nodes, page_nodes};
 
+use crate::asked_layout::lay_out_filter;
 use crate::head_layout::{lay_out_alarms, lay_out_document, lay_out_title};
 use crate::layout::{EntryList, Layout, Node};
 use crate::lists_layout::lay_out_entries;
 use crate::objects_layout::lay_out_objects;
-use crate::summary_layout::{lay_out_form, lay_out_summary};
+use crate::summary_layout::lay_out_summary;
 use status_memory::{Alarm, Since};
 use status_merge::{Choice, Counts, Sort};
 use status_reading::{ShownAcknowledgement, ShownSource, State};
@@ -78,13 +79,23 @@ pub struct EntryShape {
     pub ids: Vec<u32>,
 }
 
+/// Which texts a query asks for: no text is in it.
+#[derive(Clone, Copy)]
+pub struct AskedShape {
+    pub host: bool,
+    pub hostname: bool,
+    pub service: bool,
+    pub output: bool,
+    pub gateway: bool,
+}
+
 /// What decides the markup of a page: states, marks, moments and counts. No text is in it, so none
 /// can change a tag.
 #[derive(Drop)]
 pub struct PageShape {
     pub choice: Choice,
-    /// Whether the query asks for more than a state and a part of a host's name, and what it asks of the marks.
-    pub filters: bool,
+    /// Which texts the query asks for, and what it asks of the marks.
+    pub texts: AskedShape,
     pub acknowledged: Option<bool>,
     pub downtime: Option<bool>,
     /// The order of the list.
@@ -95,12 +106,16 @@ pub struct PageShape {
     /// Whether there is a page where rows can be marked.
     pub marks: bool,
     pub refresh: u32,
-    /// Whether `refresh` is not the default, so that the links keep it.
-    pub keeps_refresh: bool,
+    /// Whether the page has the form. Then it is not loaded again, so that nothing that is typed is
+    /// lost.
+    pub form: bool,
+    /// How many objects there are.
+    pub all: usize,
+    /// How many of them the query takes, whatever their states.
     pub counts: Counts,
-    /// How many objects are PENDING.
+    /// How many of these are PENDING.
     pub pending: usize,
-    /// How many objects need attention.
+    /// How many of all objects need attention.
     pub urgent: usize,
     pub gateways: Vec<GatewayShape>,
     pub objects: Vec<ObjectShape>,
@@ -108,15 +123,22 @@ pub struct PageShape {
     pub downtimes: Vec<EntryShape>,
 }
 
+// When the browser asks again: never where the page has the form.
+fn seconds_of(shape: &PageShape) -> u32
+    ensures { result ≡ seconds_of (shape_view shape.now) }
+{
+    if shape.form { 0 } else { shape.refresh }
+}
+
 fn lay_out_head(layout: &mut Layout, shape: &PageShape) -> Result<(), AllocError>
     ensures { OnOk result (layout.new ≡ layout.old ++ head_nodes (shape_view shape.now)) }
 {
     let gateways = shape.gateways.as_slice();
-    lay_out_document(layout, shape.refresh, shape.urgent)?;
+    lay_out_document(layout, seconds_of(shape), shape.urgent)?;
     lay_out_title(layout, gateways)?;
     lay_out_alarms(layout, gateways)?;
     lay_out_summary(layout, shape)?;
-    lay_out_form(layout, shape)
+    lay_out_filter(layout, shape)
 }
 
 /// Appends the end of a page of states.

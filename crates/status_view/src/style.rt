@@ -53,7 +53,7 @@ font-weight:650;white-space:nowrap;overflow-wrap:normal;background:var(--markbg)
 tr.handled .out,tr.handled .name{color:var(--soft)}\
 .alarm{padding:.6rem .8rem;border:1px solid var(--alarm);border-radius:.5rem;\
 background:var(--alarmbg);color:var(--alarm);margin:.5rem 0}\
-.pages{margin:.6rem 0}summary{cursor:pointer;color:var(--link)}footer{color:var(--soft);font-size:.85rem}\
+.pages,.asked{margin:.6rem 0}footer{color:var(--soft);font-size:.85rem}\
 @media(min-width:1200px){.name{min-width:15rem}.out{min-width:14rem}}\
 @media(max-width:1199px){.name{min-width:8rem}td .badge{white-space:normal}}\
 @media(max-width:840px){header,main,footer{padding:.6rem}thead{display:none}\

@@ -1,10 +1,10 @@
-use Rattle.std.proofs.Common.{◌≡◌, ℕ, List, [], None, codes, ap, ◌∙◌}
+use Rattle.std.proofs.Common.{◌≡◌, ℕ, List, [], None, false, codes, ap, ◌∙◌}
 use Rattle.form_urlencoded.specs.Form.{raw_pairs}
 use Rattle.form_urlencoded.specs.Parse.{pairs_left}
 use Rattle.status_merge.specs.declared.query.Choice.TheVariants.{All}
 use Rattle.status_merge.specs.declared.query.Sort.TheVariants.{Worst}
-use Rattle.status_merge.specs.Asking.{Asked, choice_of, mark_of, sort_of, page_of, refresh_of, asked_in}
-use Rattle.status_merge.proofs.AskingSteps.{after, after-value, after-text, all-asked}
+use Rattle.status_merge.specs.Asking.{Asked, choice_of, mark_of, sort_of, page_of, refresh_of, is_open, asked_in}
+use Rattle.status_merge.proofs.AskingSteps.{after, after-value, after-text}
 use Rattle.status_merge.proofs.query.read_query.Goals as goal
 
 pub loop-pair-init : goal.loop-pair-init
@@ -30,4 +30,5 @@ loop-pair-init c =
       sort = rw (pairs, query.sort) (after-value sort_of (codes "sort") all Worst);
       page = rw (pairs, query.page) (after-value page_of (codes "page") all 1);
       refresh = rw (pairs, query.refresh) (after-value (refresh_of c.args.refresh) (codes "refresh") all c.args.refresh);
+      form = rw (pairs, query.form) (after-value is_open (codes "filters") all false);
     }

@@ -1,7 +1,7 @@
 use Rattle.std.proofs.Common.{◌≡◌, codes, length, string_bytes}
 use Rattle.form_urlencoded.specs.Form.{raw_pairs}
 use Rattle.form_urlencoded.specs.Parse.{pairs_left}
-use Rattle.status_merge.specs.Asking.{choice_of, mark_of, sort_of, page_of, refresh_of, asked_in, sort_asked, page_asked, refresh_asked}
+use Rattle.status_merge.specs.Asking.{choice_of, mark_of, sort_of, page_of, refresh_of, is_open, asked_in, sort_asked, page_asked, refresh_asked, form_asked}
 use Rattle.status_merge.proofs.AskingSteps.{after}
 use Rattle.status_merge.proofs.query.read_query.Given as goal
 
@@ -18,6 +18,7 @@ invariant-loop-pair l =
       sort : after sort_of (codes "sort") l.query.sort (pairs_left l.pairs) ≡ sort_asked (raw_pairs l.text);
       page : after page_of (codes "page") l.query.page (pairs_left l.pairs) ≡ page_asked (raw_pairs l.text);
       refresh : after (refresh_of l.refresh) (codes "refresh") l.query.refresh (pairs_left l.pairs) ≡ refresh_asked l.refresh (raw_pairs l.text);
+      form : after is_open (codes "filters") l.query.form (pairs_left l.pairs) ≡ form_asked (raw_pairs l.text);
     }
 
 abbrev pub decreases-loop-pair : goal.decreases-loop-pair

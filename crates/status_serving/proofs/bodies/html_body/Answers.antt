@@ -35,6 +35,7 @@ returns c =
       sort = asked.sort;
       page = asked.page;
       seconds = asked.refresh;
+      form = asked.form;
       pages = refl;
       all = c.as_slice-2.ensures.value ∙ c.in_ok-all.ensures.merged;
       selected = c.len-selected.ensures ∙ c.in_ok-rows.rows.ok.0 ∙ ap length chosen;

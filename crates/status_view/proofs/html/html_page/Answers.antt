@@ -1,4 +1,6 @@
+use Rattle.status_view.specs.Shapes.{page_shape}
 use Rattle.status_view.proofs.FillingSteps.{alone}
+use Rattle.status_view.proofs.FormLaws.{still}
 use Rattle.status_view.proofs.TileLaws.{tiles_count}
 use Rattle.status_view.proofs.html.html_page.Goals as goal
 
@@ -22,3 +24,12 @@ returns-in_err-layout-clause-tiles c = λ own. tiles_count c.args.view.now own
 
 pub returns-clause-tiles : goal.returns-clause-tiles
 returns-clause-tiles c = λ own. tiles_count c.args.view.now own
+
+pub returns-in_err-shape-clause-typed : goal.returns-in_err-shape-clause-typed
+returns-in_err-shape-clause-typed c = still (page_shape c.args.view.now)
+
+pub returns-in_err-layout-clause-typed : goal.returns-in_err-layout-clause-typed
+returns-in_err-layout-clause-typed c = still (page_shape c.args.view.now)
+
+pub returns-clause-typed : goal.returns-clause-typed
+returns-clause-typed c = still (page_shape c.args.view.now)

@@ -1,6 +1,6 @@
 use Rattle.std.proofs.Common.{◌<◌, ap, refl, sym, ◌∙◌, All}
 use Rattle.std.proofs.lemmas.List.Elements.{All-from_recursion}
-use Rattle.status_merge.specs.Asking.{asked_by, choice_of, mark_of, sort_of}
+use Rattle.status_merge.specs.Asking.{asked_by, with_choice, choice_of, mark_of, sort_of}
 use Rattle.status_view.specs.Links.{text_pairs, page_query}
 use Rattle.status_view.specs.inner.Pairs.{IsTextPair}
 use Rattle.status_view.proofs.QueryLaws.{query_read, valued}
@@ -40,7 +40,7 @@ returns-clause-query c =
 pub returns-clause-read : goal.returns-clause-read
 returns-clause-read c =
     let query = c.args.query.now in
-    let asked = asked_by query in
+    let asked = with_choice c.args.choice (asked_by query) in
     let texts = All-from_recursion IsTextPair (text_pairs asked query.refresh c.args.sort c.args.page) (
       valued _ _ _ c.choice_name.ensures.word c.push_pair.ensures.texts,
       (

@@ -7,16 +7,13 @@ use Rattle.status_view.proofs.summary_layout.lay_out_tile.Goals as goal
 pub returns : goal.returns
 unfolding tile_nodes
 returns c =
-    ended c.put-3.result _ _
+    ended c.put-2.result _ _
     (c.args.layout.now ++ tile_nodes (shape_view c.args.shape.now) (tile_view c.args.tile.now))
-    c.put-3.ensures
+    c.put-2.ensures
     (rw (
-      c.in_ok-lay_out_kept.ensures,
-      c.in_ok-put-2.ensures,
       c.in_ok-put_if-2.ensures,
       c.in_ok-put_if.ensures,
       c.in_ok-put.ensures,
       c.choice_name.ensures.word,
-      c.choice_name-2.ensures.word,
       c.same_choice.ensures,
     ) (simp append_assoc))

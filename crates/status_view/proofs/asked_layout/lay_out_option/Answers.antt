@@ -1,7 +1,7 @@
 use Rattle.std.proofs.Common.{append_assoc, ◌++◌}
-use Rattle.status_view.specs.SummaryLayout.{option_nodes}
+use Rattle.status_view.specs.AskedLayout.{option_nodes}
 use Rattle.status_view.proofs.LayoutSteps.{ended}
-use Rattle.status_view.proofs.summary_layout.lay_out_option.Goals as goal
+use Rattle.status_view.proofs.asked_layout.lay_out_option.Goals as goal
 
 pub returns : goal.returns
 unfolding option_nodes
