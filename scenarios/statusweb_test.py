@@ -455,7 +455,7 @@ CHANGES = '''\
 <meta http-equiv="refresh" content="30"><link rel="stylesheet" href="/style.css">\
 <link rel="alternate" type="application/atom+xml" href="/changes.atom"><title>nscagate</title></head>
 <body><header><h1><a href="/">nscagate</a></h1><nav aria-label="Pages"><a href="/">Status</a> \
-<a href="/changes">Changes</a></nav><p><bdi>east</bdi> at <time datetime="AT">AT</time></p>\
+<a href="/changes">Changes</a> <a href="/comments">Comments</a> <a href="/downtime">Downtime</a></nav><p><bdi>east</bdi> at <time datetime="AT">AT</time></p>\
 <p><bdi>west</bdi> at <time datetime="WEST">WEST</time></p></header>
 <main>
 <table><caption><h2>Changes of states</h2>1 shown, the newest first: of each gateway the last 1,000 since this program started</caption>
@@ -827,6 +827,58 @@ def test_rows(now):
             found = shown_in(web.text('/?' + query))
             test(f'the rows of {query}', len(found) == wanted, len(found))
         test('scripts have all in one', len(web.json('/status.json?page=2')['objects']) == 1201)
+
+
+def test_entries(now):
+    """Comments and downtime entries have pages of 500 rows, and the list of objects has those of its rows alone."""
+    names = [(f'host{number:04d}', service) for number in range(601) for service in ['', 'a b']]
+    page = f'status {now}\n' + ''.join(
+        f'object;{host};{service};{"OK" if service else "UP"};{now};fresh;-;{1 if service else 0};x\n' for host, service in names) + ''.join(
+        f'comment;{index};{host};{service};user;1;{now};ann;text {index}\n' for index, (host, service) in enumerate(names, 1)) + ''.join(
+        f'downtime;{index};{host};a b;fixed;0;{now - 9};{now + 99};0;{now - 9};bob;text {index}\n'
+        for index, (host, _) in enumerate(names[::2], 1))
+
+    def entries_in(answer):
+        """The names in the rows of the lists of comments and of downtime entries, and the texts there."""
+        tables = {re.search('<h2>([A-Z][a-z]*)', table)[1]: table for table in answer.decode().split('<table>')[1:]}
+        return [[(urllib.parse.unquote_plus(host), urllib.parse.unquote_plus(service)) for host, service in re.findall(
+            '<tr><td class="name"><a href="/object\\?host=([^&]*)&amp;service=([^"]*)"', tables.get(name, ''))]
+            for name in ('Comments', 'Downtime')]
+
+    def listed_in(answer):
+        """The objects of the list, as their links name them."""
+        return [(host, urllib.parse.unquote_plus(service)) for host, service in (
+            (link + '/').split('/')[:2] for link in shown_in(answer))]
+    with Web(('east', shows(page.encode()).port)) as web:
+        for query in ['', '?page=3', '?host=host0007', '?service=a', '?state=up&page=2', '?host=nowhere']:
+            answer = web.text('/' + query)
+            shown = listed_in(answer)
+            test(f'the comments and the downtime entries of the rows of {query}', entries_in(answer) == [
+                [name for name in names if name in shown], [name for name in names if name in shown and name[1]]], answer[-3000:])
+        for path, index, wanted in [('/comments', 0, names), ('/downtime', 1, names[1::2])]:
+            answer = web.text(path + '?refresh=7&host=HOST')
+            count = len(wanted)
+            test(f'{path} has 500 rows', entries_in(answer)[index] == wanted[:500] and f'500 of {count} shown'.encode() in answer
+                 and b'content="7"' in answer, answer[:3000])
+            links = [html.unescape(link) for link in re.findall(
+                '<a href="([^"]*)">', re.search(f'{count} selected, page (.*)</nav>', answer.decode())[1])]
+            rest = [web.text(link) for link in links]
+            test(f'the links of {path} lead to the rest', all(link.startswith(path + '?') for link in links)
+                 and sum((entries_in(other)[index] for other in rest), []) == wanted[500:]
+                 and all(b'content="7"' in other for other in rest), links)
+            answer = web.text(path + '?hostname=host0600')
+            test(f'{path} of one host', entries_in(answer)[index] == [name for name in wanted if name[0] == 'host0600']
+                 and b'class="pages"' not in answer, answer)
+            answer = web.text(path + '?hostname=host060')
+            test(f'{path} of no host', f'<p>No {path[1:]}.</p>'.encode() in answer and b'<table>' not in answer, answer)
+            test(f'each page leads to {path}', f'<a href="{path}">'.encode() in web.text('/') and f'<a href="{path}">'.encode() in answer)
+            (whole, _), (head, body) = web.ask(path), web.ask(path, 'HEAD')
+            test(f'HEAD {path}', whole.status == head.status == 200 and body == b''
+                 and whole.getheader('content-type') == 'text/html; charset=utf-8', head.getheaders())
+        test('scripts have all', [len(web.json()[name]) for name in ('comments', 'downtimes')] == [1202, 601])
+    with Web(('down', free_port())) as web:
+        test('without a page of any gateway they are 503 with the alarm', all(
+            web.ask(path)[0].status == 503 and b'<p class="alarm"' in web.text(path) for path in ('/comments', '/downtime')))
 
 
 def test_slow_browsers(now):
@@ -1239,7 +1291,7 @@ def main():
             test(check.__name__, False, repr(error))
     at_once(*[lambda check=check: run(check) for check in [test_words, test_pages, test_names]], *[
         lambda check=check: run(check, int(time.time())) for check in [
-            test_texts, test_faults, test_places, test_old, test_clocks, test_since, test_changes, test_links, test_other_objects, test_tiles, test_filters, test_form, test_rows, test_sharing,
+            test_texts, test_faults, test_places, test_old, test_clocks, test_since, test_changes, test_links, test_other_objects, test_tiles, test_filters, test_form, test_rows, test_entries, test_sharing,
             test_descriptors, test_ends, test_requests, test_style, test_missing_objects, test_browser]])
     # What takes the processors for itself.
     run(test_idle_browsers, int(time.time()))

@@ -30,7 +30,8 @@ use Rattle.status_view.specs.Filling.{filled}
 use Rattle.status_view.specs.Layout.{Markup, Text, nodes_if}
 use Rattle.status_view.specs.Shapes.{GatewayShapeView, EntryShapeView, PageShapeView}
 use Rattle.status_view.specs.ObjectsLayout.{object_name_nodes, acknowledgement_nodes, reason_nodes, marks_nodes, ago_nodes, over_nodes, since_nodes, age_nodes, output_nodes, object_nodes, direction, column_nodes, objects_table, number_nodes, numbers_nodes, pages_nodes, to_marks_nodes, objects_nodes}
-use Rattle.status_view.specs.ListsLayout.{comment_nodes, duration_nodes, window_nodes, began_nodes, entry_marks_nodes, entry_name_nodes, words_nodes, origin_nodes, entry_nodes, list_head, entries_table, entries_nodes}
+use Rattle.status_view.specs.ListsLayout.{comment_nodes, duration_nodes, window_nodes, began_nodes, entry_marks_nodes, entry_name_nodes, words_nodes, origin_nodes, entry_nodes, list_title, extent_nodes, list_columns, entries_table, entries_nodes}
+use Rattle.status_view.specs.EntriesPage.{list_path, none_nodes, rows_in, all_nodes, entries_page_nodes}
 use Rattle.status_view.specs.ListsLayout as lists
 use Rattle.status_view.specs.Page.{seconds_of, head_nodes, end_nodes, page_nodes}
 use Rattle.status_view.specs.ChangesLayout.{from_name, change_nodes, changes_table, changes_nodes, feed_id_nodes, feed_title_nodes, feed_entry_nodes, updated_at, feed_nodes}
@@ -107,17 +108,17 @@ table : (sort : Option Sort) (several : Bool) (rows : List ObjectShape) → run 
 unfolding objects_table
 table sort several rows = simp (joined, run_if, same, column sort Worst (codes "State") refl, column sort Host (codes "Object") refl, column sort Since (codes "Since") refl, column sort Last (codes "Last result") refl, each (λ item. object_nodes several item.0 item.1) InText (λ item. object several item.0 item.1) (enumerate_from 0 rows))
 
-number : (shown page : ℕ) → run InText (number_nodes shown page) ≡ Some InText
+number : (path : List ℕ) (shown page : ℕ) → list_any is_markup path ≡ false → run InText (number_nodes path shown page) ≡ Some InText
 unfolding number_nodes
-number shown page = simp (run_if, same)
+number path shown page is = simp (run_if, same, plain InDouble path is)
 
-numbers : (shown count : ℕ) → run InText (numbers_nodes shown count) ≡ Some InText
+numbers : (path : List ℕ) (shown count : ℕ) → list_any is_markup path ≡ false → run InText (numbers_nodes path shown count) ≡ Some InText
 unfolding numbers_nodes
-numbers shown count = simp (joined, each (number_nodes shown) InText (number shown) (range_with_len 1 ((count - 1) / 500 + 1)))
+numbers path shown count is = simp (joined, each (number_nodes path shown) InText (λ page. number path shown page is) (range_with_len 1 ((count - 1) / 500 + 1)))
 
-pages : (shown count : ℕ) → run InText (pages_nodes shown count) ≡ Some InText
+pages : (path : List ℕ) (shown count : ℕ) → list_any is_markup path ≡ false → run InText (pages_nodes path shown count) ≡ Some InText
 unfolding pages_nodes
-pages shown count = simp (run_if, same, numbers shown count)
+pages path shown count is = simp (run_if, same, numbers path shown count is)
 
 to_marks : (is : Bool) (shown : ℕ) → run InText (to_marks_nodes is shown) ≡ Some InText
 unfolding to_marks_nodes
@@ -127,7 +128,7 @@ to_marks false shown = refl
 objects : (shape : PageShapeView) → run InText (objects_nodes shape) ≡ Some InText
 unfolding objects_nodes
 objects shape =
-    simp (joined, to_marks shape.marks shape.page, table (Some shape.sort) (nat_lt 1 (length shape.gateways)) shape.objects, pages shape.page shape.selected)
+    simp (joined, to_marks shape.marks shape.page, table (Some shape.sort) (nat_lt 1 (length shape.gateways)) shape.objects, pages (codes "/") shape.page shape.selected refl)
 
 -- ---- comments and downtime entries
 
@@ -183,18 +184,28 @@ entry : (list : EntryList) (index : ℕ) (row : EntryShapeView) → run InText (
 unfolding entry_nodes
 entry list index row = simp (joined, entry_name list index row.is_host, entry_marks row.marks, words list index, each (λ item. origin_nodes list index item.0 item.1) InText (λ item. origin list index item.0 item.1) (enumerate_from 0 row.ids))
 
-head_of : (list : EntryList) → run InText (list_head list) ≡ Some InText
-unfolding list_head
-head_of Comments = refl
-head_of Downtimes = refl
+title_of : (list : EntryList) → run InText (list_title list) ≡ Some InText
+unfolding list_title
+title_of Comments = refl
+title_of Downtimes = refl
 
-entries : (list : EntryList) (rows : List EntryShapeView) → run InText (entries_table list rows) ≡ Some InText
+extent : (all : Option ℕ) (shown : ℕ) → run InText (extent_nodes all shown) ≡ Some InText
+unfolding extent_nodes
+extent None shown = refl
+extent (Some all) shown = refl
+
+columns_of : (list : EntryList) → run InText (list_columns list) ≡ Some InText
+unfolding list_columns
+columns_of Comments = refl
+columns_of Downtimes = refl
+
+entries : (list : EntryList) (all : Option ℕ) (rows : List EntryShapeView) → run InText (entries_table list all rows) ≡ Some InText
 unfolding entries_table
-entries list rows = simp (joined, head_of list, each (λ item. entry_nodes list item.0 item.1) InText (λ item. entry list item.0 item.1) (enumerate_from 0 rows))
+entries list all rows = simp (joined, title_of list, extent all (length rows), columns_of list, each (λ item. entry_nodes list item.0 item.1) InText (λ item. entry list item.0 item.1) (enumerate_from 0 rows))
 
 list_of : (list : EntryList) (rows : List EntryShapeView) → run InText (entries_nodes list rows) ≡ Some InText
 unfolding entries_nodes
-list_of list rows = simp (run_if, same, entries list rows)
+list_of list rows = simp (run_if, same, entries list None rows)
 
 -- ---- the page of states
 
@@ -212,6 +223,36 @@ page shape = simp (joined, head shape, objects shape, list_of Comments shape.com
 
 pub page_tags : (view : View) (shape : PageShapeView) → HasOwnTags (filled view (page_nodes shape))
 page_tags view shape = own_tags (page_nodes shape) (page shape) view
+
+-- ---- the pages of comments and of downtime entries
+
+path_plain : (list : EntryList) → list_any is_markup (list_path list) ≡ false
+path_plain Comments = refl
+path_plain Downtimes = refl
+
+none_of : (list : EntryList) → run InText (none_nodes list) ≡ Some InText
+unfolding none_nodes
+none_of Comments = refl
+none_of Downtimes = refl
+
+all_of : (list : EntryList) (shape : PageShapeView) → run InText (all_nodes list shape) ≡ Some InText
+unfolding all_nodes
+all_of list shape =
+    simp (
+      joined,
+      run_if,
+      same,
+      none_of list,
+      entries list (Some shape.selected) (rows_in list shape),
+      pages (list_path list) shape.page shape.selected (path_plain list),
+    )
+
+entries_page : (list : EntryList) (shape : PageShapeView) → run InText (entries_page_nodes list shape) ≡ Some InText
+unfolding entries_page_nodes
+entries_page list shape = simp (joined, document shape.refresh 0, title shape.gateways, alarms shape.gateways, all_of list shape, end)
+
+pub entries_tags : (view : View) (list : EntryList) (shape : PageShapeView) → HasOwnTags (filled view (entries_page_nodes list shape))
+entries_tags view list shape = own_tags (entries_page_nodes list shape) (entries_page list shape) view
 
 -- ---- changes
 

@@ -4,6 +4,7 @@ pub mod FirstLaws
 pub mod MergeLaws
 pub mod NameSteps
 pub mod HostSteps
+pub mod AmongSteps
 pub mod StateLaws
 pub mod MarkLaws
 pub mod SelectingSteps

@@ -3,7 +3,7 @@
 use Rattle.std.specs.Prelude.{ℕ, Bool, nat_eq, ◌==◌, ◌&&◌, List, [], map, filter, Ok, Err}
 use Rattle.std.specs.Borrow.{Bor}
 use Rattle.std.specs.Bool.{beq}
-use Rattle.std.specs.List.{flat_map}
+use Rattle.std.specs.List.{flat_map, list_any}
 use Rattle.std.specs.Option.{option_eq}
 use Rattle.std.specs.Str.{bytes_eq}
 use Rattle.status_reading.specs.declared.rows.ShownComment.{ShownComment}
@@ -11,6 +11,7 @@ use Rattle.status_reading.specs.declared.rows.ShownDowntime.{ShownDowntime}
 use Rattle.status_reading.specs.declared.rows.ShownSource.{ShownSource}
 use Rattle.status_reading.specs.declared.rows.ShownSource.TheVariants.{User, Acknowledgement, Downtime}
 use Rattle.status_merge.specs.declared.gateway.Gateway.{Gateway}
+use Rattle.status_merge.specs.declared.gateway.MergedObject.{MergedObject}
 use Rattle.status_merge.specs.declared.entries.Origin.{Origin}
 use Rattle.status_merge.specs.declared.entries.CommentLine.{CommentLine}
 use Rattle.status_merge.specs.declared.entries.DowntimeLine.{DowntimeLine}
@@ -100,6 +101,18 @@ comment_line group = (group.0.row, map origin_of group.1)
 -- the same of downtime entries, with the moment of the first one's page
 abbrev pub downtime_line : Entry ShownDowntime × List (Entry ShownDowntime) → ℕ × ShownDowntime × List Origin
 downtime_line group = (group.0.moment, group.0.row, map origin_of group.1)
+
+-- whether one of these objects has these names
+abbrev pub is_among : List MergedObject → List ℕ → List ℕ → Bool
+is_among objects host service =
+    list_any (λ object. bytes_eq object.row.host.now host && bytes_eq object.row.service.now service) objects
+
+-- whether a line is that of a comment on one of these objects, or of a downtime entry of one
+abbrev pub is_comment_among : List MergedObject → ShownComment × List Origin → Bool
+is_comment_among objects line = is_among objects line.0.host.now line.0.service.now
+
+abbrev pub is_downtime_among : List MergedObject → ℕ × ShownDowntime × List Origin → Bool
+is_downtime_among objects line = is_among objects line.1.host.now line.1.service.now
 
 -- the lines of the comments on the hosts that are asked for, in the order of their first rows
 abbrev pub comment_lines : Asked → List Gateway → List (ShownComment × List Origin)

@@ -1,3 +1,4 @@
 pub mod Hosts
 pub mod Views
 pub mod Names
+pub mod Among

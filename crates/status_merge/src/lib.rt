@@ -2,6 +2,7 @@
 //! merged, counted, and chosen and put into order by the query of a request.
 #![tactic(auto)]
 
+mod among;
 mod counts;
 mod entries;
 mod gateway;
@@ -13,6 +14,7 @@ mod selecting;
 mod sorting;
 mod values;
 
+pub use among::{retain_comments, retain_downtimes};
 pub use counts::{Counts, count};
 pub use entries::{
     CommentLine, DowntimeLine, Entry, Origin, comments_of, downtimes_of, merge_comments,

@@ -13,7 +13,7 @@ use std::alloc::{AllocError, Global};
 use std::collections::HashSet;
 
 /// The names of an object's host and service, which a host has empty.
-type Name<'a> = (&'a [u8], &'a [u8]);
+pub(crate) type Name<'a> = (&'a [u8], &'a [u8]);
 
 // How old the last result is on its page. On an old page 2 to the power of 32 seconds are added.
 fn counted_age(object: &MergedObject<'_>) -> Option<u64>

@@ -9,7 +9,7 @@ use crate::query::{Choice, Query};
 use crate::ranks::{is_made, is_unhandled, rank};
 use std::alloc::{AllocError, Global};
 
-// How many objects a page shows at most.
+// How many rows a page shows at most.
 const PAGE: usize = 500;
 
 fn same_text(one: &[u8], other: &[u8]) -> bool
@@ -164,12 +164,12 @@ pub fn select<'a>(
     Ok(selected)
 }
 
-/// The objects of a page, from 1, of those that are selected: 500 after those of the pages before it.
-pub fn page_rows<'t, 'a>(selected: &'t [MergedObject<'a>], page: u32) -> &'t [MergedObject<'a>]
-    ensures { result.now ≡ page_rows page selected.now }
+/// The rows of a page, from 1, of these: 500 after those of the pages before it.
+pub fn page_rows<T>(rows: &[T], page: u32) -> &[T]
+    ensures { result.now ≡ page_rows page rows.now }
 {
     let before = PAGE * page.saturating_sub(1) as usize;
-    let first = before.min(selected.len());
-    let rest = &selected[first..];
+    let first = before.min(rows.len());
+    let rest = &rows[first..];
     &rest[..PAGE.min(rest.len())]
 }

@@ -1,12 +1,12 @@
 -- Gateways that are shown one after another, what a query selects of their objects, and the page of that.
-use Rattle.std.proofs.Common.{◌≡◌, ℕ, ◌+◌, ◌<◌, ◌≤◌, List, [], ◌∷◌, ◌++◌, length, take, get_or, Result, Ok, Err, IfOk, ap, sym, ◌∙◌, subst}
+use Rattle.std.proofs.Common.{◌≡◌, ℕ, ◌+◌, ◌-◌, ◌*◌, ◌<◌, ◌≤◌, List, [], ◌∷◌, ◌++◌, length, map, take, drop, get_or, Result, Ok, Err, IfOk, ap, sym, ◌∙◌, subst}
 use Rattle.std.specs.List.{AllZip}
-use Rattle.std.proofs.lemmas.List.{take_all, take_more}
+use Rattle.std.proofs.lemmas.List.{drop-map, length-map, take-map, take_all, take_more}
 use Rattle.std.proofs.lemmas.Slice.Zip.{all_zipped_more}
 use Rattle.status_merge.specs.declared.gateway.Gateway.{Gateway}
 use Rattle.status_merge.specs.declared.gateway.MergedObject.{MergedObject}
 use Rattle.status_merge.specs.Asking.{Asked}
-use Rattle.status_merge.specs.Selecting.{selected}
+use Rattle.status_merge.specs.Selecting.{selected, page_rows}
 use Rattle.status_merge.specs.Sorting.{IsInOrder}
 use Rattle.status_merge.specs.declared.query.Sort.{Sort}
 use Rattle.status_view.specs.declared.view.View.{View}
@@ -49,6 +49,15 @@ pub in_order_as : (one other : Sort) (rows wanted shown : List MergedObject) →
 in_order_as one other rows wanted shown same is order =
     subst (λ (rows : List MergedObject). IsInOrder other rows shown) is
     (subst (λ (sort : Sort). IsInOrder sort rows shown) same order)
+
+-- the rows of a page stand for those of what the list stands for
+pub page_rows-map : {X Y : Type 0} (view : X → Y) (page : ℕ) (items : List X)
+    → map view (page_rows page items) ≡ page_rows page (map view items)
+page_rows-map view page items =
+    sym (ap (take 500) (drop-map view (500 * (page - 1)) items) ∙ take-map view 500 (drop (500 * (page - 1)) items))
+
+pub length-view : {X Y : Type 0} (view : X → Y) (items : List X) → length items ≡ length (map view items)
+length-view view items = sym (length-map items view)
 
 pub page_of : (heading : Heading) (gateways : List Gateway) (query : List ℕ) (clock : ℕ) (body : List ℕ) (view : View)
     → Views heading gateways query clock view → body ≡ html_bytes (filled view (page_nodes (page_shape view)))

@@ -1,6 +1,6 @@
 -- What is shown of gateways: the page that is kept of each (`IsShown`); and the pages are merged, selected by the query
 -- of a URL, and laid out as HTML (`IsPage`), as JSON (`json_body`) or as metrics (`metrics_body`): `IsStatusBody`.
-use Rattle.std.specs.Prelude.{◌≡◌, ℕ, Bool, true, false, List, [], length, map, Option, Some, None, Result, Ok, Err, String, codes, string_bytes}
+use Rattle.std.specs.Prelude.{◌≡◌, ℕ, Bool, true, false, List, [], length, map, filter, Option, Some, None, Result, Ok, Err, String, codes, string_bytes}
 use Rattle.std.specs.declared.alloc.Global.{Global}
 use Rattle.std.specs.Arc.{arc_value}
 use Rattle.std.specs.List.{AllZip, flat_map}
@@ -19,16 +19,18 @@ use Rattle.status_merge.specs.Asking.{asked_in, asked_by, sort_asked, page_asked
 use Rattle.status_merge.specs.Objects.{objects_on, merged, with_hosts}
 use Rattle.status_merge.specs.Selecting.{selected, page_rows}
 use Rattle.status_merge.specs.Sorting.{IsInOrder}
-use Rattle.status_merge.specs.Entries.{comment_view, comment_lines, downtime_view, downtime_lines}
+use Rattle.status_merge.specs.Entries.{comment_view, comment_lines, is_comment_among, downtime_view, downtime_lines, is_downtime_among}
 use Rattle.status_view.specs.declared.view.View.{View}
 use Rattle.status_view.specs.Shapes.{page_shape}
 use Rattle.status_view.specs.Page.{page_nodes}
+use Rattle.status_view.specs.declared.layout.EntryList.TheVariants as entries
+use Rattle.status_view.specs.EntriesPage.{entries_page_nodes}
 use Rattle.status_view.specs.Filling.{filled, html_bytes}
 use Rattle.status_export.specs.Document.{compact_text, status_document}
 use Rattle.status_export.specs.Metrics.{metrics_page}
 use Rattle.status_serving.specs.declared.headings.Heading.{Heading}
 use Rattle.status_serving.specs.declared.bodies.Form.{Form}
-use Rattle.status_serving.specs.declared.bodies.Form.TheVariants.{Html, Json, Metrics}
+use Rattle.status_serving.specs.declared.bodies.Form.TheVariants.{Html, Comments, Downtimes, Json, Metrics}
 use Rattle.page_watching.specs.declared.causes.NoPage.{NoPage}
 use Rattle.page_watching.specs.declared.watching.Seen.{Seen}
 use Rattle.page_watching.specs.Causes.{cause_of, old_cause}
@@ -89,14 +91,44 @@ pub record Views (heading : Heading) (gateways : List Gateway) (query : List ℕ
   pub rows : List MergedObject
   pub in_order : IsInOrder (sort_asked (raw_pairs query)) (asked_of gateways query) rows
   pub objects : view.objects.now ≡ page_rows (page_asked (raw_pairs query)) rows
-  pub comments : map comment_view view.comments.now ≡ comment_lines (asked_in (raw_pairs query)) gateways
-  pub downtimes : map downtime_view view.downtimes.now ≡ downtime_lines (asked_in (raw_pairs query)) gateways
+  pub comments : map comment_view view.comments.now
+      ≡ filter (is_comment_among view.objects.now) (comment_lines (asked_in (raw_pairs query)) gateways)
+  pub downtimes : map downtime_view view.downtimes.now
+      ≡ filter (is_downtime_among view.objects.now) (downtime_lines (asked_in (raw_pairs query)) gateways)
 
 -- the page for a browser at this clock
 abbrev pub IsPage : Heading → List Gateway → List ℕ → ℕ → List ℕ → Type 0
 IsPage heading gateways query clock body =
     (view : View) × Views heading gateways query clock view
     × (body ≡ html_bytes (filled view (page_nodes (page_shape view))))
+
+-- a page of a list of these gateways for a query at this clock has this beside the list
+pub record ListViews (heading : Heading) (gateways : List Gateway) (query : List ℕ) (now : ℕ) (view : View) : Type 0 where
+  pub title : view.title.now ≡ heading.title.now
+  pub clock : view.clock ≡ now
+  pub asked : asked_by view.query.now ≡ asked_in (raw_pairs query)
+  pub sort : view.query.now.sort ≡ sort_asked (raw_pairs query)
+  pub page : view.query.now.page ≡ page_asked (raw_pairs query)
+  pub seconds : view.query.now.refresh ≡ refresh_asked heading.refresh (raw_pairs query)
+  pub pages : view.gateways.now ≡ gateways
+
+-- the page of the comments on the hosts that a query asks for: 500 of them, by its number
+pub record IsCommentsPage (heading : Heading) (gateways : List Gateway) (query : List ℕ) (clock : ℕ) (body : List ℕ) : Type 0 where
+  pub view : View
+  pub views : ListViews heading gateways query clock view
+  pub all : view.selected ≡ length (comment_lines (asked_in (raw_pairs query)) gateways)
+  pub rows : map comment_view view.comments.now
+      ≡ page_rows (page_asked (raw_pairs query)) (comment_lines (asked_in (raw_pairs query)) gateways)
+  pub bytes : body ≡ html_bytes (filled view (entries_page_nodes entries.Comments (page_shape view)))
+
+-- the same of their downtime entries
+pub record IsDowntimesPage (heading : Heading) (gateways : List Gateway) (query : List ℕ) (clock : ℕ) (body : List ℕ) : Type 0 where
+  pub view : View
+  pub views : ListViews heading gateways query clock view
+  pub all : view.selected ≡ length (downtime_lines (asked_in (raw_pairs query)) gateways)
+  pub rows : map downtime_view view.downtimes.now
+      ≡ page_rows (page_asked (raw_pairs query)) (downtime_lines (asked_in (raw_pairs query)) gateways)
+  pub bytes : body ≡ html_bytes (filled view (entries_page_nodes entries.Downtimes (page_shape view)))
 
 -- the same as JSON
 abbrev pub json_body : List Gateway → List ℕ → List ℕ
@@ -110,6 +142,8 @@ metrics_body gateways = metrics_page gateways (objects_of gateways)
 -- the status of these gateways at this clock in this form
 abbrev pub IsStatusText : Heading → List Gateway → List ℕ → ℕ → Form → List ℕ → Type 0
 IsStatusText heading gateways query clock Html body = IsPage heading gateways query clock body
+IsStatusText heading gateways query clock Comments body = IsCommentsPage heading gateways query clock body
+IsStatusText heading gateways query clock Downtimes body = IsDowntimesPage heading gateways query clock body
 IsStatusText heading gateways query clock Json body = body ≡ json_body gateways query
 IsStatusText heading gateways query clock Metrics body = body ≡ metrics_body gateways
 
@@ -123,5 +157,7 @@ IsStatusBody false heading seen query clock form body = body ≡ []
 -- the type of a form
 abbrev pub status_kind : Form → List ℕ
 status_kind Html = codes "text/html; charset=utf-8"
+status_kind Comments = codes "text/html; charset=utf-8"
+status_kind Downtimes = codes "text/html; charset=utf-8"
 status_kind Json = codes "application/json"
 status_kind Metrics = codes "text/plain; version=0.0.4; charset=utf-8"

@@ -15,7 +15,7 @@ use Rattle.page_watching.specs.Watching.{seen_place}
 use Rattle.web_connections.specs.Answers.{IsSent}
 use Rattle.status_serving.specs.declared.headings.Heading.{Heading}
 use Rattle.status_serving.specs.declared.bodies.Form.{Form}
-use Rattle.status_serving.specs.declared.bodies.Form.TheVariants.{Html, Json, Metrics}
+use Rattle.status_serving.specs.declared.bodies.Form.TheVariants.{Html, Comments, Downtimes, Json, Metrics}
 use Rattle.status_serving.specs.declared.changing.ChangesForm.{ChangesForm}
 use Rattle.status_serving.specs.Pages.{IsShown, IsStatusBody, status_kind}
 use Rattle.status_serving.specs.Changing.{IsChangesBody, kind_of}
@@ -32,6 +32,8 @@ reached_code seen = if list_any is_reached seen then 200 else 503
 -- the status code of a form; the metrics say themselves who is reached
 abbrev pub status_code : List Seen → Form → ℕ
 status_code seen Html = reached_code seen
+status_code seen Comments = reached_code seen
+status_code seen Downtimes = reached_code seen
 status_code seen Json = reached_code seen
 status_code seen Metrics = 200
 

@@ -3,7 +3,7 @@
 ghost use Rattle.std.specs.Prelude.{◌≡◌, map, IfOk};
 ghost use Rattle.std.specs.List.{AllZip};
 ghost use Rattle.status_memory.specs.Memory.{age_of, old_alarm};
-ghost use Rattle.status_serving.specs.Pages.{IsPageOf, IsOldOf, since_in, IsShown, IsPage, json_body, metrics_body, IsStatusText, IsStatusBody, status_kind};
+ghost use Rattle.status_serving.specs.Pages.{IsPageOf, IsOldOf, since_in, IsShown, IsPage, IsCommentsPage, IsDowntimesPage, json_body, metrics_body, IsStatusText, IsStatusBody, status_kind};
 
 use crate::headings::Heading;
 use http::HeaderValue;
@@ -11,16 +11,20 @@ use page_watching::{NoPage, Seen, Shared, cause_of, old_cause};
 use status_export::{json_text, metrics_text};
 use status_memory::{Kept, Memory, Since};
 use status_merge::{
-    Gateway, Old, merge, merge_comments, merge_downtimes, page_rows, read_query, select, sort_rows,
+    Gateway, Old, merge, merge_comments, merge_downtimes, page_rows, read_query, retain_comments,
+    retain_downtimes, select, sort_rows,
 };
 use status_reading::StatusPage;
-use status_view::{View, html_page};
+use status_view::{EntryList, View, entries_page, html_page};
 use std::alloc::{AllocError, Global};
 
 /// In which form the status is shown.
 #[derive(Clone, Copy)]
 pub enum Form {
     Html,
+    /// All comments, and all downtime entries, as pages of their own.
+    Comments,
+    Downtimes,
     Json,
     Metrics,
 }
@@ -108,8 +112,11 @@ fn html_body(
     let mut rows = select(alloc, all.as_slice(), &query)?;
     let selected = rows.len();
     sort_rows(&mut rows, query.sort)?;
-    let comments = merge_comments(alloc, gateways, &query)?;
-    let downtimes = merge_downtimes(alloc, gateways, &query)?;
+    let objects = page_rows(rows.as_slice(), query.page);
+    let mut comments = merge_comments(alloc, gateways, &query)?;
+    retain_comments(alloc, &mut comments, objects)?;
+    let mut downtimes = merge_downtimes(alloc, gateways, &query)?;
+    retain_downtimes(alloc, &mut downtimes, objects)?;
     let view = View {
         title: heading.title,
         clock,
@@ -119,12 +126,72 @@ fn html_body(
         gateways,
         all: all.as_slice(),
         selected,
-        objects: page_rows(rows.as_slice(), query.page),
+        objects,
         comments: comments.as_slice(),
         downtimes: downtimes.as_slice(),
         changes: &[],
     };
     Ok(html_page(alloc, &view)?.into_bytes())
+}
+
+// The page of all comments.
+fn comments_body(
+    alloc: Global,
+    heading: &Heading<'_>,
+    gateways: &[Gateway<'_>],
+    query: &str,
+    clock: u32,
+) -> Result<Vec<u8>, AllocError>
+    ensures { IfOk result (λ body.
+        IsCommentsPage heading.now gateways.now query.now clock body.items) }
+{
+    let query = read_query(alloc, query, heading.refresh)?;
+    let lines = merge_comments(alloc, gateways, &query)?;
+    let view = View {
+        title: heading.title,
+        clock,
+        refresh: heading.refresh,
+        marks: false,
+        query: &query,
+        gateways,
+        all: &[],
+        selected: lines.len(),
+        objects: &[],
+        comments: page_rows(lines.as_slice(), query.page),
+        downtimes: &[],
+        changes: &[],
+    };
+    Ok(entries_page(alloc, &view, EntryList::Comments)?.into_bytes())
+}
+
+// The page of all downtime entries.
+fn downtimes_body(
+    alloc: Global,
+    heading: &Heading<'_>,
+    gateways: &[Gateway<'_>],
+    query: &str,
+    clock: u32,
+) -> Result<Vec<u8>, AllocError>
+    ensures { IfOk result (λ body.
+        IsDowntimesPage heading.now gateways.now query.now clock body.items) }
+{
+    let query = read_query(alloc, query, heading.refresh)?;
+    let lines = merge_downtimes(alloc, gateways, &query)?;
+    let view = View {
+        title: heading.title,
+        clock,
+        refresh: heading.refresh,
+        marks: false,
+        query: &query,
+        gateways,
+        all: &[],
+        selected: lines.len(),
+        objects: &[],
+        comments: &[],
+        downtimes: page_rows(lines.as_slice(), query.page),
+        changes: &[],
+    };
+    Ok(entries_page(alloc, &view, EntryList::Downtimes)?.into_bytes())
 }
 
 // The same for scripts.
@@ -163,6 +230,8 @@ fn status_text(
 {
     match form {
         Form::Html => html_body(alloc, heading, gateways, query, clock),
+        Form::Comments => comments_body(alloc, heading, gateways, query, clock),
+        Form::Downtimes => downtimes_body(alloc, heading, gateways, query, clock),
         Form::Json => json_body(alloc, heading, gateways, query),
         Form::Metrics => metrics_body(alloc, gateways),
     }
@@ -195,7 +264,7 @@ pub fn status_kind(form: Form) -> HeaderValue
     ensures { result.bytes ≡ status_kind form }
 {
     HeaderValue::from_static(match form {
-        Form::Html => "text/html; charset=utf-8",
+        Form::Html | Form::Comments | Form::Downtimes => "text/html; charset=utf-8",
         Form::Json => "application/json",
         Form::Metrics => "text/plain; version=0.0.4; charset=utf-8",
     })

@@ -76,7 +76,7 @@ fn status_code(seen: &[Seen<'_>], form: Form) -> StatusCode
     ensures { result ≡ status_code seen.now form }
 {
     match form {
-        Form::Html | Form::Json => reached_code(seen),
+        Form::Html | Form::Comments | Form::Downtimes | Form::Json => reached_code(seen),
         Form::Metrics => StatusCode::OK,
     }
 }

@@ -54,7 +54,8 @@ title_nodes gateways =
     (Markup (codes "<header><h1><a href=\"/\">")
     ∷ Text slot.Title
     ∷ Markup (codes "</a></h1><nav aria-label=\"Pages\"><a href=\"/\">Status</a> ")
-    ∷ Markup (codes "<a href=\"/changes\">Changes</a></nav>")
+    ∷ Markup (codes "<a href=\"/changes\">Changes</a> <a href=\"/comments\">Comments</a> ")
+    ∷ Markup (codes "<a href=\"/downtime\">Downtime</a></nav>")
     ∷ [])
     ++ each_indexed gateway_nodes gateways
     ++ (Markup (codes "</header>\n<main>\n") ∷ [])

@@ -12,4 +12,5 @@ pub mod ChangesLayout
 pub mod Page
 pub mod Filling
 pub mod OneObject
+pub mod EntriesPage
 pub mod inner

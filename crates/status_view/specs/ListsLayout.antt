@@ -101,27 +101,39 @@ entry_nodes list index row =
     ++ each_indexed (origin_nodes list index) row.ids
     ++ (Markup (codes "</td></tr>\n") ∷ [])
 
--- the title of a list, and the head of its table
-unfoldable pub list_head : EntryList → List NodeView
-list_head Comments =
-    Markup (codes "<table><caption><h2>Comments</h2></caption><thead><tr><th scope=\"col\">Object</th>")
+-- the title of a list
+unfoldable pub list_title : EntryList → List NodeView
+list_title Comments = Markup (codes "<table><caption><h2>Comments</h2>") ∷ []
+list_title Downtimes = Markup (codes "<table><caption><h2>Downtime</h2>") ∷ []
+
+-- how many of its rows are shown of how many, or that those of the objects above are
+unfoldable pub extent_nodes : Option ℕ → ℕ → List NodeView
+extent_nodes None shown = Markup (codes "of the objects above") ∷ []
+extent_nodes (Some all) shown = Number shown ∷ Markup (codes " of ") ∷ Number all ∷ Markup (codes " shown") ∷ []
+
+-- the first columns of its table
+unfoldable pub list_columns : EntryList → List NodeView
+list_columns Comments =
+    Markup (codes "</caption><thead><tr><th scope=\"col\">Object</th>")
     ∷ Markup (codes "<th scope=\"col\">Source</th><th scope=\"col\">Time</th>")
     ∷ []
-list_head Downtimes =
-    Markup (codes "<table><caption><h2>Downtime</h2></caption><thead><tr><th scope=\"col\">Object</th>")
+list_columns Downtimes =
+    Markup (codes "</caption><thead><tr><th scope=\"col\">Object</th>")
     ∷ Markup (codes "<th scope=\"col\">Kind</th><th scope=\"col\">Window</th><th scope=\"col\">Began</th>")
     ∷ []
 
--- the list
-unfoldable pub entries_table : EntryList → List EntryShapeView → List NodeView
-entries_table list rows =
-    list_head list
+-- the list, of so many rows in all, or of those of the objects above
+unfoldable pub entries_table : EntryList → Option ℕ → List EntryShapeView → List NodeView
+entries_table list all rows =
+    list_title list
+    ++ extent_nodes all (length rows)
+    ++ list_columns list
     ++ (Markup (codes "<th scope=\"col\">Author</th><th scope=\"col\">Text</th>")
     ∷ Markup (codes "<th scope=\"col\">Id</th></tr></thead><tbody>\n")
     ∷ [])
     ++ each_indexed (entry_nodes list) rows
     ++ (Markup (codes "</tbody></table>\n") ∷ [])
 
--- nothing where there is no entry
+-- those of the objects above; nothing where there is no entry
 unfoldable pub entries_nodes : EntryList → List EntryShapeView → List NodeView
-entries_nodes list rows = nodes_if (not (length rows == 0)) (entries_table list rows)
+entries_nodes list rows = nodes_if (not (length rows == 0)) (entries_table list None rows)

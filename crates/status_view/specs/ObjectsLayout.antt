@@ -165,23 +165,23 @@ objects_table sort several rows =
     ++ each_indexed (object_nodes several) rows
     ++ (Markup (codes "</tbody></table>\n") ∷ [])
 
--- the link to a page of this number; the page that is shown has none
-unfoldable pub number_nodes : ℕ → ℕ → List NodeView
-number_nodes shown page =
+-- the link to a page of this number of the list at a path; the page that is shown has none
+unfoldable pub number_nodes : List ℕ → ℕ → ℕ → List NodeView
+number_nodes path shown page =
     if page == shown
     then Markup (codes " <b aria-current=\"page\">") ∷ Number page ∷ Markup (codes "</b>") ∷ []
-    else Markup (codes " <a href=\"/?") ∷ Text (slot.Query page) ∷ Markup (codes "\">") ∷ Number page ∷ Markup (codes "</a>") ∷ []
+    else Markup (codes " <a href=\"") ∷ Markup path ∷ Markup (codes "?") ∷ Text (slot.Query page) ∷ Markup (codes "\">") ∷ Number page ∷ Markup (codes "</a>") ∷ []
 
--- the links to the pages of so many objects, 500 on each, from 1 to that of the last object
-unfoldable pub numbers_nodes : ℕ → ℕ → List NodeView
-numbers_nodes shown count =
+-- the links to the pages of so many rows, 500 on each, from 1 to that of the last row
+unfoldable pub numbers_nodes : List ℕ → ℕ → ℕ → List NodeView
+numbers_nodes path shown count =
     (Markup (codes "<nav class=\"pages\" aria-label=\"Rows\">") ∷ Number count ∷ Markup (codes " selected, page") ∷ [])
-    ++ flat_map (number_nodes shown) (range_with_len 1 ((count - 1) / 500 + 1))
+    ++ flat_map (number_nodes path shown) (range_with_len 1 ((count - 1) / 500 + 1))
     ++ (Markup (codes "</nav>\n") ∷ [])
 
 -- nothing where one page has them all
-unfoldable pub pages_nodes : ℕ → ℕ → List NodeView
-pages_nodes shown count = nodes_if (nat_lt 500 count) (numbers_nodes shown count)
+unfoldable pub pages_nodes : List ℕ → ℕ → ℕ → List NodeView
+pages_nodes path shown count = nodes_if (nat_lt 500 count) (numbers_nodes path shown count)
 
 -- the link to the same rows on a page where they can be marked, where there is one
 unfoldable pub to_marks_nodes : Bool → ℕ → List NodeView
@@ -201,4 +201,4 @@ objects_nodes shape =
     ++ to_marks_nodes shape.marks shape.page
     ++ (Markup (codes "</caption>\n") ∷ [])
     ++ objects_table (Some shape.sort) (nat_lt 1 (length shape.gateways)) shape.objects
-    ++ pages_nodes shape.page shape.selected
+    ++ pages_nodes (codes "/") shape.page shape.selected

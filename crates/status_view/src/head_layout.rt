@@ -112,7 +112,8 @@ pub fn lay_out_title(layout: &mut Layout, gateways: &[GatewayShape]) -> Result<(
         Node::Markup("<header><h1><a href=\"/\">"),
         Node::Slot(Slot::Title),
         Node::Markup("</a></h1><nav aria-label=\"Pages\"><a href=\"/\">Status</a> "),
-        Node::Markup("<a href=\"/changes\">Changes</a></nav>"),
+        Node::Markup("<a href=\"/changes\">Changes</a> <a href=\"/comments\">Comments</a> "),
+        Node::Markup("<a href=\"/downtime\">Downtime</a></nav>"),
     ])?;
     lay_out_gateways(layout, gateways)?;
     layout.put(&[Node::Markup("</header>\n<main>\n")])

@@ -4,6 +4,7 @@
 //! given no text. `fill` puts the texts into the slots that it left.
 #![tactic(auto)]
 
+mod all_entries;
 mod asked_layout;
 mod calendar;
 mod changes;
@@ -21,9 +22,11 @@ mod summary_layout;
 mod times;
 mod view;
 
+pub use all_entries::entries_page;
 pub use changes::{changes_feed, changes_page};
 pub use filling::{performance_of, words_of};
 pub use html::html_page;
+pub use layout::EntryList;
 pub use links::{ObjectName, object_link, read_object_name};
 pub use one_object::{ObjectAsked, object_page};
 pub use style::STYLE;

@@ -3,7 +3,7 @@
 ghost use Rattle.std.specs.Prelude.{◌≡◌, ◌++◌, map, OnOk};
 ghost use Rattle.status_view.specs.Layout.{nodes_if, each_indexed};
 ghost use Rattle.status_view.specs.Shapes.{entry_shape_view};
-ghost use Rattle.status_view.specs.ListsLayout.{comment_nodes, duration_nodes, window_nodes, ago_nodes, began_nodes, entry_marks_nodes, entry_name_nodes, words_nodes, origin_nodes, entry_nodes, list_head, entries_table, entries_nodes};
+ghost use Rattle.status_view.specs.ListsLayout.{comment_nodes, duration_nodes, window_nodes, ago_nodes, began_nodes, entry_marks_nodes, entry_name_nodes, words_nodes, origin_nodes, entry_nodes, list_title, extent_nodes, list_columns, entries_table, entries_nodes};
 
 use crate::layout::{EntryList, EntryText, Layout, Node, Slot};
 use crate::shape::{CommentMarks, DowntimeMarks, EntryMarks, EntryShape};
@@ -192,21 +192,42 @@ fn lay_out_rows(layout: &mut Layout, list: EntryList, rows: &[EntryShape]) -> Re
     Ok(())
 }
 
-#[tactic(auto, unfolding(crate::specs::ListsLayout::list_head))]
-fn lay_out_list_head(layout: &mut Layout, list: EntryList) -> Result<(), AllocError>
-    ensures { OnOk result (layout.new ≡ layout.old ++ list_head list) }
+#[tactic(auto, unfolding(crate::specs::ListsLayout::list_title))]
+fn lay_out_list_title(layout: &mut Layout, list: EntryList) -> Result<(), AllocError>
+    ensures { OnOk result (layout.new ≡ layout.old ++ list_title list) }
+{
+    match list {
+        EntryList::Comments => { layout.put(&[Node::Markup("<table><caption><h2>Comments</h2>")]) }
+        EntryList::Downtimes => { layout.put(&[Node::Markup("<table><caption><h2>Downtime</h2>")]) }
+    }
+}
+
+#[tactic(auto, unfolding(crate::specs::ListsLayout::extent_nodes))]
+fn lay_out_extent(layout: &mut Layout, all: Option<usize>, shown: usize) -> Result<(), AllocError>
+    ensures { OnOk result (layout.new ≡ layout.old ++ extent_nodes all shown) }
+{
+    match all {
+        None => layout.put(&[Node::Markup("of the objects above")]),
+        Some(all) => layout.put(&[
+            Node::Number(shown as u64),
+            Node::Markup(" of "),
+            Node::Number(all as u64),
+            Node::Markup(" shown"),
+        ]),
+    }
+}
+
+#[tactic(auto, unfolding(crate::specs::ListsLayout::list_columns))]
+fn lay_out_list_columns(layout: &mut Layout, list: EntryList) -> Result<(), AllocError>
+    ensures { OnOk result (layout.new ≡ layout.old ++ list_columns list) }
 {
     match list {
         EntryList::Comments => layout.put(&[
-            Node::Markup(
-                "<table><caption><h2>Comments</h2></caption><thead><tr><th scope=\"col\">Object</th>",
-            ),
+            Node::Markup("</caption><thead><tr><th scope=\"col\">Object</th>"),
             Node::Markup("<th scope=\"col\">Source</th><th scope=\"col\">Time</th>"),
         ]),
         EntryList::Downtimes => layout.put(&[
-            Node::Markup(
-                "<table><caption><h2>Downtime</h2></caption><thead><tr><th scope=\"col\">Object</th>",
-            ),
+            Node::Markup("</caption><thead><tr><th scope=\"col\">Object</th>"),
             Node::Markup(
                 "<th scope=\"col\">Kind</th><th scope=\"col\">Window</th><th scope=\"col\">Began</th>",
             ),
@@ -214,15 +235,19 @@ fn lay_out_list_head(layout: &mut Layout, list: EntryList) -> Result<(), AllocEr
     }
 }
 
-fn lay_out_table(
+/// Appends a list of so many entries in all, or of those of the objects above.
+pub fn lay_out_entries_table(
     layout: &mut Layout,
     list: EntryList,
+    all: Option<usize>,
     rows: &[EntryShape],
 ) -> Result<(), AllocError>
     ensures { OnOk result (layout.new
-        ≡ layout.old ++ entries_table list (map entry_shape_view rows.now)) }
+        ≡ layout.old ++ entries_table list all (map entry_shape_view rows.now)) }
 {
-    lay_out_list_head(layout, list)?;
+    lay_out_list_title(layout, list)?;
+    lay_out_extent(layout, all, rows.len())?;
+    lay_out_list_columns(layout, list)?;
     layout.put(&[
         Node::Markup("<th scope=\"col\">Author</th><th scope=\"col\">Text</th>"),
         Node::Markup("<th scope=\"col\">Id</th></tr></thead><tbody>\n"),
@@ -231,7 +256,7 @@ fn lay_out_table(
     layout.put(&[Node::Markup("</tbody></table>\n")])
 }
 
-/// Appends a list of entries.
+/// Appends the entries of the objects above.
 #[tactic(auto, unfolding(crate::specs::ListsLayout::entries_nodes))]
 pub fn lay_out_entries(
     layout: &mut Layout,
@@ -244,6 +269,6 @@ pub fn lay_out_entries(
     if rows.is_empty() {
         Ok(())
     } else {
-        lay_out_table(layout, list, rows)
+        lay_out_entries_table(layout, list, None, rows)
     }
 }

@@ -285,8 +285,13 @@ pub fn lay_out_table(
 }
 
 #[tactic(auto, unfolding(crate::specs::ObjectsLayout::number_nodes))]
-fn lay_out_number(layout: &mut Layout, shown: u32, page: usize) -> Result<(), AllocError>
-    ensures { OnOk result (layout.new ≡ layout.old ++ number_nodes shown page) }
+fn lay_out_number(
+    layout: &mut Layout,
+    path: &'static str,
+    shown: u32,
+    page: usize,
+) -> Result<(), AllocError>
+    ensures { OnOk result (layout.new ≡ layout.old ++ number_nodes path.now shown page) }
 {
     if page == shown as usize {
         layout.put(&[
@@ -296,7 +301,9 @@ fn lay_out_number(layout: &mut Layout, shown: u32, page: usize) -> Result<(), Al
         ])
     } else {
         layout.put(&[
-            Node::Markup(" <a href=\"/?"),
+            Node::Markup(" <a href=\""),
+            Node::Markup(path),
+            Node::Markup("?"),
             Node::Slot(Slot::Query(page)),
             Node::Markup("\">"),
             Node::Number(page as u64),
@@ -305,35 +312,51 @@ fn lay_out_number(layout: &mut Layout, shown: u32, page: usize) -> Result<(), Al
     }
 }
 
-fn lay_out_numbers(layout: &mut Layout, shown: u32, count: usize) -> Result<(), AllocError>
-    ensures { OnOk result
-        (layout.new ≡ layout.old ++ flat_map (number_nodes shown) (range_with_len 1 count)) }
+fn lay_out_numbers(
+    layout: &mut Layout,
+    path: &'static str,
+    shown: u32,
+    count: usize,
+) -> Result<(), AllocError>
+    ensures { OnOk result (layout.new
+        ≡ layout.old ++ flat_map (number_nodes path.now shown) (range_with_len 1 count)) }
 {
     for index in 0..count {
-        lay_out_number(layout, shown, index + 1)?;
+        lay_out_number(layout, path, shown, index + 1)?;
     }
     Ok(())
 }
 
-fn lay_out_all_numbers(layout: &mut Layout, shown: u32, count: usize) -> Result<(), AllocError>
+fn lay_out_all_numbers(
+    layout: &mut Layout,
+    path: &'static str,
+    shown: u32,
+    count: usize,
+) -> Result<(), AllocError>
     requires { 500 < count }
-    ensures { OnOk result (layout.new ≡ layout.old ++ numbers_nodes shown count) }
+    ensures { OnOk result (layout.new ≡ layout.old ++ numbers_nodes path.now shown count) }
 {
     layout.put(&[
         Node::Markup("<nav class=\"pages\" aria-label=\"Rows\">"),
         Node::Number(count as u64),
         Node::Markup(" selected, page"),
     ])?;
-    lay_out_numbers(layout, shown, (count - 1) / 500 + 1)?;
+    lay_out_numbers(layout, path, shown, (count - 1) / 500 + 1)?;
     layout.put(&[Node::Markup("</nav>\n")])
 }
 
+/// Appends the links to the pages of a list of so many rows, of which this one is shown.
 #[tactic(auto, unfolding(crate::specs::ObjectsLayout::pages_nodes))]
-fn lay_out_pages(layout: &mut Layout, shown: u32, count: usize) -> Result<(), AllocError>
-    ensures { OnOk result (layout.new ≡ layout.old ++ pages_nodes shown count) }
+pub fn lay_out_pages(
+    layout: &mut Layout,
+    path: &'static str,
+    shown: u32,
+    count: usize,
+) -> Result<(), AllocError>
+    ensures { OnOk result (layout.new ≡ layout.old ++ pages_nodes path.now shown count) }
 {
     if count > 500 {
-        lay_out_all_numbers(layout, shown, count)
+        lay_out_all_numbers(layout, path, shown, count)
     } else {
         Ok(())
     }
@@ -375,5 +398,5 @@ pub fn lay_out_objects(layout: &mut Layout, shape: &PageShape) -> Result<(), All
     lay_out_to_marks(layout, shape.marks, shape.page)?;
     layout.put(&[Node::Markup("</caption>\n")])?;
     lay_out_table(layout, rows, Some(shape.sort), several)?;
-    lay_out_pages(layout, shape.page, shape.selected)
+    lay_out_pages(layout, "/", shape.page, shape.selected)
 }

@@ -15,7 +15,7 @@ use Rattle.page_watching.specs.declared.places.Place.{Place}
 use Rattle.web_connections.specs.Answers.{IsKept, IsRefusal, IsDated}
 use Rattle.web_connections.specs.Hosts.{answers_host}
 use Rattle.status_serving.specs.declared.headings.Heading.{Heading}
-use Rattle.status_serving.specs.declared.bodies.Form.TheVariants.{Html, Json, Metrics}
+use Rattle.status_serving.specs.declared.bodies.Form.TheVariants.{Html, Comments, Downtimes, Json, Metrics}
 use Rattle.status_serving.specs.declared.changing.ChangesForm.TheVariants as changes
 use Rattle.status_serving.specs.Methods.{body_asked}
 use Rattle.status_serving.specs.Sending.{IsStatusOf, AreChangesOf, IsObjectOf}
@@ -26,6 +26,8 @@ use Rattle.statusweb.specs.declared.service.Route.TheVariants.{Status, Object, C
 abbrev pub route_of : List ℕ → Option Route
 route_of path =
     if bytes_eq path (codes "/") then Some (Status Html)
+    else if bytes_eq path (codes "/comments") then Some (Status Comments)
+    else if bytes_eq path (codes "/downtime") then Some (Status Downtimes)
     else if bytes_eq path (codes "/object") then Some Object
     else if bytes_eq path (codes "/status.json") then Some (Status Json)
     else if bytes_eq path (codes "/metrics") then Some (Status Metrics)

@@ -31,6 +31,10 @@ fn route_of(path: &str) -> Option<Route>
 {
     if path == "/" {
         Some(Route::Status(Form::Html))
+    } else if path == "/comments" {
+        Some(Route::Status(Form::Comments))
+    } else if path == "/downtime" {
+        Some(Route::Status(Form::Downtimes))
     } else if path == "/object" {
         Some(Route::Object)
     } else if path == "/status.json" {

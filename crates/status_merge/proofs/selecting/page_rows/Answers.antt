@@ -3,6 +3,6 @@ use Rattle.status_merge.proofs.SelectingSteps.{sliced}
 use Rattle.status_merge.proofs.selecting.page_rows.Goals as goal
 
 pub returns : goal.returns
-returns c =
+returns g c =
     rw (c.min.ensures, c.min-first.ensures, c.saturating_sub.ensures)
-    (sliced c.args.selected.now (500 * (c.args.page - 1)) 500)
+    (sliced c.args.rows.now (500 * (c.args.page - 1)) 500)
