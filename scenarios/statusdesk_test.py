@@ -104,6 +104,7 @@ ADMITTED = [
 ASKED = [
     ("GET", "/", "", 200), ("HEAD", "/", "", 200), ("POST", "/", "ann", 405), ("GET", "/nothing", "", 404),
     ("GET", "/style.css", "", 200), ("GET", "/status.json", "", 200), ("GET", "/metrics", "", 200), ("GET", "/changes", "", 200),
+    ("GET", "/comments", "", 200), ("GET", "/downtime", "", 200),
     ("POST", "/object?host=web1", "ann", 405), ("GET", "/object?host=web1", "ann", 200), ("GET", "/object?host=web1", "", 403),
     ("GET", "/object?host=web1", "carol", 403), ("GET", "/object?host=web2", "ann", 404), ("GET", "/object?", "ann", 404),
     ("GET", "/command?action=comment&host=web1&text=x", "ann", 405),

@@ -11,7 +11,7 @@ use Rattle.gate_grammar.specs.Numbers.{number_of}
 use Rattle.status_view.specs.declared.style.TheConstants.{STYLE}
 use Rattle.web_connections.specs.Answers.{IsSent, IsKept, IsRefusal, IsDated}
 use Rattle.web_connections.specs.Hosts.{answers_host}
-use Rattle.status_serving.specs.declared.bodies.Form.TheVariants.{Html, Json, Metrics}
+use Rattle.status_serving.specs.declared.bodies.Form.TheVariants.{Html, Comments, Downtimes, Json, Metrics}
 use Rattle.status_serving.specs.declared.changing.ChangesForm.TheVariants as changes
 use Rattle.status_serving.specs.Methods.{body_asked}
 use Rattle.status_serving.specs.Sending.{IsStatusOf, AreChangesOf}
@@ -42,6 +42,8 @@ use Rattle.statusdesk.specs.Marking.{IsCommandsAnswer}
 abbrev pub route_of : List ℕ → Option Route
 route_of path =
     if bytes_eq path (codes "/") then Some (Status Html)
+    else if bytes_eq path (codes "/comments") then Some (Status Comments)
+    else if bytes_eq path (codes "/downtime") then Some (Status Downtimes)
     else if bytes_eq path (codes "/status.json") then Some (Status Json)
     else if bytes_eq path (codes "/metrics") then Some (Status Metrics)
     else if bytes_eq path (codes "/changes") then Some (Changes changes.Html)

@@ -48,6 +48,10 @@ fn route_of(path: &str) -> Option<Route>
 {
     if path == "/" {
         Some(Route::Status(Form::Html))
+    } else if path == "/comments" {
+        Some(Route::Status(Form::Comments))
+    } else if path == "/downtime" {
+        Some(Route::Status(Form::Downtimes))
     } else if path == "/status.json" {
         Some(Route::Status(Form::Json))
     } else if path == "/metrics" {
