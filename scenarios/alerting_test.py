@@ -253,6 +253,7 @@ def play(programs, example):
     for name, gateway in (("GatewayDown", "east"), ("PageOld", "east"), ("PageStandsStill", "west")):
         goes(name, gateway)
     play_statusweb(programs, east, comes, goes)
+    play_lost_results(programs, east, comes, goes)
     east.restart(EAST.split("[[host.service]]", maxsplit=1)[0])
     comes("FewerObjects", "east", to="/operators", summary="fewer objects than an hour ago: 1")
     goes("FewerObjects", "east")
@@ -301,6 +302,18 @@ def play_statusweb(programs, east, comes, goes):
     check("a problem stays while statusweb is gone", programs.receiver.last["HostProblem", "east", "web1", ""][0], "firing")
     programs.start_statusweb()
     goes("StatuswebGone", service=instance)
+    east.send("PROCESS_HOST_CHECK_RESULT;web1;0;up")
+    goes("HostProblem", "east", "web1")
+
+
+def play_lost_results(programs, east, comes, goes):
+    """Where a gateway restarts without its results, its problems stay until their next results."""
+    east.send("PROCESS_HOST_CHECK_RESULT;web1;1;no route")
+    comes("HostProblem", "east", "web1", summary="host web1 is DOWN,")
+    east.restart(EAST)
+    time.sleep(5)
+    check("a problem stays while its result is lost", programs.receiver.last["HostProblem", "east", "web1", ""][0], "firing")
+    check("and no host is silent for that", ("StaleObject", "east", "web1", "") in programs.receiver.last, False)
     east.send("PROCESS_HOST_CHECK_RESULT;web1;0;up")
     goes("HostProblem", "east", "web1")
 

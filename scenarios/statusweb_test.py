@@ -448,6 +448,90 @@ def test_since(now):
         test('the latest first', found == ['web1', 'web1/SSH', 'web1/HTTP'], found)
 
 
+def test_restarts(now):
+    """A gateway that has lost its results, as after a restart without a restore: each object is shown by its last one, as stale,
+    until its next one. For an hour at most, where its gateway doesn't call it stale."""
+    def page(moment, *rows):
+        return b'status %d\n' % moment + b''.join(
+            b'object;web1;%s;%s;%s;%s;%s;0;%s\n' % (name.encode(), state.encode(), b'-' if last is None else b'%d' % last,
+                                                   mark.encode(), acknowledgement.encode(), output.encode())
+            for name, state, last, mark, acknowledgement, output in rows)
+
+    def row(name, state, last, mark='fresh', acknowledgement='-', output='x'):
+        return name, state, last, mark, acknowledgement, output
+
+    def lost(*names, mark='fresh'):
+        return [row(name, 'PENDING', None, mark, output='') for name in names]
+    host, http, ssh = row('', 'DOWN', now - 60), row('HTTP', 'CRITICAL', now - 30, 'fresh', 'sticky', 'timeout'), row('SSH', 'OK', now - 20)
+    names = ['', 'HTTP', 'SSH', 'new']
+    # What is shown of the four objects: the state, and whether it is stale, which 'new' never is; and the moment since when.
+    problem = [('DOWN', now), ('CRITICAL', now), ('OK', now)]
+    steps = [
+        ('at first', page(now, host, http, ssh, *lost('new')), problem + [('PENDING', now)], []),
+        ('without results', page(now + 1, *lost(*names)), problem + [('PENDING', now)], ['', 'HTTP', 'SSH']),
+        ('with one result', page(now + 2, row('', 'DOWN', now + 2), *lost(*names[1:])), problem + [('PENDING', now)], ['HTTP', 'SSH']),
+        ('without results again', page(now + 3, *lost(*names)), problem + [('PENDING', now)], ['', 'HTTP', 'SSH']),
+        ('with all results', page(now + 4, row('', 'DOWN', now + 3), row('HTTP', 'CRITICAL', now + 4), row('SSH', 'OK', now + 4),
+                                  row('new', 'OK', now + 4)), problem + [('OK', now + 4)], []),
+    ]
+    text = [steps[0][1]]
+    gateway = shows(lambda: text[0])
+    with Web(('east', gateway.port)) as web:
+        for name, text[0], wanted, stale in steps:
+            count = gateway.count
+            soon(lambda: gateway.count >= count + 2)
+            read = web.json()['objects']
+            found = {row['service'] or '': row for row in read}
+            test(f'states and since when, {name}', [(found[name]['state'], found[name]['since']) for name in names] == wanted, read)
+            test(f'what is stale, {name}', sorted(name for name in names if found[name]['stale']) == stale, read)
+            test(f'at least since then, {name}', all(found[name]['since_at_least'] for name in names[:3]), read)
+            samples = samples_of(web.text('/metrics'))
+            problems = sorted(dict(key[1])['service'] for key in samples if key[0] == 'nscagate_problem')
+            test(f'problems stay in the metrics, {name}', problems == ['', 'HTTP'], samples)
+            test(f'stale objects are counted, {name}', samples['nscagate_objects_stale', ()] == len(stale)
+                 and not any(key[0] == 'nscagate_stale' for key in samples), samples)
+            rows = {row[1]: row[0] for row in Tags(web.text('/')).rows if row}
+            test(f'on the page, {name}', [rows[shown] for shown in ['web1', 'web1 / HTTP', 'web1 / SSH', 'web1 / new']]
+                 == [state for state, _ in wanted], rows)
+            object_page = Tags(web.text('/object?host=web1&service=HTTP')).text
+            test(f'on the page of an object, {name}', 'CRITICAL' in object_page and 'PENDING' not in object_page, object_page)
+            test(f'no change, {name}', web.text('/changes.json') == b'', web.text('/changes.json'))
+            if name == 'without results':
+                http_row = found['HTTP']
+                test('a row by its last result', (http_row['last'], http_row['acknowledgement'], http_row['output'])
+                     == (now - 30, 'sticky', 'timeout'), http_row)
+        text[0] = page(now + 5, *lost(*names))
+        count = gateway.count
+        soon(lambda: gateway.count >= count + 2)
+        text[0] = page(now + 6, row('', 'UP', now + 6), row('HTTP', 'WARNING', now + 6), *lost(*names[2:]))
+        soon(lambda: web.text('/changes.json'))
+        changes = [json.loads(line) for line in web.text('/changes.json').splitlines()]
+        test('a change is from the last result', sorted((change['service'] or '', change['from'], change['to'], change['moment'])
+             for change in changes) == [('', 'DOWN', 'UP', now + 6), ('HTTP', 'CRITICAL', 'WARNING', now + 6)], changes)
+
+    # An hour, of which all but the last seconds lie before: pages of another time are taken in too, with an alarm.
+    first = now - 3590
+    steps = [(first - 100, [row('', 'DOWN', first - 200)], None), (first, lost(''), None),
+             (now, lost(''), ('DOWN', first - 100, True, False)), (first + 3599, lost(''), ('DOWN', first - 100, True, False)),
+             (first + 3600, lost(''), ('PENDING', first, False, False)),
+             (first + 3601, lost('', mark='stale'), ('DOWN', first - 100, True, True)),
+             (first + 3602, [row('', 'DOWN', first + 3602)], ('DOWN', first - 100, False, False))]
+    text = [page(steps[0][0], *steps[0][1])]
+    gateway = shows(lambda: text[0])
+    with Web(('east', gateway.port)) as web:
+        for moment, rows, wanted in steps:
+            text[0] = page(moment, *rows)
+            count = gateway.count
+            soon(lambda: gateway.count >= count + 2)
+            if wanted:
+                read = web.json()['objects'][0]
+                samples = samples_of(web.text('/metrics'))
+                is_named = any(key[0] == 'nscagate_stale' for key in samples)
+                test(f'{moment - first} s after the first page without a result',
+                     (read['state'], read['since'], read['stale'], is_named) == wanted, (read, samples))
+        test('no change in all that time', web.text('/changes.json') == b'', web.text('/changes.json'))
+
+
 # The page and the feed of one change, with its moment in place of AT and SECONDS.
 CHANGES = '''\
 <!DOCTYPE html>
@@ -1291,7 +1375,7 @@ def main():
             test(check.__name__, False, repr(error))
     at_once(*[lambda check=check: run(check) for check in [test_words, test_pages, test_names]], *[
         lambda check=check: run(check, int(time.time())) for check in [
-            test_texts, test_faults, test_places, test_old, test_clocks, test_since, test_changes, test_links, test_other_objects, test_tiles, test_filters, test_form, test_rows, test_entries, test_sharing,
+            test_texts, test_faults, test_places, test_old, test_clocks, test_since, test_restarts, test_changes, test_links, test_other_objects, test_tiles, test_filters, test_form, test_rows, test_entries, test_sharing,
             test_descriptors, test_ends, test_requests, test_style, test_missing_objects, test_browser]])
     # What takes the processors for itself.
     run(test_idle_browsers, int(time.time()))

@@ -71,14 +71,14 @@ over : (begin : List ℕ) (moment past : ℕ) → place_after InText begin ≡ I
 unfolding over_nodes
 over begin moment past is = simp (joined, is, instant InDouble (codes " ") past refl, span InText (moment - past))
 
-since_as : (moment past : ℕ) (at_least : Bool)
-    → run InText (since_nodes moment (record { moment = past; at_least = at_least })) ≡ Some InText
+since_as : (moment past : ℕ) (at_least is_held : Bool)
+    → run InText (since_nodes moment (record { moment = past; at_least = at_least; is_held = is_held })) ≡ Some InText
 unfolding since_nodes
-since_as moment past true = over (codes "<td class=\"num cell\" data-name=\"since\" title=\"") moment past refl
-since_as moment past false = ago (codes "<td class=\"num cell\" data-name=\"since\" title=\"") moment past refl
+since_as moment past true is_held = over (codes "<td class=\"num cell\" data-name=\"since\" title=\"") moment past refl
+since_as moment past false is_held = ago (codes "<td class=\"num cell\" data-name=\"since\" title=\"") moment past refl
 
 since : (moment : ℕ) (past : SinceWhen) → run InText (since_nodes moment past) ≡ Some InText
-since moment past = since_as moment past.moment past.at_least
+since moment past = since_as moment past.moment past.at_least past.is_held
 
 age : (moment : ℕ) (last : Option ℕ) → run InText (age_nodes moment last) ≡ Some InText
 unfolding age_nodes

@@ -4,6 +4,7 @@ use Rattle.std.specs.Prelude.{◌≡◌, ℕ, ◌⊎◌, List, ◌∷◌, length
 use Rattle.std.specs.declared.alloc.Global.{Global}
 use Rattle.std.specs.declared.sync.Arc.{Arc}
 use Rattle.std.specs.Arc.{arc_value}
+use Rattle.std.specs.Option.{option_map}
 use Rattle.circular_buffer.specs.Buffer.{keep_last}
 use Rattle.status_reading.specs.Rows.{PageView}
 use Rattle.status_reading.specs.Faults.{IsFaultOf}
@@ -12,7 +13,7 @@ use Rattle.status_memory.specs.declared.memory.Page.{Page}
 use Rattle.status_memory.specs.declared.memory.Fetch.{Fetch}
 use Rattle.status_memory.specs.declared.memory.Kept.{Kept}
 use Rattle.status_memory.specs.declared.memory.Memory.{Memory}
-use Rattle.status_memory.specs.History.{HistoryView, since_of, changes_of, change_view, is_other_in, IsHistoryOf}
+use Rattle.status_memory.specs.History.{HistoryView, shown_row, shown_rows, shown_since, changes_of, change_view, result_view, is_other_in, IsHistoryOf}
 use Rattle.page_watching.specs.declared.places.Place.{Place}
 use Rattle.page_fetching.specs.declared.fetching.FetchFault.{FetchFault}
 use Rattle.page_watching.specs.declared.causes.NoPage.{NoPage}
@@ -60,9 +61,12 @@ pub record IsFetchOf (fetched : Result (List ℕ) FetchFault) (now : ℕ) (fetch
 
 -- ---- what the history takes in
 
--- beside the text of a page, after these pages: since when each of its objects has its state, and the last 1,000 changes
+-- beside the text of a page, after these pages: the earlier results by which its objects are shown, since when each has the
+-- state that is shown, and the last 1,000 changes
 pub record Notes (before : List PageView) (page : PageView) (contents : Contents) : Type 0 where
-  pub since : contents.since.items ≡ map (since_of before page.moment) page.objects
+  pub shown : shown_rows page.objects (map (option_map result_view) contents.held.items)
+      ≡ map (shown_row before page.moment) page.objects
+  pub since : contents.since.items ≡ map (shown_since before page.moment) page.objects
   pub changes : map change_view contents.changes.items ≡ keep_last 1000 (changes_of (page ∷ before))
 
 -- after these pages the history is that of them and the page that a text is

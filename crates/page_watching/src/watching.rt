@@ -9,7 +9,7 @@ ghost use Rattle.page_watching.specs.Watching.{IsObserved, LeavesHistory, text_o
 use crate::causes::NoPage;
 use crate::places::Place;
 use page_fetching::{Fetched, fetch};
-use status_memory::{Fetch, History, Kept, Memory, Page, Since, StateChange};
+use status_memory::{Fetch, History, Kept, Memory, Page, ShownResult, Since, StateChange};
 use status_reading::{PageText, ReadFault, read_status_page};
 use std::alloc::{AllocError, Global};
 use std::net::{Net, TcpListener, TcpStream};
@@ -22,8 +22,10 @@ use std::time::{Clock, Duration, SystemTime};
 #[derive(Drop)]
 pub struct Contents {
     pub text: PageText,
-    /// Since when each of its objects has its state, in the order of its rows.
+    /// Since when each of its objects has the state by which it is shown, in the order of its rows.
     pub since: Vec<Since>,
+    /// Of each of its objects the earlier result by which it is shown, if it is; empty where none is.
+    pub held: Vec<Option<ShownResult>>,
     /// The last changes of states, the oldest first.
     pub changes: Vec<StateChange>,
 }
@@ -80,10 +82,12 @@ fn page_in(alloc: Global, history: &mut History, text: Vec<u8>) -> Result<Page<S
     drop(page);
     let is_other = history.is_other();
     let since = history.since(alloc)?;
+    let held = history.held(alloc)?;
     let changes = history.changes(alloc)?;
     let contents = Contents {
         text: PageText { bytes: text },
         since,
+        held,
         changes,
     };
     match Arc::new(alloc, contents) {

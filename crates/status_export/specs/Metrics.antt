@@ -1,6 +1,6 @@
 -- The metrics of gateways and of their objects: `metrics_page` is the text. Own rules: the names, the help texts, the
 -- labels and their order.
-use Rattle.std.specs.Prelude.{ℕ, Bool, ◌&&◌, nat_lt, if◌then◌else◌, List, [], ◌∷◌, ◌++◌, length, map, Ok, Err, is_some, is_none, is_ok, codes}
+use Rattle.std.specs.Prelude.{ℕ, Bool, ◌&&◌, not, nat_lt, if◌then◌else◌, List, [], ◌∷◌, ◌++◌, length, map, Ok, Err, is_some, is_none, is_ok, codes}
 use Rattle.std.specs.List.{flat_map}
 use Rattle.std.specs.Int.{from_bool}
 use Rattle.gate_model.specs.declared.state.State.{State}
@@ -199,9 +199,9 @@ problem_gauge objects = record {
   samples = flat_map problem_samples objects;
 }
 
--- none where the object is fresh
+-- none where the object is fresh, and where it is stale for the sole reason that it is shown by an earlier result
 abbrev pub stale_samples : MergedObject → List Sample
-stale_samples object = if object.row.stale then object_sample object ∷ [] else []
+stale_samples object = if object.row.stale && not object.since.is_held then object_sample object ∷ [] else []
 
 abbrev pub stale_gauge : List MergedObject → Gauge
 stale_gauge objects = record {

@@ -382,7 +382,7 @@ fn push_stale_samples(
     ensures { OnOk result (Appends out.old.items out.new.items
         (flat_map (sample_text (codes "nscagate_stale")) (stale_samples object.now))) }
 {
-    if object.row.stale {
+    if object.row.stale && !object.since.is_held {
         push_object(alloc, out, "nscagate_stale", object)
     } else {
         Ok(())

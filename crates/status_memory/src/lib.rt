@@ -1,6 +1,6 @@
 //! What is kept of a gateway whose page is fetched again and again: its last page, when that was
 //! fetched, why a later fetch gave none, and the most objects that a page has shown; the alarms that
-//! follow; since when each object has its state, and the last 1,000 changes of states.
+//! follow; since when each object has its state, its last result, and the last 1,000 changes of states.
 #![tactic(auto)]
 
 mod alarm;
@@ -8,5 +8,5 @@ mod history;
 mod memory;
 
 pub use alarm::{Alarm, alarm_name};
-pub use history::{GatewayChange, History, Since, StateChange};
+pub use history::{GatewayChange, History, ShownResult, Since, StateChange, by_result};
 pub use memory::{Fetch, Kept, Memory, Page};

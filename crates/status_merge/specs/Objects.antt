@@ -78,7 +78,7 @@ shown_by gateway moment index row = record {
   gateway = gateway.name;
   moment = min (moment + age_of gateway) 4294967295;
   is_old = is_some gateway.old;
-  since = unwrap_or (slice_get gateway.since.now index) (record { moment = moment; at_least = true });
+  since = unwrap_or (slice_get gateway.since.now index) (record { moment = moment; at_least = true; is_held = false });
   host_is_out = false;
   row = record row { stale = row.stale || is_some gateway.old };
 }

@@ -69,6 +69,7 @@ fn shown_by<'a>(
         since: since.unwrap_or(Since {
             moment,
             at_least: true,
+            is_held: false,
         }),
         host_is_out: false,
         row: ShownObject {

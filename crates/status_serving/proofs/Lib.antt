@@ -1,3 +1,4 @@
 pub mod BodySteps
 pub mod ChangingSteps
 pub mod SendingSteps
+pub mod RowSteps

@@ -4,3 +4,4 @@ pub mod Pages
 pub mod Changing
 pub mod Naming
 pub mod Sending
+pub mod inner

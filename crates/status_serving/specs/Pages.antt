@@ -4,13 +4,15 @@ use Rattle.std.specs.Prelude.{◌≡◌, ℕ, Bool, true, false, List, [], lengt
 use Rattle.std.specs.declared.alloc.Global.{Global}
 use Rattle.std.specs.Arc.{arc_value}
 use Rattle.std.specs.List.{AllZip, flat_map}
+use Rattle.std.specs.Option.{option_map}
 use Rattle.form_urlencoded.specs.Form.{raw_pairs}
 use Rattle.status_reading.specs.declared.page.StatusPage.{StatusPage}
-use Rattle.status_reading.specs.Rows.{page_view}
+use Rattle.status_reading.specs.Rows.{PageView, page_view}
 use Rattle.status_reading.specs.Text.{IsTextOf}
 use Rattle.status_memory.specs.declared.memory.Kept.{Kept}
 use Rattle.status_memory.specs.declared.alarm.Alarm.{Alarm}
 use Rattle.status_memory.specs.declared.history.Since.{Since}
+use Rattle.status_memory.specs.History.{ResultView, result_view, shown_rows}
 use Rattle.status_memory.specs.Memory.{age_of, old_alarm, alarms_of}
 use Rattle.status_merge.specs.declared.gateway.Gateway.{Gateway}
 use Rattle.status_merge.specs.declared.gateway.Old.{Old}
@@ -38,9 +40,22 @@ use Rattle.page_watching.specs.Watching.{Shared, bytes_of}
 
 -- ---- what is kept
 
--- the page that is kept, or the cause why there is none
+-- a page, with each of its rows by the earlier result, where it has one
+abbrev pub shown_page : PageView → List (Option ResultView) → PageView
+shown_page page results = record page { objects = shown_rows page.objects results }
+
+-- the earlier results by which the objects of a page are shown
+abbrev pub held_in : Kept Shared → List (Option ResultView)
+held_in kept = map (option_map result_view) (arc_value kept.page.text).held.items
+
+-- this is the page that is kept, each object as it is shown
+abbrev pub IsShownPage : Kept Shared → PageView → Type 0
+IsShownPage kept page =
+    (fetched : PageView) × IsTextOf (bytes_of kept.page.text) fetched × (page ≡ shown_page fetched (held_in kept))
+
+-- that page, or the cause why there is none
 abbrev pub IsPageOf : Option (Kept Shared) → Option NoPage → Result StatusPage (String Global) → Type 0
-IsPageOf (Some kept) fault (Ok page) = IsTextOf (bytes_of kept.page.text) (page_view page)
+IsPageOf (Some kept) fault (Ok page) = IsShownPage kept (page_view page)
 IsPageOf (Some kept) fault (Err cause) = ⊥
 IsPageOf None fault (Ok page) = ⊥
 IsPageOf None fault (Err cause) = string_bytes cause ≡ cause_of fault
@@ -51,7 +66,7 @@ IsOldOf (Some alarm) age fault (Some old) = (old.age ≡ age) × (string_bytes o
 IsOldOf (Some alarm) age fault None = ⊥
 IsOldOf None age fault old = old ≡ None
 
--- since when each object of the page that is kept has its state
+-- since when each object of the page that is kept has the state that is shown
 abbrev pub since_in : Option (Kept Shared) → List Since
 since_in None = []
 since_in (Some kept) = (arc_value kept.page.text).since.items

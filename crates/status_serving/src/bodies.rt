@@ -2,19 +2,23 @@
 //! query, and shown.
 ghost use Rattle.std.specs.Prelude.{◌≡◌, map, IfOk};
 ghost use Rattle.std.specs.List.{AllZip};
+ghost use Rattle.std.specs.Option.{option_map};
+ghost use Rattle.status_reading.specs.Rows.{object_view, page_view};
+ghost use Rattle.status_memory.specs.History.{result_view, shown_rows};
 ghost use Rattle.status_memory.specs.Memory.{age_of, old_alarm};
-ghost use Rattle.status_serving.specs.Pages.{IsPageOf, IsOldOf, since_in, IsShown, IsPage, IsCommentsPage, IsDowntimesPage, json_body, metrics_body, IsStatusText, IsStatusBody, status_kind};
+ghost use Rattle.status_serving.specs.inner.Rows.{shown_at, each_shown};
+ghost use Rattle.status_serving.specs.Pages.{shown_page, IsShownPage, IsPageOf, IsOldOf, since_in, IsShown, IsPage, IsCommentsPage, IsDowntimesPage, json_body, metrics_body, IsStatusText, IsStatusBody, status_kind};
 
 use crate::headings::Heading;
 use http::HeaderValue;
 use page_watching::{NoPage, Seen, Shared, cause_of, old_cause};
 use status_export::{json_text, metrics_text};
-use status_memory::{Kept, Memory, Since};
+use status_memory::{Kept, Memory, ShownResult, Since, by_result};
 use status_merge::{
     Gateway, Old, merge, merge_comments, merge_downtimes, page_rows, read_query, retain_comments,
     retain_downtimes, select, sort_rows,
 };
-use status_reading::StatusPage;
+use status_reading::{ShownObject, StatusPage};
 use status_view::{EntryList, View, entries_page, html_page};
 use std::alloc::{AllocError, Global};
 
@@ -29,6 +33,90 @@ pub enum Form {
     Metrics,
 }
 
+// A row of a page, by its earlier result, where it is among these.
+fn shown_at<'t>(
+    row: &ShownObject<'t>,
+    held: &'t [Option<ShownResult>],
+    index: usize,
+) -> ShownObject<'t>
+    ensures { object_view result
+        ≡ shown_at (object_view row.now) (map (option_map result_view) held.now) index }
+{
+    match held.get(index) {
+        Some(result) => by_result(row, result),
+        None => *row,
+    }
+}
+
+fn each_shown<'t>(
+    alloc: Global,
+    rows: &[ShownObject<'t>],
+    held: &'t [Option<ShownResult>],
+) -> Result<Vec<ShownObject<'t>>, AllocError>
+    ensures { IfOk result (λ shown. map object_view shown.items
+        ≡ each_shown rows.now (map (option_map result_view) held.now)) }
+{
+    let mut shown = Vec::with_capacity(alloc, rows.len())?;
+    for (index, row) in rows.iter().enumerate() {
+        shown.push(shown_at(row, held, index))?;
+    }
+    Ok(shown)
+}
+
+// The rows of a page, each by its earlier result, where there are some.
+#[tactic(auto, using(crate::proofs::RowSteps::no_results, crate::proofs::RowSteps::each_row))]
+fn shown_rows<'t>(
+    alloc: Global,
+    rows: Vec<ShownObject<'t>>,
+    held: &'t [Option<ShownResult>],
+) -> Result<Vec<ShownObject<'t>>, AllocError>
+    ensures { IfOk result (λ shown. map object_view shown.items
+        ≡ shown_rows (map object_view rows.entry.items) (map (option_map result_view) held.now)) }
+{
+    if held.is_empty() {
+        Ok(rows)
+    } else {
+        each_shown(alloc, rows.as_slice(), held)
+    }
+}
+
+// A page, each object as it is shown.
+fn shown_page<'t>(
+    alloc: Global,
+    page: StatusPage<'t>,
+    held: &'t [Option<ShownResult>],
+) -> Result<StatusPage<'t>, AllocError>
+    ensures { IfOk result (λ shown. page_view shown
+        ≡ shown_page (page_view page.entry) (map (option_map result_view) held.now)) }
+{
+    let StatusPage {
+        moment,
+        objects,
+        comments,
+        downtimes,
+        closing,
+    } = page;
+    Ok(StatusPage {
+        moment,
+        objects: shown_rows(alloc, objects, held)?,
+        comments,
+        downtimes,
+        closing,
+    })
+}
+
+// The page that is kept, each object as it is shown.
+#[tactic(auto, using(crate::proofs::RowSteps::is_shown))]
+fn kept_page<'t>(alloc: Global, kept: &'t Kept<Shared>) -> Result<StatusPage<'t>, AllocError>
+    ensures { IfOk result (λ page. IsShownPage kept.now (page_view page)) }
+{
+    match kept.page.text.text.page(alloc) {
+        Ok(page) => shown_page(alloc, page, kept.page.text.held.as_slice()),
+        // Its text was read before, so memory ran out.
+        Err(_) => Err(AllocError),
+    }
+}
+
 // The page that is kept of a gateway, or the cause why there is none.
 fn page_of<'t>(
     alloc: Global,
@@ -37,11 +125,7 @@ fn page_of<'t>(
     ensures { IfOk result (IsPageOf memory.now.last memory.now.fault) }
 {
     match &memory.last {
-        Some(kept) => match kept.page.text.text.page(alloc) {
-            Ok(page) => Ok(Ok(page)),
-            // Its text was read before, so memory ran out.
-            Err(_) => Err(AllocError),
-        },
+        Some(kept) => Ok(Ok(kept_page(alloc, kept)?)),
         None => Ok(Err(cause_of(alloc, memory.fault)?)),
     }
 }

@@ -1,6 +1,7 @@
 use Rattle.std.proofs.Common.{◌∙◌, ◌∷◌, ap, map, sym}
+use Rattle.std.specs.Option.{option_map}
 use Rattle.status_reading.specs.Rows.{page_view}
-use Rattle.status_memory.specs.History.{change_view}
+use Rattle.status_memory.specs.History.{change_view, result_view, shown_rows}
 use Rattle.page_watching.specs.declared.watching.Contents.{Contents}
 use Rattle.page_watching.proofs.watching.page_in.Goals as goal
 
@@ -20,6 +21,8 @@ returns-in-Ok-clause-history c = λ before is.
         taken,
       ),
       record {
+        shown = ap (λ (contents : Contents). shown_rows page.objects (map (option_map result_view) contents.held.items)) kept
+            ∙ c.in_ok-held.ensures.held page before taken;
         since = ap (λ (contents : Contents). contents.since.items) kept ∙ c.in_ok-since.ensures.since page before taken;
         changes = ap (λ (contents : Contents). map change_view contents.changes.items) kept ∙ c.in_ok-changes.ensures ∙ taken.changes;
       },

@@ -1,9 +1,7 @@
 use Rattle.std.proofs.Common.{◌≡◌, ◌++◌, drop, map}
-use Rattle.status_memory.specs.History.{KnownView}
-use Rattle.status_memory.specs.inner.Known.{known_view}
+use Rattle.status_memory.specs.inner.Known.{known_view, since_in}
 use Rattle.status_memory.proofs.history.all_since.Given as goal
 
 abbrev pub invariant-loop-one : goal.invariant-loop-one
 invariant-loop-one l =
-    l.since.items ++ map (λ (known : KnownView). known.since) (map known_view (drop l.one-index l.known))
-    ≡ map (λ (known : KnownView). known.since) (map known_view l.known)
+    l.since.items ++ map since_in (map known_view (drop l.one-index l.known)) ≡ map since_in (map known_view l.known)

@@ -1,14 +1,15 @@
 use Rattle.std.proofs.Common.{◌≡◌, ◌-◌, length, map, drop, sym, ap, ◌∙◌, arith}
 use Rattle.std.specs.Map.{lookup}
+use Rattle.std.specs.Option.{option_map}
 use Rattle.std.proofs.lemmas.List.{drop_all}
-use Rattle.status_memory.specs.inner.Known.{same_key, known_view, standing_in}
+use Rattle.status_memory.specs.inner.Known.{same_key, known_view, lent_view, standing_in}
 use Rattle.status_memory.proofs.HistorySteps.{by_name_more}
 use Rattle.status_memory.proofs.history.by_name.Goals as goal
 
 pub loop-index-init : goal.loop-index-init
 loop-index-init c = record {
   found = λ key.
-      ap (λ entries. lookup (same_key key) entries) c.new-found.ensures.empty
+      ap (λ entries. option_map lent_view (lookup (same_key key) entries)) c.new-found.ensures.empty
       ∙ ap (λ list. standing_in (map known_view list) key.0.now key.1.now)
       (sym (drop_all (length c.args.known.now) c.args.known.now (omega arith)));
   within = omega arith;
@@ -17,7 +18,7 @@ loop-index-init c = record {
 pub loop-index-preserved : goal.loop-index-preserved
 loop-index-preserved c = record {
   found = λ key.
-      by_name_more c.args.known.now c.loop-index.index (c.loop-index.index - 1) c.index-known-index.result
+      by_name_more c.args.known.now c.loop-index.index (c.loop-index.index - 1) _
       (c.as_slice.result, c.as_slice-in-loop-index.result) key _ _
       (omega (arith, c.loop-index.invariant.within, c.loop-index-test.true)) (omega (arith, c.loop-index-test.true))
       c.index-known-index.is c.as_slice.ensures.value c.as_slice-in-loop-index.ensures.value
