@@ -1,5 +1,6 @@
 use Rattle.std.proofs.Common.{ℕ, [], false, length, ap, map, refl, ◌∙◌}
-use Rattle.status_merge.specs.Asking.{Asked}
+use Rattle.form_urlencoded.specs.Form.{raw_pairs}
+use Rattle.status_merge.specs.Asking.{Asked, asked_in}
 use Rattle.status_merge.specs.Entries.{downtime_view, downtime_lines}
 use Rattle.status_merge.specs.Selecting.{page_rows}
 use Rattle.status_view.specs.declared.view.View.{View}
@@ -40,6 +41,6 @@ returns c =
       rows = ap (map downtime_view) (c.page_rows.ensures ∙ ap (page_rows c.in_ok-query.query.page) c.as_slice.ensures.value)
           ∙ page_rows-map downtime_view c.in_ok-query.query.page c.in_ok-lines.lines.items
           ∙ ap (page_rows c.in_ok-query.query.page) lines
-          ∙ ap (λ (page : ℕ). page_rows page (downtime_lines _ gateways)) asked.page;
+          ∙ ap (λ (page : ℕ). page_rows page (downtime_lines (asked_in (raw_pairs c.args.query.now)) gateways)) asked.page;
       bytes = c.into_bytes.ensures ∙ c.in_ok-entries_page.ensures;
     }
