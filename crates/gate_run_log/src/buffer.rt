@@ -84,6 +84,8 @@ impl Buffer {
     fn take_line(&mut self) -> Result<(), Full>
         ensures ok { OnOk result (self.new.text.items ≡ self.old.text.items ++ self.old.line.items) }
         ensures err { OnErr result (self.new.text.items ≡ self.old.text.items) }
+        ensures few { length self.old.text.items ≤ 2_097_152
+            → length self.new.text.items ≤ 2_097_152 }
         ensures told { self.new.told ≡ self.old.told }
         ensures kept { self.new.kept ≡ self.old.kept }
     {

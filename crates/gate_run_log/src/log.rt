@@ -1,7 +1,7 @@
-ghost use Rattle.std.specs.Prelude.{◌≡◌, ◌++◌, List, None, length, true};
+ghost use Rattle.std.specs.Prelude.{◌≡◌, ◌≤◌, ◌++◌, List, [], None, length, true, false};
 ghost use Rattle.gate_model.specs.declared.record.Outcome.{Outcome};
 ghost use Rattle.gate_model.specs.declared.record.Record.{Record};
-ghost use Rattle.gate_run_log.specs.RunLog.{still_to_come};
+ghost use Rattle.gate_run_log.specs.RunLog.{closed_line, still_to_come};
 
 use crate::buffer::Buffer;
 use gate_environment::pause;
@@ -60,6 +60,34 @@ impl Shared {
             self.buffer.tell(records, outcomes);
         }
     }
+
+    // Puts the last line there, where all records have a line and there is room for it.
+    fn close(&mut self, records: usize, closing: Moment) -> Closing
+        ensures told { result.told ≡ self.old.buffer.told }
+        ensures closed { result.is_closed ≡ true → (records ≤ self.old.buffer.told)
+            × (self.new.buffer.text.items
+            ≡ self.old.buffer.text.items ++ closed_line closing) }
+        ensures open { result.is_closed ≡ false
+            → self.new.buffer.text.items ≡ self.old.buffer.text.items }
+    {
+        let told = self.buffer.told();
+        Closing {
+            told,
+            is_closed: records <= told && self.buffer.close(closing),
+        }
+    }
+
+    // What waits, for the room of what was written; and whether nothing comes after it.
+    fn next(&mut self, written: Vec<u8>) -> Waiting
+        ensures text { result.text.items ≡ self.old.buffer.text.items }
+        ensures last { result.is_last ≡ self.old.is_over }
+        ensures empty { self.new.buffer.text.items ≡ [] }
+    {
+        Waiting {
+            text: self.buffer.exchange(written),
+            is_last: self.is_over,
+        }
+    }
 }
 
 /// What waits to be written, and whether nothing comes after it.
@@ -103,14 +131,9 @@ impl RunLog {
         }
     }
 
-    // Puts the last line there, where all records have a line and there is room for it.
+    // The same of what the threads share.
     fn close<R: Wait>(&self, rt: &R, records: usize, closing: Moment) -> Closing {
-        let mut shared = self.shared.lock(rt);
-        let told = shared.buffer.told();
-        Closing {
-            told,
-            is_closed: records <= told && shared.buffer.close(closing),
-        }
+        self.shared.lock(rt).close(records, closing)
     }
 
     /// Puts the lines of all records there that have none, and the last line, of this moment. Where
@@ -164,10 +187,7 @@ impl RunLog {
                 .park_timeout(rt, Duration::from_millis(LOOK_MILLIS));
             shared = self.shared.lock(rt);
         }
-        Waiting {
-            text: shared.buffer.exchange(written),
-            is_last: shared.is_over,
-        }
+        shared.next(written)
     }
 }
 
