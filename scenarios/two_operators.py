@@ -16,7 +16,7 @@ START = 4000000000
 
 
 class Command:
-    """The words of a command, and the row that it makes but for its id and its moments."""
+    """The words of a command, and the row that it makes, without its id and its moments."""
 
     def __init__(self, words, row):
         self.words = words
@@ -55,7 +55,7 @@ def pairs_on(host):
 
 
 def rows_of(page):
-    """The comments and the downtime entries of a page by kind and id, but for their moments."""
+    """The comments and the downtime entries of a page by kind and id, without their moments."""
     rows = {}
     for line in page.splitlines():
         kind, *fields = line.split(";")
